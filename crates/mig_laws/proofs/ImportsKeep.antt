@@ -1,0 +1,574 @@
+-- Each row of an import keeps what a destination has of its source's bundles, where no tag is forged.
+use Rattle.std.proofs.Common.{lit≤, ◌≡◌, ◌≢◌, refl, sym, ◌∙◌, ap, subst, ℕ, ◌+◌, ◌^◌, ◌<◌, ◌≤◌, List, [], ◌∷◌, ◌++◌, length, map, Option, Some, None, Bool, true, false, ◌==◌, ◌&&◌, ◌||◌, get_or, arith}
+use Rattle.std.specs.Prelude.{slice_get}
+use Rattle.std.specs.List.{All, list_any}
+use Rattle.std.proofs.lemmas.Bool.{eqb-true, eq-eqb, and_parts, and_left, ltb-true}
+use Rattle.std.proofs.lemmas.List.{length-map}
+use Rattle.std.proofs.lemmas.List.Sums.{sum-map}
+use Rattle.td_words.specs.declared.names.PageKind.TheVariants as kind
+use Rattle.td_words.specs.declared.names.OpState.{OpState}
+use Rattle.td_words.specs.declared.names.OpState.TheVariants as op
+use Rattle.td_words.specs.declared.names.EntryState.{EntryState}
+use Rattle.td_words.specs.declared.names.EntryState.TheVariants as entry
+use Rattle.td_words.specs.declared.names.VcpuState.TheVariants as vcpu
+use Rattle.td_words.specs.declared.machines.Machine.{Machine}
+use Rattle.td_words.specs.NameNumber.{op_number}
+use Rattle.flat_core.specs.World.{World, Pages, Tds, Streams, Hidden, Image, ClearHeader, Made, put}
+use Rattle.flat_core.specs.Opening.{Opening}
+use Rattle.flat_core.specs.Row.{Passes}
+use Rattle.flat_core.specs.Conditions.{same_kind}
+use Rattle.flat_core.specs.Tree.{page_of_gpa, number_at, entry_at, state_in}
+use Rattle.flat_core.specs.Effects.{set_op, begin_memory}
+use Rattle.flat_core.specs.Sessions.{stream_page, stream_counter, bundles_so_far, count_bundle, set_mig_epoch, payload_words}
+use Rattle.flat_core.specs.Inputs.{Input, input_in, tag_holds}
+use Rattle.flat_core.specs.ImportRows.{filling_ops, begin_import, import_immutable, importable, page_to_fill, fill_page, import_page, is_start, import_token_ops, epoch_due, op_then, import_token, give_rtmrs, import_td, give_vp_state, import_vp, note_commit, commit_import, abort_import}
+use Rattle.flat_core.specs.ExportRows.{image_of}
+use Rattle.flat_core.specs.Lawful.{IsAlive, Lawful, most_vps, is_importing}
+use Rattle.flat_core.proofs.Tests.{by_test, same_self}
+use Rattle.flat_core.proofs.ImportKeeps.{td_state_importing, vp_state_importing}
+use Rattle.flat_core.proofs.Maps.{walk_passed}
+use Rattle.flat_core.proofs.Parts.{IsLive}
+use Rattle.flat_core.proofs.Ranges.{begun_of}
+use Rattle.flat_core.proofs.Streams.{page_among, stream_among}
+use Rattle.mig_laws.specs.Source.{is_page_at, known_words}
+use Rattle.mig_laws.specs.WellMade.{is_of, is_token, AreWellMade}
+use Rattle.mig_laws.specs.Imported.{is_imported, last_imported, one_more, counted_on, AreImported, IsNext, TokenFits, AreAllBefore, LatestIsLast}
+use Rattle.mig_laws.specs.Image.{Unforged, StartsFromPause, IsSource}
+use Rattle.mig_laws.specs.Imports.{is_filling, IsImporting, counts_of, given_words, IsVpGiven, HasState, IsComplete, begins_epoch, ImportHolds, DestinationHolds, KeepsDestination, ImportsKeepTheImage}
+use Rattle.mig_laws.proofs.Places.{by_places, last_none}
+use Rattle.mig_laws.proofs.Joined.{token-brings-all, not_imported}
+use Rattle.mig_laws.proofs.Latest.{imports-stay-in-order, imports-keep-last}
+use Rattle.mig_laws.proofs.Begun.{imports-begin}
+use Rattle.mig_laws.proofs.Ivs.{alive_of}
+use Rattle.mig_laws.proofs.Rows.{taken_back}
+use Rattle.mig_laws.proofs.States.{place_in, is_vp_kind}
+use Rattle.mig_laws.proofs.Counts.{counts_more, count_at, counts_zero, still_front, all_more, last_stays}
+use Rattle.mig_laws.proofs.Rest.{vp_state, ImportStays, IsAtRest, same_import, destination_rests, import_stays, Rest, rest, at_rest}
+use Rattle.mig_laws.proofs.RestRows.{apart_pages, Aside, aside, aside_stays, counted_apart, quiet}
+use Rattle.mig_laws.proofs.OneMore.{IsTaken, taken, only_kind, token_kind, no_token, other_kind, off_kind, is_created, first_op, filling_fills, td_state_fills, vp_state_fills, commit_fills, any_at, now_imported, one_more_holds, same_epoch, same_pages, start_later}
+use Rattle.mig_laws.proofs.Given.{starts_from_pause}
+
+-- an import that stands isn't UNINITIALIZED
+fills_begun : (s : OpState) → is_filling s ≡ true → s ≡ op.Uninitialized → ⊥
+fills_begun op.Uninitialized e f = cc
+fills_begun _ e f = cc
+
+-- A TD takes a bundle that is the next of stream k
+module _ (source : World) (src : IsSource source) (m : Machine) (w : World) (l : Lawful m w) (h : DestinationHolds source w) (t : ℕ) (alive : IsAlive w.pages w.tds t) (k : ℕ) (few : k < length (w.tds.streams t)) where
+  abbrev bundles : List Made
+  bundles = source.outgoing.bundles
+
+  -- what is known of all TDs, where one alone changes, and its stream's counter
+  holds_after : (v : World) (n : ℕ) → (IsImporting v t → ImportHolds bundles v t) → v.tds.ops t ≢ op.Uninitialized → v.hidden.given ≡ w.hidden.given → v.streams.counters ≡ put w.streams.counters (stream_page w t k) n
+      → ((x : ℕ) → IsAlive v.pages v.tds x → IsAlive w.pages w.tds x) → ((x : ℕ) → (x == t) ≡ false → aside v x ≡ aside w x) → ((x n : ℕ) → (x == t) ≡ false → v.hidden.memories x n ≡ w.hidden.memories x n)
+      → ((x : ℕ) → (x == t) ≡ false → IsAlive w.pages w.tds x → (q : ℕ) → list_any (λ p. p == q) (w.tds.vps x) ≡ true → vp_state v q ≡ vp_state w q) → DestinationHolds source v
+  holds_after v n own begun given counters back same memories vp = record {
+    imports = λ x a. by_test (x == t)
+        (λ y. subst (λ (z : ℕ). ImportHolds bundles v z) (sym (eqb-true x t y)) (own (subst (λ (z : ℕ). IsImporting v z) (eqb-true x t y) a)))
+        (λ y. (let other = back x a.alive in
+        let counts : counts_of v x ≡ counts_of w x = ap (λ (z : Aside). map v.streams.counters z.fill.streams) (same x y)
+        ∙ (ap (λ (f : ℕ → ℕ). map f (w.tds.streams x)) counters ∙ counted_apart w l.tds.streams t x alive other y k n few) in
+        let stays = aside_stays w v x a other (same x y) (λ i. memories x i y) counts (vp x y other) in
+        import_stays bundles w v x stays (h.imports x stays.importing)));
+    empty = λ x a e i. by_test (x == t)
+        (λ y. absurd (begun (subst (λ (z : ℕ). v.tds.ops z ≡ op.Uninitialized) (eqb-true x t y) e)))
+        (λ y. memories x i y ∙ h.empty x (back x a) (ap (λ (z : Aside). z.state) (sym (same x y)) ∙ e) i);
+    given = λ s start e. h.given s start (ap (λ (f : ℕ → Option Image). f s) (sym given) ∙ e);
+  }
+
+  module _ (x : Input) (tk : IsTaken bundles x) (forward : (x.header.kind == 6) ≡ false) (on : counted_on tk.bundle ≡ k) (due : x.header.counter ≡ stream_counter w t k) where
+    abbrev b : Made
+    b = tk.bundle
+
+    abbrev list : List Made
+    list = tk.before ++ tk.bundle ∷ tk.after
+
+    made : AreWellMade list
+    made = subst AreWellMade tk.place src.made
+
+    own_of : (s : ℕ) → x.header.session ≡ s → is_of s b ≡ true
+    own_of s e =
+        let six : (b.header.kind == 6) ≡ false = ap (λ (z : ClearHeader). z.kind == 6) tk.same ∙ forward in
+        let same : (b.header.session == s) ≡ true = eq-eqb b.header.session s (ap (λ (z : ClearHeader). z.session) tk.same ∙ e) in
+        rw (six, same) refl
+
+    next_in : (s : ℕ) → x.header.session ≡ s → IsNext s (counts_of w t) b
+    next_in s e = record {
+      of_session = own_of s e;
+      stream = subst (λ (z : ℕ). z < length (counts_of w t)) (sym on) (let same = length-map (w.tds.streams t) w.streams.counters in omega (arith, few, same));
+      counter = ap (λ (z : ClearHeader). z.counter) tk.same ∙ (due ∙ (sym (count_at w.streams.counters (w.tds.streams t) k few) ∙ ap (λ (z : ℕ). get_or (counts_of w t) z 0) (sym on)));
+    }
+
+    counts_next : map (put w.streams.counters (stream_page w t k) (stream_counter w t k + 1)) (w.tds.streams t) ≡ one_more (counted_on b) (counts_of w t)
+    counts_next = counts_more w.streams.counters (w.tds.streams t) k few (l.tds.streams_differ t) ∙ ap (λ (z : ℕ). one_more z (counts_of w t)) (sym on)
+
+    -- IMPORT.STATE.IMMUTABLE: nothing was imported yet
+    module _ (zero : x.header.kind ≡ 0) (first : x.header.epoch ≡ 1) (new : w.tds.ops t ≡ op.Uninitialized) where
+      abbrev s : ℕ
+      s = x.header.session
+
+      abbrev begun : World
+      begun = count_bundle t k (begin_import t x w)
+
+      kind_is : b.header.kind ≡ 0
+      kind_is = ap (λ (z : ClearHeader). z.kind) tk.same ∙ zero
+
+      zeros : (i : ℕ) → get_or (counts_of w t) i 0 ≡ 0
+      zeros = counts_zero w.streams.counters (w.tds.streams t) (λ q e. l.streams.uncounted t q alive new e)
+
+      none_yet : (y : Made) → is_imported s (counts_of w t) y ≡ false
+      none_yet y = not_imported s (counts_of w t) y (λ e. let none = zeros y.header.stream in omega (arith, none))
+
+      next : IsNext s (counts_of w t) b
+      next = next_in s refl
+
+      own_state : HasState begun t b
+      own_state = record { td = λ e. absurd (other_kind b.header.kind 0 1 kind_is refl e); vp = λ e. absurd (other_kind b.header.kind 0 2 kind_is refl e) }
+
+      no_pages : (n : ℕ) → known_words begun t n ≡ given_words (last_imported s (one_more (counted_on b) (counts_of w t)) n list)
+      no_pages n =
+          let empty = h.empty t alive new n in
+          let none : last_imported s (counts_of w t) n list ≡ None = last_none (λ y. is_imported s (counts_of w t) y && is_page_at s n y) list
+          (by_places (λ y. (is_imported s (counts_of w t) y && is_page_at s n y) ≡ false) list (λ front back y is. and_left (is_imported s (counts_of w t) y) _ (none_yet y))) in
+          let known : known_words begun t n ≡ None = rw empty refl in
+          let page : is_page_at s n b ≡ false = and_left (b.header.kind == 3) _ (off_kind b.header.kind 3 (other_kind b.header.kind 0 3 kind_is refl)) in
+          known ∙ ap given_words (sym (last_stays s (counts_of w t) 0 tk.before tk.after b made next n page ∙ none))
+
+      holds_here : (session : ℕ) (mig : ℕ) → session ≡ s → mig ≡ 1 → begun.tds.sessions t ≡ session → begun.tds.mig_epochs t ≡ mig → ImportHolds list begun t
+      holds_here session mig is one at_session at_epoch =
+          let self = same_self t in
+          let counts : counts_of begun t ≡ one_more (counted_on b) (counts_of w t) = counts_next in
+          let now : (P : ℕ → List ℕ → Type 0) → P s (one_more (counted_on b) (counts_of w t)) → P (begun.tds.sessions t) (counts_of begun t)
+          = λ P p. subst (λ (z : ℕ). P z (counts_of begun t)) (sym (at_session ∙ is)) (subst (λ (c : List ℕ). P s c) (sym counts) p) in
+          let epoch : begun.tds.mig_epochs t ≡ 1 = at_epoch ∙ one in
+          let b_epoch : b.header.epoch ≡ 1 = ap (λ (z : ClearHeader). z.epoch) tk.same ∙ first in
+          record {
+            have = now (λ z c. AreImported z c (begun.tds.mig_epochs t) list)
+                (imports-stay-in-order s (counts_of w t) 1 (begun.tds.mig_epochs t) tk.before tk.after b made (imports-begin s (counts_of w t) 1 list zeros) next (omega (arith, epoch)) (omega (arith, epoch, b_epoch)));
+            tracked = λ later. absurd (later epoch);
+            pages = λ n. now (λ z c. known_words begun t n ≡ given_words (last_imported z c n list)) (no_pages n);
+            begun = record {
+              before = tk.before;
+              after = tk.after;
+              first = b;
+              place = refl;
+              of_session = subst (λ (z : ℕ). is_of z b ≡ true) (sym (at_session ∙ is)) (own_of s refl);
+              kind = kind_is;
+              mrtd = rw self tk.words;
+              expected = rw self (ap (λ (z : ClearHeader). z.info) (sym tk.same));
+            };
+            states = now (λ z c. All (λ y. is_imported z c y ≡ true → HasState begun t y) list)
+                (all_more s (counts_of w t) 0 tk.before tk.after b made next (HasState begun t) (HasState begun t) (λ y o. o) own_state
+                (by_places (λ y. is_imported s (counts_of w t) y ≡ true → HasState begun t y) list (λ front back y is e. absurd (let no : true ≡ false = sym e ∙ none_yet y in cc))));
+            few = (let none : length (w.tds.vps t) ≤ 0 = subst (λ (z : OpState). length (w.tds.vps t) ≤ most_vps z (w.tds.vps_expected t)) new (l.sessions.vps t) in omega (arith, none));
+            complete = λ e. absurd (let no : op.MemoryImport ≡ op.PostImport = rw self at e in cc);
+          }
+
+      pub immutable_holds : DestinationHolds source begun
+      immutable_holds =
+          let self = same_self t in
+          holds_after begun (stream_counter w t k + 1) (λ a. subst (λ (z : List Made). ImportHolds z begun t) (sym tk.place) (holds_here s 1 refl refl (rw self refl) (rw self refl)))
+          (λ e. let no : op.MemoryImport ≡ op.Uninitialized = rw self at e in cc) refl refl (λ y a. record { kind = a.kind; life = a.life }) (λ y z. rw z refl) (λ y i z. refl) (λ y z a q e. refl)
+
+    -- the rows of an import that has begun
+    module _ (filling : is_filling (w.tds.ops t) ≡ true) (same_session : x.header.session ≡ w.tds.sessions t) where
+      abbrev session : ℕ
+      session = w.tds.sessions t
+
+      abbrev was : List ℕ
+      was = counts_of w t
+
+      abbrev now : List ℕ
+      now = one_more (counted_on b) (counts_of w t)
+
+      held : ImportHolds list w t
+      held = subst (λ (z : List Made). ImportHolds z w t) tk.place (h.imports t (record { alive = alive; standing = filling }))
+
+      nexts : IsNext session was b
+      nexts = next_in session same_session
+
+      back_here : (v : World) → ImportHolds list v t → ImportHolds bundles v t
+      back_here v = subst (λ (z : List Made). ImportHolds z v t) (sym tk.place)
+
+      b_kind : b.header.kind ≡ x.header.kind
+      b_kind = ap (λ (z : ClearHeader). z.kind) tk.same
+
+      -- IMPORT.MEM
+      module _ (open_still : w.tds.ops t ≢ op.PostImport) (page_kind : x.header.kind ≡ 3) (same_epochs : x.header.epoch ≡ w.tds.mig_epochs t) where
+        abbrev g : ℕ
+        g = page_of_gpa x.header.gpa
+
+        abbrev filled_in : World
+        filled_in = count_bundle t k (begin_memory t g x.words w)
+
+        kind_three : b.header.kind ≡ 3
+        kind_three = b_kind ∙ page_kind
+
+        b_now : b.header.epoch ≡ w.tds.mig_epochs t
+        b_now = ap (λ (z : ClearHeader). z.epoch) tk.same ∙ same_epochs
+
+        latest : LatestIsLast session was list b
+        latest = imports-keep-last session was (w.tds.mig_epochs t) tk.before tk.after b made held.have (record { next = nexts; page = kind_three; now = b_now })
+
+        b_page : page_of_gpa b.header.gpa ≡ g
+        b_page = ap (λ (z : ClearHeader). page_of_gpa z.gpa) tk.same
+
+        pages_now : (n : ℕ) → known_words filled_in t n ≡ given_words (last_imported session now n list)
+        pages_now n = by_test (n == g)
+            (λ y. (let self = same_self t in
+            let own : last_imported session now n list ≡ Some b.payload = subst (λ (z : ℕ). last_imported session now z list ≡ Some b.payload) (b_page ∙ sym (eqb-true n g y)) latest.own in
+            let known : known_words filled_in t n ≡ Some (payload_words x.words 512) = rw (self, y) refl in
+            known ∙ (ap (λ (f : ℕ → ℕ). Some (payload_words f 512)) tk.words ∙ ap given_words (sym own))))
+            (λ y. (let off : (page_of_gpa b.header.gpa == n) ≡ false = by_test (page_of_gpa b.header.gpa == n)
+            (λ z. absurd (let same : n ≡ g = sym (eqb-true _ n z) ∙ b_page in let no : true ≡ false = sym (eq-eqb n g same) ∙ y in cc))
+            (λ z. z) in
+            let known : known_words filled_in t n ≡ known_words w t n = rw (y, and_no (t == t)) refl in
+            known ∙ (held.pages n ∙ ap given_words (sym (latest.others n off)))))
+          where
+            and_no : (a : Bool) → (a && false) ≡ false
+            and_no true = refl
+            and_no false = refl
+
+        pub page_holds : DestinationHolds source filled_in
+        page_holds = holds_after filled_in (stream_counter w t k + 1)
+            (λ a. back_here filled_in (one_more_holds tk.before tk.after b made w filled_in t nexts refl counts_next held (record {
+              later = omega arith;
+              in_time = (let same = b_now in omega (arith, same));
+              epoch = same_epoch tk.before tk.after b made w filled_in t nexts refl counts_next held refl;
+              pages = pages_now;
+              mrtd = refl;
+              expected = refl;
+              vps = refl;
+              still = λ y o. record { td = o.td; vp = λ e. (let v = o.vp e in record { vp = v.vp; place = v.place; ready = v.ready; registers = v.registers; position = v.position }) };
+              own = record { td = λ e. absurd (other_kind b.header.kind 3 1 kind_three refl e); vp = λ e. absurd (other_kind b.header.kind 3 2 kind_three refl e) };
+              complete = λ e. absurd (open_still e);
+            })))
+            (λ e. fills_begun (w.tds.ops t) filling e) refl refl (λ y a. record { kind = a.kind; life = a.life }) (λ y z. refl) (λ y i z. rw z refl) (λ y z a q e. refl)
+
+      -- where a bundle other than a page comes in: IMPORT.STATE.TD
+      module _ (td_kind : x.header.kind ≡ 1) (same_epochs : x.header.epoch ≡ w.tds.mig_epochs t) (memory : w.tds.ops t ≡ op.MemoryImport) where
+        abbrev with_td : World
+        with_td = count_bundle t k (set_op t op.StateImport (give_rtmrs t x.words w))
+
+        kind_one : b.header.kind ≡ 1
+        kind_one = b_kind ∙ td_kind
+
+        td_epoch : b.header.epoch ≡ w.tds.mig_epochs t
+        td_epoch = ap (λ (z : ClearHeader). z.epoch) tk.same ∙ same_epochs
+
+        pub td_holds : DestinationHolds source with_td
+        td_holds =
+            let self = same_self t in
+            holds_after with_td (stream_counter w t k + 1)
+            (λ a. back_here with_td (one_more_holds tk.before tk.after b made w with_td t nexts refl counts_next held (record {
+              later = omega arith;
+              in_time = (let same = td_epoch in omega (arith, same));
+              epoch = same_epoch tk.before tk.after b made w with_td t nexts refl counts_next held refl;
+              pages = same_pages tk.before tk.after b made w with_td t nexts refl counts_next held (off_kind b.header.kind 3 (other_kind b.header.kind 1 3 kind_one refl)) (λ n. refl);
+              mrtd = refl;
+              expected = refl;
+              vps = refl;
+              still = λ y o. record { td = λ e. absurd ((o.td e).0 memory); vp = λ e. (let v = o.vp e in record { vp = v.vp; place = v.place; ready = v.ready; registers = v.registers; position = v.position }) };
+              own = record { td = λ e. (λ n. (let no : op.StateImport ≡ op.MemoryImport = rw self at n in cc), rw self tk.words); vp = λ e. absurd (other_kind b.header.kind 1 2 kind_one refl e) };
+              complete = λ e. absurd (let no : op.StateImport ≡ op.PostImport = rw self at e in cc);
+            })))
+            (λ e. let no : op.StateImport ≡ op.Uninitialized = rw self at e in cc) refl refl (λ y a. record { kind = a.kind; life = a.life }) (λ y z. rw z refl) (λ y i z. refl) (λ y z a q e. refl)
+
+      -- IMPORT.STATE.VP
+      module _ (p : ℕ) (vp_kind : x.header.kind ≡ 2) (same_epochs : x.header.epoch ≡ w.tds.mig_epochs t) (state : w.tds.ops t ≡ op.StateImport) (page : same_kind (w.pages.kinds p) kind.Tdvpr ≡ true) (owner : w.pages.owners p ≡ t)
+          (created : w.vps.states p ≡ vcpu.Created) (index : x.header.index ≡ w.vps.indexes p) where
+        abbrev with_vp : World
+        with_vp = count_bundle t k (give_vp_state p x.header.info x.words w)
+
+        kind_two : b.header.kind ≡ 2
+        kind_two = b_kind ∙ vp_kind
+
+        vp_epoch : b.header.epoch ≡ w.tds.mig_epochs t
+        vp_epoch = ap (λ (z : ClearHeader). z.epoch) tk.same ∙ same_epochs
+
+        among : list_any (λ q. q == p) (w.tds.vps t) ≡ true
+        among = subst (λ (z : ℕ). list_any (λ q. q == p) (w.tds.vps z) ≡ true) owner (l.lists.vp p (is_vp_kind (w.pages.kinds p) page) (subst (λ (z : ℕ). IsAlive w.pages w.tds z) (sym owner) alive))
+
+        at_index : slice_get (w.tds.vps t) b.header.index ≡ Some p
+        at_index =
+            let place = place_in (w.tds.vps t) p among in
+            let is : w.vps.indexes p ≡ place.0 = l.lists.index t place.0 p alive place.1 in
+            ap (slice_get (w.tds.vps t)) (ap (λ (z : ClearHeader). z.index) tk.same ∙ (index ∙ is)) ∙ place.1
+
+        -- a virtual processor that is READY is another one
+        other_vp : (q : ℕ) → w.vps.states q ≡ vcpu.Ready → (q == p) ≡ false
+        other_vp q ready = by_test (q == p)
+            (λ y. absurd (let no : vcpu.Ready ≡ vcpu.Created = sym ready ∙ (ap w.vps.states (eqb-true q p y) ∙ created) in cc))
+            (λ y. y)
+
+        vp_still : (y : Made) → IsVpGiven w t y → IsVpGiven with_vp t y
+        vp_still y v =
+            let off = other_vp v.vp v.ready in
+            record { vp = v.vp; place = v.place; ready = rw off v.ready; registers = rw off v.registers; position = rw off v.position }
+
+        vp_given : IsVpGiven with_vp t b
+        vp_given =
+            let self = same_self p in
+            record { vp = p; place = at_index; ready = rw self refl; registers = rw self tk.words; position = rw self (ap (λ (z : ClearHeader). z.info) (sym tk.same)) }
+
+        pub vp_holds : DestinationHolds source with_vp
+        vp_holds = holds_after with_vp (stream_counter w t k + 1)
+            (λ a. back_here with_vp (one_more_holds tk.before tk.after b made w with_vp t nexts refl counts_next held (record {
+              later = omega arith;
+              in_time = (let same = vp_epoch in omega (arith, same));
+              epoch = same_epoch tk.before tk.after b made w with_vp t nexts refl counts_next held refl;
+              pages = same_pages tk.before tk.after b made w with_vp t nexts refl counts_next held (off_kind b.header.kind 3 (other_kind b.header.kind 2 3 kind_two refl)) (λ n. refl);
+              mrtd = refl;
+              expected = refl;
+              vps = refl;
+              still = λ y o. record { td = o.td; vp = λ e. vp_still y (o.vp e) };
+              own = record { td = λ e. absurd (other_kind b.header.kind 2 1 kind_two refl e); vp = λ e. vp_given };
+              complete = λ e. absurd (let no : op.StateImport ≡ op.PostImport = sym state ∙ e in cc);
+            })))
+            (λ e. fills_begun (w.tds.ops t) filling e) refl refl (λ y a. record { kind = a.kind; life = a.life }) (λ y z. refl) (λ y i z. refl)
+            (λ y z a q e. (let off = apart_pages w t y p q owner (page_among w.pages y kind.Tdvpr (w.tds.vps y) q (l.tds.vps y a) e).owner z in rw off refl))
+
+      -- IMPORT.TRACK
+      module _ (st : OpState) (token : is_token b ≡ true) (later : w.tds.mig_epochs t < x.header.epoch) (begun_still : st ≢ op.Uninitialized) (beyond : w.tds.ops t ≢ op.MemoryImport → st ≢ op.MemoryImport)
+          (starts : st ≡ op.PostImport → x.header.kind ≡ 5) (total : x.header.total ≡ bundles_so_far w t) where
+        abbrev with_token : World
+        with_token = count_bundle t k (set_op t st (set_mig_epoch t x.header.epoch w))
+
+        b_epoch : b.header.epoch ≡ x.header.epoch
+        b_epoch = ap (λ (z : ClearHeader). z.epoch) tk.same
+
+        fits : TokenFits session was (w.tds.mig_epochs t) b
+        fits = record {
+          next = nexts;
+          token = token;
+          later = (let same = b_epoch in omega (arith, same, later));
+          total = ap (λ (z : ClearHeader). z.total) tk.same ∙ (total ∙ sym (sum-map w.streams.counters (w.tds.streams t)));
+        }
+
+        all_come : AreAllBefore session was tk.before (b ∷ tk.after)
+        all_come = token-brings-all session was (w.tds.mig_epochs t) tk.before tk.after b made held.have fits
+
+        no_page : (b.header.kind == 3) ≡ false
+        no_page = off_kind b.header.kind 3 (no_token b.header.kind 3 refl token)
+
+        complete_now : x.header.kind ≡ 5 → IsComplete session now list
+        complete_now five = record {
+          before = tk.before;
+          after = tk.after;
+          token = b;
+          place = refl;
+          start = (let kind : (b.header.kind == 5) ≡ true = eq-eqb b.header.kind 5 (b_kind ∙ five) in
+              let same : (b.header.session == session) ≡ true = eq-eqb b.header.session session (ap (λ (z : ClearHeader). z.session) tk.same ∙ same_session) in rw (kind, same) refl);
+          imported = still_front session was 0 tk.before tk.after b made nexts all_come.imported;
+          pages = λ n. last_stays session was 0 tk.before tk.after b made nexts n (and_left (b.header.kind == 3) _ no_page) ∙ all_come.pages n;
+        }
+
+        begins_now : (e : ℕ) → e ≡ x.header.epoch → list_any (begins_epoch session now e) list ≡ true
+        begins_now e is = any_at (begins_epoch session now e) tk.before tk.after b
+            (let taken_now = now_imported tk.before tk.after b made w with_token t nexts refl counts_next in let same : (b.header.epoch == e) ≡ true = eq-eqb b.header.epoch e (b_epoch ∙ sym is) in rw (taken_now, token, same) refl)
+
+        pub token_holds : DestinationHolds source with_token
+        token_holds =
+            let self = same_self t in
+            let epoch_is : with_token.tds.mig_epochs t ≡ x.header.epoch = rw self refl in
+            holds_after with_token (stream_counter w t k + 1)
+            (λ a. back_here with_token (one_more_holds tk.before tk.after b made w with_token t nexts refl counts_next held (record {
+              later = omega (arith, epoch_is, later);
+              in_time = (let same = b_epoch in omega (arith, epoch_is, same));
+              epoch = λ first. begins_now (with_token.tds.mig_epochs t) epoch_is;
+              pages = same_pages tk.before tk.after b made w with_token t nexts refl counts_next held no_page (λ n. refl);
+              mrtd = refl;
+              expected = refl;
+              vps = refl;
+              still = λ y o. record { td = λ e. (λ n. beyond (o.td e).0 (rw self at n), (o.td e).1); vp = λ e. (let v = o.vp e in record { vp = v.vp; place = v.place; ready = v.ready; registers = v.registers; position = v.position }) };
+              own = record { td = λ e. absurd (no_token b.header.kind 1 refl token e); vp = λ e. absurd (no_token b.header.kind 2 refl token e) };
+              complete = λ e. complete_now (starts (rw self at e));
+            })))
+            (λ e. begun_still (rw self at e)) refl refl (λ y a. record { kind = a.kind; life = a.life }) (λ y z. rw z refl) (λ y i z. refl) (λ y z a q e. refl)
+
+-- the page of IMPORT.MEM is taken, or is there already
+page_rests : (w : World) (t k gpa page : ℕ) (ws : ℕ → ℕ) (s : EntryState) → IsAtRest (count_bundle t k (begin_memory t (page_of_gpa gpa) ws w)) (count_bundle t k (begin_memory t (page_of_gpa gpa) ws (fill_page t gpa page ws s w)))
+page_rests w t k gpa page ws entry.Free =
+    let v : World = count_bundle t k (begin_memory t (page_of_gpa gpa) ws (fill_page t gpa page ws entry.Free w)) in
+    at_rest (count_bundle t k (begin_memory t (page_of_gpa gpa) ws w)) v refl
+    (λ x a. let was = taken_back w page kind.Reg t 0 (number_at 0 gpa) (λ e. cc) v.tds refl x (record { kind = a.kind; life = a.life }) in record { kind = was.kind; life = was.life })
+page_rests w t k gpa page ws _ = at_rest (count_bundle t k (begin_memory t (page_of_gpa gpa) ws w)) _ refl (λ x a. record { kind = a.kind; life = a.life })
+
+fill_tag : (w : World) (t gpa page : ℕ) (x : Input) (s : EntryState) → Passes (page_to_fill w t gpa page s ++ tag_holds x ∷ []) → x.tag_right ≡ true
+fill_tag w t gpa page x entry.Free ps = ps.1.0
+fill_tag w t gpa page x _ ps = ps.0
+
+-- what a token asks of the op state and the migration epoch
+start_is : (h : ClearHeader) → is_start h ≡ true → h.kind ≡ 5
+start_is h e = eqb-true h.kind 5 e
+
+token_op : (b : Bool) (s : OpState) → list_any (λ a. op_number a == op_number s) (import_token_ops b) ≡ true
+    → (is_filling s ≡ true) × (op_then b s ≢ op.Uninitialized) × (s ≢ op.MemoryImport → op_then b s ≢ op.MemoryImport) × (op_then b s ≡ op.PostImport → b ≡ true)
+token_op true s h = ((vp_state_fills s h).0, λ e. cc, λ n e. cc, λ e. refl)
+token_op false s h = ((filling_fills s h).0, begun_of filling_ops s refl h, λ n. n, λ e. absurd ((filling_fills s h).1 e))
+
+module _ (source : World) (o : Opening) (src : IsSource source) (unforged : Unforged o source.outgoing.bundles) where
+  abbrev made_there : List Made
+  made_there = source.outgoing.bundles
+
+  known_kind : (n m : ℕ) → n ≡ m → (m == 6) ≡ false → (n == 6) ≡ false
+  known_kind n m is off = ap (λ (z : ℕ). z == 6) is ∙ off
+
+  on_first : (x : Input) (tk : IsTaken made_there x) → (x.header.kind == 3) ≡ false → counted_on tk.bundle ≡ 0
+  on_first x tk off = let kind : (tk.bundle.header.kind == 3) ≡ false = ap (λ (z : ClearHeader). z.kind == 3) tk.same ∙ off in rw kind refl
+
+  pub keeps_immutable : (t slot : ℕ) → KeepsDestination source o (import_immutable o.machine (o.bundles slot) t slot)
+  keeps_immutable t slot w l h ps =
+      let x : Input = input_in (o.bundles slot) in
+      let head = ps.1.1.1.1 in
+      let zero = only_kind 0 x.header.kind ps.1.1.1.0 in
+      let six = known_kind x.header.kind 0 zero refl in
+      let tk = taken o made_there unforged slot ps.1.1.0 head.1.1.1.1.1.1.1.1.0 six in
+      let alive = alive_of w t head.0 head.1.0 in
+      let few : 0 < length (w.tds.streams t) = ltb-true _ _ head.1.1.1.1.0 in
+      let new = first_op (w.tds.ops t) head.1.1.1.0 in
+      let none : stream_counter w t 0 ≡ 0 = l.streams.uncounted t (stream_page w t 0) alive new (stream_among (w.tds.streams t) 0 few) in
+      let due : x.header.counter ≡ stream_counter w t 0 = eqb-true x.header.counter 0 (and_parts (x.header.counter == 0) _ head.1.1.1.1.1.1.1.0).0 ∙ sym none in
+      immutable_holds source src o.machine w l h t alive 0 few x tk six (on_first x tk (ap (λ (z : ℕ). z == 3) zero)) due zero (eqb-true x.header.epoch 1 head.1.1.1.1.1.1.0) new
+
+  pub keeps_page : (t slot page : ℕ) → KeepsDestination source o (import_page o.machine (o.bundles slot) t slot page)
+  keeps_page t slot page w l h ps =
+      let x : Input = input_in (o.bundles slot) in
+      let gpa : ℕ = x.header.gpa in
+      let s : EntryState = (entry_at w t 0 gpa).state in
+      let head = ps.1.1.1.1.1.1 in
+      let behind = walk_passed w t gpa (state_in w t gpa 0 importable ∷ (page_to_fill w t gpa page s ++ tag_holds x ∷ [])) 0 (lit≤ tt) head.1.1.1.1.1.1.1.1 in
+      let three = only_kind 3 x.header.kind ps.1.1.1.1.1.0 in
+      let six = known_kind x.header.kind 3 three refl in
+      let tk = taken o made_there unforged slot ps.1.1.1.1.0 (fill_tag w t gpa page x s behind.0.1) six in
+      let alive = alive_of w t head.0 head.1.0 in
+      let ops = filling_fills (w.tds.ops t) head.1.1.1.0 in
+      let few : x.header.stream < length (w.tds.streams t) = ltb-true _ _ head.1.1.1.1.0 in
+      let due : x.header.counter ≡ stream_counter w t x.header.stream = eqb-true _ _ (and_parts (x.header.counter == stream_counter w t x.header.stream) _ head.1.1.1.1.1.1.1.0).0 in
+      let on : counted_on tk.bundle ≡ x.header.stream = (let kind : (tk.bundle.header.kind == 3) ≡ true = ap (λ (z : ClearHeader). z.kind == 3) tk.same ∙ eq-eqb x.header.kind 3 three in rw kind (ap (λ (z : ClearHeader). z.stream) tk.same)) in
+      destination_rests source (count_bundle t x.header.stream (begin_memory t (page_of_gpa gpa) x.words w)) _ (page_rests w t x.header.stream gpa page x.words s)
+      (page_holds source src o.machine w l h t alive x.header.stream few x tk six on due ops.0 (eqb-true _ _ head.1.1.1.1.1.0) ops.1 three (eqb-true _ _ head.1.1.1.1.1.1.0))
+
+  pub keeps_td : (t slot : ℕ) → KeepsDestination source o (import_td o.machine (o.bundles slot) t slot)
+  keeps_td t slot w l h ps =
+      let x : Input = input_in (o.bundles slot) in
+      let head = ps.1.1.1.1 in
+      let one = only_kind 1 x.header.kind ps.1.1.1.0 in
+      let six = known_kind x.header.kind 1 one refl in
+      let tk = taken o made_there unforged slot ps.1.1.0 head.1.1.1.1.1.1.1.0 six in
+      let alive = alive_of w t head.0 head.1.0 in
+      let ops = td_state_fills (w.tds.ops t) head.1.1.1.0 in
+      let few : 0 < length (w.tds.streams t) = l.sessions.import_stream t (td_state_importing (w.tds.ops t) head.1.1.1.0) in
+      let due : x.header.counter ≡ stream_counter w t 0 = eqb-true _ _ (and_parts (x.header.counter == stream_counter w t 0) _ head.1.1.1.1.1.1.0).0 in
+      td_holds source src o.machine w l h t alive 0 few x tk six (on_first x tk (ap (λ (z : ℕ). z == 3) one)) due ops.0 (eqb-true _ _ head.1.1.1.1.0) one (eqb-true _ _ head.1.1.1.1.1.0) ops.1
+
+  pub keeps_vp : (t p slot : ℕ) → KeepsDestination source o (import_vp o.machine (o.bundles slot) t p slot)
+  keeps_vp t p slot w l h ps =
+      let x : Input = input_in (o.bundles slot) in
+      let head = ps.1.1.1.1.1.1 in
+      let two = only_kind 2 x.header.kind ps.1.1.1.1.1.0 in
+      let six = known_kind x.header.kind 2 two refl in
+      let tk = taken o made_there unforged slot ps.1.1.1.1.0 head.1.1.1.1.1.1.1.1.1.1.0 six in
+      let alive = alive_of w t head.0 head.1.0 in
+      let ops = vp_state_fills (w.tds.ops t) head.1.1.1.0 in
+      let its = and_parts (same_kind (w.pages.kinds p) kind.Tdvpr) (w.pages.owners p == t) head.1.1.1.1.0 in
+      let few : 0 < length (w.tds.streams t) = l.sessions.import_stream t (vp_state_importing (w.tds.ops t) head.1.1.1.0) in
+      let due : x.header.counter ≡ stream_counter w t 0 = eqb-true _ _ (and_parts (x.header.counter == stream_counter w t 0) _ head.1.1.1.1.1.1.1.1.1.0).0 in
+      vp_holds source src o.machine w l h t alive 0 few x tk six (on_first x tk (ap (λ (z : ℕ). z == 3) two)) due ops.0 (eqb-true _ _ head.1.1.1.1.1.1.0) p two (eqb-true _ _ head.1.1.1.1.1.1.1.0) ops.1
+      its.0 (eqb-true _ _ its.1) (is_created (w.vps.states p) head.1.1.1.1.1.0) (eqb-true _ _ head.1.1.1.1.1.1.1.1.0)
+
+  -- the start token is of a later migration epoch than the TD is in
+  token_later : (b : Bool) (own epoch : ℕ) → epoch ≡ epoch_due b own → own < 2 ^ 32 → (b ≡ true → own ≤ epoch → own < epoch) → own < epoch
+  token_later true own epoch is small start = start refl (omega (arith, is, small))
+  token_later false own epoch is small start = omega (arith, is)
+
+  pub keeps_token : (t slot : ℕ) → KeepsDestination source o (import_token o.machine (o.bundles slot) t slot)
+  keeps_token t slot w l h ps =
+      let x : Input = input_in (o.bundles slot) in
+      let head = ps.1.1.1.1 in
+      let token = token_kind x.header.kind ps.1.1.1.0 in
+      let six : (x.header.kind == 6) ≡ false = off_kind x.header.kind 6 (no_token x.header.kind 6 refl token) in
+      let three : (x.header.kind == 3) ≡ false = off_kind x.header.kind 3 (no_token x.header.kind 3 refl token) in
+      let tk = taken o made_there unforged slot ps.1.1.0 head.1.1.1.1.1.1.1.0 six in
+      let alive = alive_of w t head.0 head.1.0 in
+      let st : OpState = op_then (is_start x.header) (w.tds.ops t) in
+      let ops = token_op (is_start x.header) (w.tds.ops t) head.1.1.1.0 in
+      let few : 0 < length (w.tds.streams t) = l.sessions.import_stream t (fills_importing (w.tds.ops t) ops.0) in
+      let due : x.header.counter ≡ stream_counter w t 0 = eqb-true _ _ (and_parts (x.header.counter == stream_counter w t 0) _ head.1.1.1.1.1.1.0).0 in
+      let on = on_first x tk three in
+      let same_session = eqb-true x.header.session (w.tds.sessions t) head.1.1.1.1.0 in
+      let b_token : is_token tk.bundle ≡ true = ap (λ (z : ClearHeader). z.kind == 4 || z.kind == 5) tk.same ∙ token in
+      let epoch = eqb-true x.header.epoch (epoch_due (is_start x.header) (w.tds.mig_epochs t)) head.1.1.1.1.1.0 in
+      let b_epoch : tk.bundle.header.epoch ≡ x.header.epoch = ap (λ (z : ClearHeader). z.epoch) tk.same in
+      let have = held source src o.machine w l h t alive 0 few x tk six on due ops.0 same_session in
+      let next = nexts source src o.machine w l h t alive 0 few x tk six on due ops.0 same_session in
+      let later = token_later (is_start x.header) (w.tds.mig_epochs t) x.header.epoch epoch (l.sessions.mig_epoch t)
+      (λ e le. let five : tk.bundle.header.kind ≡ 5 = ap (λ (z : ClearHeader). z.kind) tk.same ∙ start_is x.header e in
+      let high : 1 < tk.bundle.header.epoch = start_high (is_start x.header) (w.tds.mig_epochs t) x.header.epoch tk.bundle.header.epoch e epoch b_epoch in
+      let less = start_later tk.before tk.after tk.bundle (made source src o.machine w l h t alive 0 few x tk six on due) w t have next five high (omega (arith, le, b_epoch)) in omega (arith, less, b_epoch)) in
+      token_holds source src o.machine w l h t alive 0 few x tk six on due ops.0 same_session st b_token later ops.1 ops.2 (λ e. start_is x.header (ops.3 e)) (sym (eqb-true _ _ head.1.1.1.1.1.1.1.1.0))
+    where
+      fills_importing : (s : OpState) → is_filling s ≡ true → is_importing s ≡ true
+      fills_importing op.MemoryImport e = refl
+      fills_importing op.StateImport e = refl
+      fills_importing op.PostImport e = refl
+      fills_importing _ e = cc
+
+      start_high : (b : Bool) (own epoch made_epoch : ℕ) → b ≡ true → epoch ≡ epoch_due b own → made_epoch ≡ epoch → 1 < made_epoch
+      start_high true own epoch made_epoch e is same = omega (arith, is, same)
+      start_high false own epoch made_epoch e is same = cc
+
+  -- IMPORT.COMMIT
+  pub keeps_commit : (t : ℕ) → KeepsDestination source o (commit_import o.machine t)
+  keeps_commit t w l h ps =
+      let self = same_self t in
+      let alive = alive_of w t ps.1.0 ps.1.1.0 in
+      let ops = commit_fills (w.tds.ops t) ps.1.1.1.1.0 in
+      let own = h.imports t (record { alive = alive; standing = ops.0 }) in
+      let from = starts_from_pause source w t src own (own.complete ops.1) in
+      let v : World = set_op t op.LiveImport (note_commit t w) in
+      let rests = quiet w (set_op t op.LiveImport w) t (λ a. let no : false ≡ true = rw self at a.standing in cc) (λ a e. absurd (let no : op.LiveImport ≡ op.Uninitialized = rw self at e in cc)) refl
+      (λ x y a. record { kind = a.kind; life = a.life }) (λ x y. rw y refl) (λ x n y. refl) refl (λ q. refl) in
+      let before = destination_rests source w (set_op t op.LiveImport w) rests h in
+      record {
+        imports = λ x a. import_stays made_there (set_op t op.LiveImport w) v x (noted (set_op t op.LiveImport w) v x refl (record { alive = record { kind = a.alive.kind; life = a.alive.life }; standing = a.standing })) (before.imports x (record { alive = record { kind = a.alive.kind; life = a.alive.life }; standing = a.standing }));
+        empty = λ x a e n. before.empty x (record { kind = a.kind; life = a.life }) e n;
+        given = λ s start e. by_test (s == w.tds.sessions t)
+            (λ y. (let same : image_of w t ≡ start = same_start (image_of w t) start (rw y at e) in
+            subst (λ (z : ℕ). StartsFromPause source z start) (sym (eqb-true s _ y)) (subst (λ (z : Image). StartsFromPause source (w.tds.sessions t) z) same from)))
+            (λ y. h.given s start (rw y at e));
+      }
+    where
+      same_start : (a b : Image) → Some a ≡ Some b → a ≡ b
+      same_start a b e = cc
+
+      noted : (u v : World) (x : ℕ) → record (rest u) { given = v.hidden.given } ≡ rest v → IsImporting u x → ImportStays u v x
+      noted u v x same a = same_import u v x a (ap (λ (z : Rest). z.ops x) (sym same)) (ap (λ (z : Rest). z.fills x) (sym same)) (λ j. map ((sym same j).counters) ((sym same j).fills x).streams) (λ n. ap (λ (z : Rest). z.memories x n) (sym same))
+          (ap (λ (z : Rest). z.vps x) (sym same)) (λ p e. ap (λ (z : Rest). z.vp_states p) (sym same))
+
+  -- IMPORT.END, IMPORT.ABORT, and EXPORT.ABORT by a token
+  ended : (w v : World) (t : ℕ) (s : OpState) → s ≢ op.Uninitialized → is_filling s ≡ false → v.tds ≡ (set_op t s w).tds → v.pages ≡ w.pages → v.hidden ≡ w.hidden → v.streams ≡ w.streams → v.vps ≡ w.vps → IsAtRest w v
+  ended w v t s begun off tds pages hidden streams vps =
+      let self = same_self t in
+      quiet w v t
+      (λ a. let now : is_filling s ≡ true = (let at : v.tds.ops t ≡ s = ap (λ (z : Tds). z.ops t) tds ∙ rw self refl in ap is_filling (sym at) ∙ a.standing) in let no : true ≡ false = sym now ∙ off in cc)
+      (λ a e. absurd (begun (let at : v.tds.ops t ≡ s = ap (λ (z : Tds). z.ops t) tds ∙ rw self refl in sym at ∙ e)))
+      (ap (λ (z : Hidden). z.given) hidden)
+      (λ x y a. record { kind = ap (λ (z : Pages). z.kinds x) (sym pages) ∙ a.kind; life = subst (λ (z : Tds). IsLive (z.lives x)) tds a.life })
+      (λ x y. (let op : v.tds.ops x ≡ w.tds.ops x = ap (λ (z : Tds). z.ops x) tds ∙ rw y refl in
+      λ j. record { state = op j; fill = record { session = (tds j).sessions x; epoch = (tds j).mig_epochs x; streams = (tds j).streams x; mrtd = (tds j).mrtds x; expected = (tds j).vps_expected x; rtmrs = (hidden j).rtmrs x }; vps = (tds j).vps x }))
+      (λ x n y. ap (λ (z : Hidden). z.memories x n) hidden)
+      (ap (λ (z : Streams). z.counters) streams) (λ q j. record { state = (vps j).states q; registers = (hidden j).registers q; position = (vps j).positions q })
+
+pub imports_keep_the_image : ImportsKeepTheImage
+imports_keep_the_image source o src unforged = record {
+  immutable = λ t slot. keeps_immutable source o src unforged t slot;
+  page = λ t slot page. keeps_page source o src unforged t slot page;
+  token = λ t slot. keeps_token source o src unforged t slot;
+  td = λ t slot. keeps_td source o src unforged t slot;
+  vp = λ t p slot. keeps_vp source o src unforged t p slot;
+  commit = λ t. keeps_commit source o src unforged t;
+  finish = λ t w l h ps. destination_rests source w _ (ended source o src unforged w (set_op t op.Runnable w) t op.Runnable (λ e. cc) refl refl refl refl refl refl) h;
+  abort = λ t slot w l h ps. destination_rests source w ((abort_import o.machine t slot).act w) (ended source o src unforged w ((abort_import o.machine t slot).act w) t op.FailedImport (λ e. cc) refl refl refl refl refl refl) h;
+  export_abort = λ t slot w l h ps. destination_rests source w _ (ended source o src unforged w (set_op t op.Runnable w) t op.Runnable (λ e. cc) refl refl refl refl refl refl) h;
+}

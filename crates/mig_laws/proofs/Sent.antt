@@ -1,0 +1,282 @@
+-- What was sent of a source's pages: what keeps it, act by act.
+use Rattle.std.proofs.Common.{◌≡◌, refl, sym, ◌∙◌, ap, subst, ℕ, zero, suc, ◌+◌, ◌%◌, ◌^◌, List, [], ◌∷◌, ◌++◌, length, Option, Some, None, option_map, Bool, true, false, ◌==◌, ◌&&◌, if◌then◌else◌, arith}
+use Rattle.std.specs.List.{All, list_any}
+use Rattle.std.proofs.lemmas.Bool.{eqb-true, eq-eqb, ne_eqb, and_left, and_parts}
+use Rattle.std.proofs.lemmas.List.Elements.{All-head, All-tail, All-weaker}
+use Rattle.td_words.specs.declared.names.OpState.{OpState}
+use Rattle.td_words.specs.declared.names.OpState.TheVariants as op
+use Rattle.td_words.specs.declared.names.EntryState.{EntryState}
+use Rattle.td_words.specs.declared.names.EntryState.TheVariants as entry
+use Rattle.td_words.specs.declared.machines.Machine.{Machine}
+use Rattle.td_words.specs.declared.calls.Call.{Call}
+use Rattle.td_words.specs.declared.calls.Call.TheVariants as call
+use Rattle.td_words.specs.Packing.{Entry, is_exported}
+use Rattle.flat_core.specs.World.{World, Made}
+use Rattle.flat_core.specs.Opening.{Opening}
+use Rattle.flat_core.specs.Row.{Passes}
+use Rattle.flat_core.specs.Conditions.{page_exclusive}
+use Rattle.flat_core.specs.Digests.{six_words}
+use Rattle.flat_core.specs.Tree.{page_of_gpa, number_at, entry_at, same_state, state_in, has_page, named_page}
+use Rattle.td_words.specs.declared.names.Mode.TheVariants.{Exclusive}
+use Rattle.flat_core.specs.Tracking.{is_tracked}
+use Rattle.flat_core.specs.Effects.{set_op, restate}
+use Rattle.flat_core.specs.Sessions.{About, about, header_of, stream_page, bundles_so_far, unrestored_count, other_epoch, counter_room, payload_words, make_bundle, begin_session, set_mig_epoch, count_export, note_td_export, note_vp_export}
+use Rattle.flat_core.specs.BundleRows.{start_epoch, exportable, tracked_in}
+use Rattle.flat_core.specs.Exports.{is_dirty}
+use Rattle.flat_core.specs.Table.{row_of}
+use Rattle.flat_core.specs.Lawful.{IsAlive, Lawful, is_exporting}
+use Rattle.flat_core.specs.Laws.{AreSoMany, holds_memory, memory_of, ArePagesKnown}
+use Rattle.flat_core.proofs.Tests.{by_test, same_self}
+use Rattle.flat_core.proofs.Counted.{are_counted}
+use Rattle.flat_core.proofs.Maps.{behind_walk}
+use Rattle.flat_core.proofs.Ranges.{paused_exporting, abortable_exporting}
+use Rattle.mig_laws.specs.Ivs.{is_forward, IsExporting, IvsHold}
+use Rattle.mig_laws.specs.Source.{is_page_at, later_of, last_of, last_payload, IsSent, ArePagesSent, AreSentTracked, SourceHolds}
+use Rattle.mig_laws.proofs.Stays.{PageStays, IsBeside, beside, unmoved}
+use Rattle.mig_laws.proofs.Rows.{le_same, row-beside}
+use Rattle.mig_laws.proofs.Ivs.{IsGiven, alive_of, beside_ivs, row-ivs}
+
+-- the last payload after one more bundle
+
+abbrev payload_if : (Made → Bool) → Made → Option (List ℕ)
+payload_if f b = if f b then Some b.payload else None
+
+later_none : (x : Option (List ℕ)) → later_of None x ≡ x
+later_none None = refl
+later_none (Some p) = refl
+
+later_later : (x y z : Option (List ℕ)) → later_of x (later_of y z) ≡ later_of (later_of x y) z
+later_later x y None = refl
+later_later x y (Some p) = refl
+
+last_end : (f : Made → Bool) (bs : List Made) (b : Made) → last_of f (bs ++ b ∷ []) ≡ later_of (last_of f bs) (payload_if f b)
+last_end f [] b = sym (later_none (payload_if f b))
+last_end f (c ∷ bs) b = ap (later_of (payload_if f c)) (last_end f bs b) ∙ later_later (payload_if f c) (last_of f bs) (payload_if f b)
+
+pub last_beside : (f : Made → Bool) (bs : List Made) (b : Made) → f b ≡ false → last_of f (bs ++ b ∷ []) ≡ last_of f bs
+last_beside f bs b e = last_end f bs b ∙ rw e refl
+
+pub last_new : (f : Made → Bool) (bs : List Made) (b : Made) → f b ≡ true → last_of f (bs ++ b ∷ []) ≡ Some b.payload
+last_new f bs b e = last_end f bs b ∙ rw e refl
+
+pub none_passes : (f : Made → Bool) (bs : List Made) → All (λ b. f b ≡ false) bs → last_of f bs ≡ None
+none_passes f [] h = refl
+none_passes f (b ∷ bs) h = rw (All-head (λ b. f b ≡ false) b bs h, none_passes f bs (All-tail (λ b. f b ≡ false) b bs h)) refl
+
+-- no bundle has the number that the next session gets
+pub none_yet : (w : World) (n : ℕ) → IvsHold w → last_payload (w.key_table.last_exported + 1) n w.outgoing.bundles ≡ None
+none_yet w n h = none_passes (is_page_at (w.key_table.last_exported + 1) n) w.outgoing.bundles (All-weaker (IsGiven w) (λ b. is_page_at (w.key_table.last_exported + 1) n b ≡ false) old w.outgoing.bundles h.given)
+  where
+    forward : (b : Made) → b.header.kind ≡ 3 → is_forward b ≡ true
+    forward b k = rw k refl
+
+    old : (b : Made) → IsGiven w b → is_page_at (w.key_table.last_exported + 1) n b ≡ false
+    old b le = by_test (b.header.kind == 3)
+        (λ y. rw y (let less = le (forward b (eqb-true b.header.kind 3 y)) in
+        and_left (b.header.session == w.key_table.last_exported + 1) _ (ne_eqb b.header.session (w.key_table.last_exported + 1) (omega (arith, less)))))
+        (λ y. rw y refl)
+
+-- where no bundle is made
+
+pub sent_still : (w v : World) (x n : ℕ) (p : List ℕ) → PageStays w v x n → IsSent w x n p → IsSent v x n p
+sent_still w v x n p k s = record {
+  exported = k.exported s.exported;
+  known = λ d. (let j = k.clean d s.exported in ap (option_map (λ words. payload_words words 512)) j.1 ∙ s.known j.0);
+}
+
+pub sent_stay : (w v : World) → IsBeside w v → ArePagesSent w → ArePagesSent v
+sent_stay w v b h x n p a e =
+    let k = b.each x a in
+    sent_still w v x n p (k.page n)
+    (h x n p k.session.exporting (subst (λ (bs : List Made). last_payload (w.tds.sessions x) n bs ≡ Some p) b.bundles (subst (λ (s : ℕ). last_payload s n v.outgoing.bundles ≡ Some p) k.session.session e)))
+
+pub tracked_stay : (w v : World) → IsBeside w v → AreSentTracked w → AreSentTracked v
+tracked_stay w v b h t n a live s =
+    let k = b.each t (record { alive = a; standing = ap is_exporting live }) in
+    let j = (k.page n).tracked s in
+    j.1 (h t n k.session.exporting.alive (k.session.live live) j.0)
+
+-- a bundle that has no page
+module _ (t slot : ℕ) (a : About) (payload : List ℕ) (w : World) (other : (a.kind == 3) ≡ false) where
+  abbrev made : World
+  made = make_bundle t slot a payload w
+
+  pub sent_made : ArePagesSent w → ArePagesSent made
+  sent_made h x n p b e =
+      let s = h x n p (record { alive = record { kind = b.alive.kind; life = b.alive.life }; standing = b.standing })
+      (sym (last_beside (is_page_at (w.tds.sessions x) n) w.outgoing.bundles (record { slot = slot; header = header_of w t a; payload = payload }) (rw other refl)) ∙ e) in
+      record { exported = s.exported; known = s.known }
+
+  pub tracked_made : AreSentTracked w → AreSentTracked made
+  tracked_made h x n b live s = h x n (record { kind = b.kind; life = b.life }) live s
+
+-- a session begins: none of its pages was sent, and none of its entries is exported
+module _ (m : Machine) (w : World) (l : Lawful m w) (i : IvsHold w) (t : ℕ) (alive : IsAlive w.pages w.tds t) (restored : (unrestored_count w t == 0) ≡ true) where
+  abbrev begun : World
+  begun = begin_session t w
+
+  pub sent_begun : ArePagesSent w → ArePagesSent begun
+  sent_begun h x n p a e = by_test (x == t)
+      (λ y. absurd (let some : last_payload (w.key_table.last_exported + 1) n w.outgoing.bundles ≡ Some p = rw y at e in let no : None ≡ Some p = sym (none_yet w n i) ∙ some in cc))
+      (λ y. (let s = h x n p (record { alive = record { kind = a.alive.kind; life = a.alive.life }; standing = rw y at a.standing }) (rw y at e) in record { exported = s.exported; known = s.known }))
+
+  none_of : (k : ℕ) → AreSoMany is_exported (w.tds.entries t 0) k → k ≡ 0 → (n : ℕ) → is_exported (w.tds.entries t 0 n).state ≡ false
+  none_of k c e n = by c.numbers c.many (c.each n)
+    where
+      by : (ns : List ℕ) → length ns ≡ k → list_any (λ j. j == n) ns ≡ is_exported (w.tds.entries t 0 n).state → is_exported (w.tds.entries t 0 n).state ≡ false
+      by [] many has = sym has
+      by (j ∷ ns) many has = absurd (omega (arith, many, e))
+
+  none_exported : (n : ℕ) → is_exported (w.tds.entries t 0 n).state ≡ false
+  none_exported n = none_of (unrestored_count w t) ((are_counted m w l).exported t alive) (eqb-true _ 0 restored) n
+
+  pub tracked_begun : AreSentTracked w → AreSentTracked begun
+  tracked_begun h x n a live s = by_test (x == t)
+      (λ y. absurd (let off : is_exported (w.tds.entries x 0 n).state ≡ false = subst (λ (z : ℕ). is_exported (w.tds.entries z 0 n).state ≡ false) (sym (eqb-true x t y)) (none_exported n) in
+      let no : true ≡ false = ap is_exported (sym s) ∙ off in cc))
+      (λ y. h x n (record { kind = a.kind; life = a.life }) (rw y at live) s)
+
+-- a page is exported
+exportable_holds : (s : OpState) (e : EntryState) → list_any (λ x. same_state x e) (exportable s) ≡ true → holds_memory e ≡ true
+exportable_holds op.LiveExport entry.Free h = cc
+exportable_holds op.LiveExport entry.Pending h = cc
+exportable_holds op.LiveExport entry.PendingBlocked h = cc
+exportable_holds op.LiveExport _ h = refl
+exportable_holds _ entry.Free h = cc
+exportable_holds _ entry.Pending h = cc
+exportable_holds _ entry.PendingBlocked h = cc
+exportable_holds _ _ h = refl
+
+tracked_then : (s : OpState) (w : World) (t p : ℕ) → Passes (tracked_in s w t p) → s ≡ op.LiveExport → is_tracked w t p ≡ true
+tracked_then op.LiveExport w t p ps e = ps.0
+tracked_then _ w t p ps e = cc
+
+module _ (t gpa k slot : ℕ) (w : World) (i : IvsHold w) (exporting : IsExporting w t) where
+  abbrev e : Entry
+  e = entry_at w t 0 gpa
+
+  abbrev g : ℕ
+  g = page_of_gpa gpa
+
+  abbrev about_page : About
+  about_page = record (about 3 (w.tds.mig_epochs t)) { stream = k; gpa = gpa }
+
+  abbrev sent : World
+  sent = make_bundle t slot about_page (payload_words (w.words e.page) 512) (count_export t k e.state (restate t (number_at 0 gpa) entry.ExportedBlockedW (w.tds.mig_epochs t) w))
+
+  abbrev new : Made
+  new = record {
+    slot = slot;
+    header = header_of (count_export t k e.state (restate t (number_at 0 gpa) entry.ExportedBlockedW (w.tds.mig_epochs t) w)) t about_page;
+    payload = payload_words (w.words e.page) 512;
+  }
+
+  was : (x : ℕ) → IsExporting sent x → IsExporting w x
+  was x a = record { alive = record { kind = a.alive.kind; life = a.alive.life }; standing = a.standing }
+
+  -- where it isn't the page, the entry is as it was
+  stays : (x n : ℕ) → (x == t && n == g) ≡ false → sent.tds.entries x 0 n ≡ w.tds.entries x 0 n
+  stays x n off = by_test (x == t)
+      (λ y. let z : (n == g) ≡ false = rw y at off in rw (y, z) (ap (λ (j : ℕ). w.tds.entries j 0 n) (sym (eqb-true x t y))))
+      (λ y. rw y refl)
+
+  off_page : (x n : ℕ) → (x == t && n == g) ≡ true → is_page_at (w.tds.sessions x) n new ≡ true
+  off_page x n y =
+      let both = and_parts (x == t) (n == g) y in
+      let a : (w.tds.sessions t == w.tds.sessions x) ≡ true = eq-eqb _ _ (ap w.tds.sessions (sym (eqb-true x t both.0))) in
+      let b : (g == n) ≡ true = eq-eqb _ _ (sym (eqb-true n g both.1)) in
+      rw (a, b) refl
+
+  module _ (known : w.hidden.memories t g ≡ Some (w.words e.page)) where
+    here : IsSent sent t g (payload_words (w.words e.page) 512)
+    here = record { exported = rw (same_self t, same_self g) refl; known = λ d. ap (option_map (λ words. payload_words words 512)) known }
+
+    sent_now : (x n : ℕ) (p : List ℕ) → IsExporting sent x → is_page_at (w.tds.sessions x) n new ≡ true → last_payload (w.tds.sessions x) n sent.outgoing.bundles ≡ Some p → IsSent sent x n p
+    sent_now x n p a f is =
+        let parts : ((w.tds.sessions t == w.tds.sessions x) ≡ true) × ((g == n) ≡ true) = and_parts (w.tds.sessions t == w.tds.sessions x) (g == n) f in
+        let same : t ≡ x = i.one t x exporting (was x a) (eqb-true _ _ parts.0) in
+        let place : g ≡ n = eqb-true _ _ parts.1 in
+        let what : Some (payload_words (w.words e.page) 512) ≡ Some p = sym (last_new (is_page_at (w.tds.sessions x) n) w.outgoing.bundles new f) ∙ is in
+        let words : payload_words (w.words e.page) 512 ≡ p = cc in
+        subst (λ (q : List ℕ). IsSent sent x n q) words (subst (λ (z : ℕ). IsSent sent x z (payload_words (w.words e.page) 512)) place (subst (λ (z : ℕ). IsSent sent z g (payload_words (w.words e.page) 512)) same here))
+
+    pub page_sent : ArePagesSent w → ArePagesSent sent
+    page_sent h x n p a is = by_test (is_page_at (w.tds.sessions x) n new)
+        (λ f. sent_now x n p a f is)
+        (λ f. (let s = h x n p (was x a) (sym (last_beside (is_page_at (w.tds.sessions x) n) w.outgoing.bundles new f) ∙ is) in
+        let off : (x == t && n == g) ≡ false = by_test (x == t && n == g) (λ y. absurd (let no : true ≡ false = sym (off_page x n y) ∙ f in cc)) (λ y. y) in
+        let same = stays x n off in
+        record { exported = ap (λ (z : Entry). is_exported z.state) same ∙ s.exported; known = λ d. s.known (ap (λ (z : Entry). is_dirty z.state) (sym same) ∙ d) }))
+
+  pub page_tracked : (w.tds.ops t ≡ op.LiveExport → is_tracked w t e.page ≡ true) → AreSentTracked w → AreSentTracked sent
+  page_tracked over h x n a live s = by_test (x == t && n == g)
+      (λ y. (let both = and_parts (x == t) (n == g) y in
+      subst (λ (z : ℕ). is_tracked sent z (sent.tds.entries z 0 n).page ≡ true) (sym (eqb-true x t both.0)) (subst (λ (z : ℕ). is_tracked sent t (sent.tds.entries t 0 z).page ≡ true) (sym (eqb-true n g both.1))
+      (rw (same_self t, same_self g) (over (ap w.tds.ops (sym (eqb-true x t both.0)) ∙ live))))))
+      (λ y. (let same = stays x n y in
+      subst (λ (z : Entry). is_tracked w x z.page ≡ true) (sym same) (h x n (record { kind = a.kind; life = a.life }) live (ap (λ (z : Entry). z.state) (sym same) ∙ s))))
+
+-- The rows
+module _ (o : Opening) (me : ℕ) (w : World) (l : Lawful o.machine w) (known : ArePagesKnown w) (h : SourceHolds w) where
+  abbrev After : Call → World
+  After c = (row_of o me c).act w
+
+  pub beside_source : (v : World) → IsBeside w v → SourceHolds v
+  beside_source v b = record { ivs = beside_ivs o me w l h.ivs v b; sent = sent_stay w v b h.sent; tracked = tracked_stay w v b h.tracked }
+
+  immutable_source : (t slot : ℕ) → Passes ((row_of o me (call.ExportStateImmutable t slot)).items w) → SourceHolds (After (call.ExportStateImmutable t slot))
+  immutable_source t slot ps =
+      let head = ps.1 in
+      let alive = alive_of w t head.0 head.1.0 in
+      let a : About = record (about 0 1) { info = length (w.tds.vps t) } in
+      record {
+        ivs = row-ivs o me w l h.ivs (call.ExportStateImmutable t slot) ps;
+        sent = sent_made t slot a (six_words (w.tds.mrtds t)) (begin_session t w) refl (sent_begun o.machine w l h.ivs t alive head.1.1.1.1.1.0 h.sent);
+        tracked = tracked_made t slot a (six_words (w.tds.mrtds t)) (begin_session t w) refl (tracked_begun o.machine w l h.ivs t alive head.1.1.1.1.1.0 h.tracked);
+      }
+
+  page_source : (t gpa k slot : ℕ) → Passes ((row_of o me (call.ExportMem t gpa k slot)).items w) → SourceHolds (After (call.ExportMem t gpa k slot))
+  page_source t gpa k slot ps =
+      let head = ps.1.1.1.1 in
+      let alive = alive_of w t head.0 head.1.0 in
+      let exporting : IsExporting w t = record { alive = alive; standing = abortable_exporting (w.tds.ops t) head.1.1.1.0 } in
+      let e = entry_at w t 0 gpa in
+      let rest = behind_walk w t gpa 0
+      (has_page w t gpa 0 ∷ named_page w t gpa 0 Exclusive ∷ state_in w t gpa 0 (exportable (w.tds.ops t)) ∷ other_epoch w t gpa ∷ page_exclusive (stream_page w t k) ∷ counter_room w t k ∷ tracked_in (w.tds.ops t) w t e.page)
+      head.1.1.1.1.1 in
+      let holds = exportable_holds (w.tds.ops t) e.state rest.1.0 in
+      let has : memory_of (w.tds.entries t 0 (page_of_gpa gpa)) w.words ≡ Some (w.words e.page) = rw holds refl in
+      record {
+        ivs = row-ivs o me w l h.ivs (call.ExportMem t gpa k slot) ps;
+        sent = page_sent t gpa k slot w h.ivs exporting (known t (page_of_gpa gpa) alive ∙ has) h.sent;
+        tracked = page_tracked t gpa k slot w h.ivs exporting (tracked_then (w.tds.ops t) w t e.page rest.1.1.1.1) h.tracked;
+      }
+
+  -- a bundle without a page, where the world before it differs in what isn't asked
+  bundle_source : (t slot : ℕ) (a : About) (payload : List ℕ) (v : World) → (a.kind == 3) ≡ false → IsBeside w v → IvsHold (make_bundle t slot a payload v) → SourceHolds (make_bundle t slot a payload v)
+  bundle_source t slot a payload v other b ivs = record { ivs = ivs; sent = sent_made t slot a payload v other (sent_stay w v b h.sent); tracked = tracked_made t slot a payload v other (tracked_stay w v b h.tracked) }
+
+  token_source : (t slot start : ℕ) → Passes ((row_of o me (call.ExportTrack t slot start)).items w) → SourceHolds (After (call.ExportTrack t slot start))
+  token_source t slot zero ps =
+      bundle_source t slot (record (about 4 (w.tds.mig_epochs t + 1)) { total = bundles_so_far w t }) [] (set_mig_epoch t (w.tds.mig_epochs t + 1) w) refl (unmoved w _ refl refl (λ x n. refl) refl refl) (row-ivs o me w l h.ivs (call.ExportTrack t slot 0) ps)
+  token_source t slot (suc n) ps =
+      let v : World = set_op t op.PostExport (set_mig_epoch t start_epoch w) in
+      let standing = paused_exporting (w.tds.ops t) ps.1.1.1.1.1.0 in
+      bundle_source t slot (record (about 5 start_epoch) { total = bundles_so_far w t }) [] v refl
+      (beside w v refl
+      (λ x e. by_test (x == t)
+      (λ y. (subst (λ (z : ℕ). is_exporting (w.tds.ops z) ≡ true) (sym (eqb-true x t y)) standing, λ k. absurd (let no : op.PostExport ≡ op.LiveExport = rw y at k in cc)))
+      (λ y. (rw y at e, λ k. rw y at k)))
+      (λ x n. refl) (λ q. le_same _) (λ x a. record { kind = a.kind; life = a.life }))
+      (row-ivs o me w l h.ivs (call.ExportTrack t slot (suc n)) ps)
+
+  pub row-source : (c : Call) → Passes ((row_of o me c).items w) → SourceHolds (After c)
+  row-source (call.ExportStateImmutable t slot) ps = immutable_source t slot ps
+  row-source (call.ExportMem t gpa k slot) ps = page_source t gpa k slot ps
+  row-source (call.ExportTrack t slot start) ps = token_source t slot start ps
+  row-source (call.ExportStateTd t slot) ps =
+      bundle_source t slot (about 1 (w.tds.mig_epochs t)) (payload_words (w.hidden.rtmrs t) 24) (note_td_export t w) refl (unmoved w _ refl refl (λ x n. refl) refl refl) (row-ivs o me w l h.ivs (call.ExportStateTd t slot) ps)
+  row-source (call.ExportStateVp t p slot) ps =
+      bundle_source t slot (record (about 2 (w.tds.mig_epochs t)) { index = w.vps.indexes p; info = w.vps.positions p % 2 ^ 32 }) (payload_words (w.hidden.registers p) 8) (note_vp_export t p w) refl
+      (unmoved w _ refl refl (λ x n. refl) refl refl) (row-ivs o me w l h.ivs (call.ExportStateVp t p slot) ps)
+  row-source c ps = beside_source (After c) (row-beside o me w l c ps refl)

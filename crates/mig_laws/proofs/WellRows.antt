@@ -1,0 +1,478 @@
+-- Each act leaves the lists of bundles well made.
+use Rattle.std.proofs.Common.{◌≡◌, ◌≢◌, refl, sym, ◌∙◌, ap, subst, ℕ, zero, suc, ◌+◌, ◌-◌, ◌%◌, ◌^◌, ◌<◌, ◌≤◌, List, [], ◌∷◌, length, None, Bool, true, false, not, ◌==◌, ◌||◌, get_or, arith}
+use Rattle.std.specs.List.{All, list_any}
+use Rattle.std.proofs.lemmas.Bool.{eqb-true, eqb-false, ne_eqb, and_parts, and_left, ltb-true, not-true}
+use Rattle.std.proofs.lemmas.List.Elements.{All-weaker}
+use Rattle.td_words.specs.declared.names.PageKind.TheVariants as kind
+use Rattle.td_words.specs.declared.names.LifeState.TheVariants as life
+use Rattle.td_words.specs.declared.names.OpState.{OpState}
+use Rattle.td_words.specs.declared.names.OpState.TheVariants as op
+use Rattle.td_words.specs.declared.names.EntryState.TheVariants as entry
+use Rattle.td_words.specs.declared.names.Mode.TheVariants.{Exclusive}
+use Rattle.td_words.specs.declared.calls.Call.{Call}
+use Rattle.td_words.specs.declared.calls.Call.TheVariants as call
+use Rattle.td_words.specs.NameNumber.{op_number, life_number}
+use Rattle.td_words.specs.Packing.{Entry, is_exported}
+use Rattle.td_words.specs.Slots.{output_slot}
+use Rattle.flat_core.specs.World.{World, Made, put}
+use Rattle.flat_core.specs.Opening.{Opening}
+use Rattle.flat_core.specs.Row.{Passes}
+use Rattle.flat_core.specs.Conditions.{same_kind, page_exclusive, host_page}
+use Rattle.flat_core.specs.Digests.{six_words}
+use Rattle.flat_core.specs.Tree.{page_of_gpa, number_at, entry_at, state_in, empty_below, has_page, named_page}
+use Rattle.flat_core.specs.Tracking.{tracked_page}
+use Rattle.flat_core.specs.Effects.{put_in, set_op, restate}
+use Rattle.flat_core.specs.Sessions.{About, about, stream_page, stream_counter, bundles_so_far, counter_room, other_epoch, payload_words, make_bundle, begin_session, set_mig_epoch, count_export, note_td_export, note_vp_export}
+use Rattle.flat_core.specs.MemRows.{open_states, blocked_states, removed_states}
+use Rattle.flat_core.specs.ExportRows.{live_ops, abortable_ops, restoring_ops, restored_states, write_blocked, write_unblocked}
+use Rattle.flat_core.specs.BundleRows.{paused_ops, exportable, tracked_in, start_epoch}
+use Rattle.flat_core.specs.Table.{row_of}
+use Rattle.flat_core.specs.Lawful.{IsAlive, Lawful, all_differ, is_exporting}
+use Rattle.flat_core.proofs.Tests.{by_test, host_kind, same_self}
+use Rattle.flat_core.proofs.Keeps.{free_of}
+use Rattle.flat_core.proofs.Maps.{behind_walk}
+use Rattle.flat_core.proofs.Exports.{free_unmarked}
+use Rattle.flat_core.proofs.Ranges.{named_passed, opened_passed, block_restates, unblock_restates, page_removed, sept_removed, paused_exporting, abortable_exporting}
+use Rattle.flat_core.proofs.Streams.{stream_among, stream_owned}
+use Rattle.mig_laws.specs.Ivs.{IsExporting, IvsHold}
+use Rattle.mig_laws.specs.Source.{is_page_at}
+use Rattle.mig_laws.specs.WellMade.{is_of, is_on, IsBehind, IsMarked, AgreesWith, SessionAgrees, WellHolds}
+use Rattle.mig_laws.proofs.Rows.{never_exporting, not_among, row-beside}
+use Rattle.mig_laws.proofs.Ivs.{IsGiven, ivs_stay, session_same, begun_ivs, alive_of}
+use Rattle.mig_laws.proofs.Places.{count_none}
+use Rattle.mig_laws.proofs.Joined.{forward_of, session_of}
+use Rattle.mig_laws.proofs.WellMade.{AgreesWithOwn, new_bundle, made_well}
+use Rattle.mig_laws.proofs.WellStays.{WellStays, stays_well, well_beside, NumbersStay, numbers_well, marks, Seen, seen, seen_exporting, seen_well}
+
+same_le : (n : ℕ) → n ≤ n
+same_le n = omega arith
+
+-- the types of bundles with a state of a TD that is paused
+abbrev is_state : ℕ → Bool
+is_state k = k == 1 || k == 2
+
+-- an op state that isn't among those allowed
+never_of : (s : OpState) (allowed : List OpState) (o : OpState) → list_any (λ a. op_number a == op_number s) allowed ≡ false → list_any (λ a. op_number a == op_number o) allowed ≡ true → o ≢ s
+never_of s allowed o none e same = let no : true ≡ false = sym e ∙ (ap (λ (z : OpState). list_any (λ a. op_number a == op_number z) allowed) same ∙ none) in cc
+
+-- no page stands twice among a TD's streams
+places_differ : (ps : List ℕ) → all_differ ps ≡ true → (k j : ℕ) → k < length ps → j < length ps → get_or ps k 0 ≡ get_or ps j 0 → k ≡ j
+places_differ [] d k j m n e = absurd (omega (arith, m))
+places_differ (p ∷ ps) d zero zero m n e = refl
+places_differ (p ∷ ps) d zero (suc j) m n e = absurd (
+    let off = not-true (list_any (λ q. q == p) ps) (and_parts (not (list_any (λ q. q == p) ps)) (all_differ ps) d).0 in
+    let on = ap (λ (z : ℕ). list_any (λ q. q == z) ps) e ∙ stream_among ps j (omega (arith, n)) in
+    let no : true ≡ false = sym on ∙ off in cc)
+places_differ (p ∷ ps) d (suc k) zero m n e = absurd (
+    let off = not-true (list_any (λ q. q == p) ps) (and_parts (not (list_any (λ q. q == p) ps)) (all_differ ps) d).0 in
+    let on = ap (λ (z : ℕ). list_any (λ q. q == z) ps) (sym e) ∙ stream_among ps k (omega (arith, m)) in
+    let no : true ≡ false = sym on ∙ off in cc)
+places_differ (p ∷ ps) d (suc k) (suc j) m n e =
+    ap suc (places_differ ps (and_parts (not (list_any (λ q. q == p) ps)) (all_differ ps) d).1 k j (omega (arith, m)) (omega (arith, n)) e)
+
+own_pages : (o : Opening) (w : World) → Lawful o.machine w → (x t k j : ℕ) → IsAlive w.pages w.tds x → IsAlive w.pages w.tds t → k < length (w.tds.streams x) → j < length (w.tds.streams t)
+    → stream_page w x k ≡ stream_page w t j → (x ≡ t) × (k ≡ j)
+own_pages o w l x t k j a b m n same =
+    let td : x ≡ t = sym (stream_owned o.machine w l x k a m).owner ∙ (ap w.pages.owners same ∙ (stream_owned o.machine w l t j b n).owner) in
+    (td, places_differ (w.tds.streams t) (l.tds.streams_differ t) k j (subst (λ (z : ℕ). k < length (w.tds.streams z)) td m) n (subst (λ (z : ℕ). stream_page w z k ≡ stream_page w t j) td same))
+
+-- a session begins
+module _ (o : Opening) (w : World) (l : Lawful o.machine w) (i : IvsHold w) (h : WellHolds w) (t slot : ℕ) (alive : IsAlive w.pages w.tds t) (some : 0 < length (w.tds.streams t)) where
+  abbrev begun : World
+  begun = begin_session t w
+
+  abbrev next : ℕ
+  next = w.key_table.last_exported + 1
+
+  session_is : begun.tds.sessions t ≡ next
+  session_is = rw (same_self t) refl
+
+  -- it has no bundle yet
+  none_yet : All (λ b. is_of (begun.tds.sessions t) b ≡ false) w.outgoing.bundles
+  none_yet = subst (λ (z : ℕ). All (λ b. is_of z b ≡ false) w.outgoing.bundles) (sym session_is) (All-weaker (IsGiven w) (λ b. is_of next b ≡ false) old w.outgoing.bundles i.given)
+    where
+      old : (b : Made) → IsGiven w b → is_of next b ≡ false
+      old b le = by_test (is_of next b)
+          (λ y. absurd (let less = le (forward_of next b y) in let same = session_of next b y in omega (arith, less, same)))
+          (λ y. y)
+
+  never : {A : Type 0} (b : Made) → is_of (begun.tds.sessions t) b ≡ false → is_of (begun.tds.sessions t) b ≡ true → A
+  never b f g = absurd (let no : true ≡ false = sym g ∙ f in cc)
+
+  stood : (x : ℕ) → (x == t) ≡ false → IsExporting begun x → IsExporting w x
+  stood x y e = record { alive = record { kind = e.alive.kind; life = e.alive.life }; standing = rw y at e.standing }
+
+  new_agrees : SessionAgrees begun t
+  new_agrees = record {
+    counter = λ k m.
+        let zeroed : stream_counter begun t k ≡ 0 = rw (stream_among (w.tds.streams t) k m) refl in
+        zeroed
+        ∙ sym (count_none (is_on (begun.tds.sessions t) k) w.outgoing.bundles
+        (All-weaker (λ b. is_of (begun.tds.sessions t) b ≡ false) (λ b. is_on (begun.tds.sessions t) k b ≡ false) (λ b f. and_left (is_of (begun.tds.sessions t) b) _ f) w.outgoing.bundles none_yet));
+    each = All-weaker (λ b. is_of (begun.tds.sessions t) b ≡ false) (AgreesWithOwn begun t (begun.tds.sessions t)) (λ b f g. never b f g) w.outgoing.bundles none_yet;
+    room = λ off. rw (same_self t) (omega arith);
+  }
+
+  others_agree : (x : ℕ) → (x == t) ≡ false → IsExporting begun x → SessionAgrees begun x
+  others_agree x y e =
+      let b = stood x y e in
+      stays_well w begun x refl
+      (record {
+        exporting = b;
+        session = rw y refl;
+        streams = refl;
+        counter = λ k m.
+            let off = not_among w t x (stream_page w x k) kind.Migsc (w.tds.streams t) (l.tds.streams t alive) (stream_owned o.machine w l x k b.alive m).owner
+            (ne_eqb t x (λ same. eqb-false x t y (sym same))) in
+            rw off refl;
+        epoch = rw y (omega arith);
+        mark = λ n epoch m. record { exported = m.exported; first = m.first; last = rw y m.last };
+        room = λ room off. rw y (room (λ same. off (rw y same)));
+        started = λ same. rw y same;
+      })
+      (h.sessions x b)
+
+  begun_well : WellHolds begun
+  begun_well = record { made = h.made; sessions = λ x e. by_test (x == t) (λ y. subst (λ (z : ℕ). SessionAgrees begun z) (sym (eqb-true x t y)) new_agrees) (λ y. others_agree x y e) }
+
+  pub immutable_well : (info : ℕ) (payload : List ℕ) → WellHolds (make_bundle t slot (record (about 0 1) { info = info }) payload begun)
+  immutable_well info payload = made_well t slot (record (about 0 1) { info = info }) payload begun (begun_ivs o w l i t alive) begun_well
+      (record { alive = record { kind = alive.kind; life = alive.life }; standing = rw (same_self t) refl })
+      (λ x k j e m n same. own_pages o w l x t k j (record { kind = e.alive.kind; life = e.alive.life }) alive m n same)
+      some (λ z. refl) refl (λ k. cc)
+      (All-weaker (λ b. is_of (begun.tds.sessions t) b ≡ false)
+      (λ c. is_of (begun.tds.sessions t) c ≡ true → IsBehind (new_bundle t slot (record (about 0 1) { info = info }) payload begun) c) (λ b f g. never b f g) w.outgoing.bundles none_yet)
+      (record { epoch = rw (same_self t) (omega arith); page = λ e. cc; started = λ e. cc })
+
+-- a bundle of a TD whose export stands, where the world before it differs in what isn't asked
+module _ (o : Opening) (w : World) (l : Lawful o.machine w) (i : IvsHold w) (h : WellHolds w) (t : ℕ) (exporting : IsExporting w t) where
+  says : SessionAgrees w t
+  says = h.sessions t exporting
+
+  abbrev s : ℕ
+  s = w.tds.sessions t
+
+  -- an epoch token
+  pub epoch_well : (slot : ℕ) → w.tds.ops t ≢ op.PostExport → w.tds.mig_epochs t < 2 ^ 32 - 2
+      → WellHolds (make_bundle t slot (record (about 4 (w.tds.mig_epochs t + 1)) { total = bundles_so_far w t }) [] (set_mig_epoch t (w.tds.mig_epochs t + 1) w))
+  epoch_well slot running few = made_well t slot token [] later
+      (ivs_stay w later refl refl (λ x e. session_same w later x (was x e) (λ z. z) refl refl (λ j. same_le _)) i)
+      (well_beside w later refl stays h)
+      (record { alive = record { kind = exporting.alive.kind; life = exporting.alive.life }; standing = exporting.standing })
+      (λ x k j e m n same. own_pages o w l x t k j (was x e).alive exporting.alive m n same)
+      (l.sessions.first_stream t exporting.standing) (λ z. refl) refl (λ k. refl)
+      (All-weaker (AgreesWithOwn w t s) (λ c. is_of s c ≡ true → IsBehind (new_bundle t slot token [] later) c)
+      (λ c f e. (let k = f e in record {
+        epoch = omega (arith, k.epoch);
+        token = λ z. omega (arith, k.epoch);
+        page = λ z. cc;
+        started = λ z. absurd (running (k.started z));
+      })) w.outgoing.bundles says.each)
+      (record { epoch = rw (same_self t) (omega arith); page = λ z. cc; started = λ z. cc })
+    where
+      later : World
+      later = set_mig_epoch t (w.tds.mig_epochs t + 1) w
+
+      token : About
+      token = record (about 4 (w.tds.mig_epochs t + 1)) { total = bundles_so_far w t }
+
+      was : (x : ℕ) → IsExporting later x → IsExporting w x
+      was x e = record { alive = record { kind = e.alive.kind; life = e.alive.life }; standing = e.standing }
+
+      more : (x : ℕ) → w.tds.mig_epochs x ≤ later.tds.mig_epochs x
+      more x = by_test (x == t) (λ y. rw y (let same = ap w.tds.mig_epochs (eqb-true x t y) in omega (arith, same))) (λ y. rw y (omega arith))
+
+      stays : (x : ℕ) → IsExporting later x → WellStays w later x
+      stays x e = record {
+        exporting = was x e;
+        session = refl;
+        streams = refl;
+        counter = λ k m. refl;
+        epoch = more x;
+        mark = λ n epoch m. record { exported = m.exported; first = m.first; last = omega (arith, m.last, more x) };
+        room = λ room off. by_test (x == t) (λ y. rw y (omega (arith, few))) (λ y. rw y (room off));
+        started = λ z. z;
+      }
+
+  -- the start token
+  pub start_well : (slot : ℕ) → list_any (λ a. op_number a == op_number (w.tds.ops t)) paused_ops ≡ true
+      → WellHolds (make_bundle t slot (record (about 5 start_epoch) { total = bundles_so_far w t }) [] (set_op t op.PostExport (set_mig_epoch t start_epoch w)))
+  start_well slot paused = made_well t slot token [] ended
+      (ivs_stay w ended refl refl (λ x e. session_same w ended x (was x e) (λ z. by_test (x == t) (λ y. absurd (let no : op.PostExport ≡ op.LiveExport = rw y at z in cc)) (λ y. rw y at z)) refl refl (λ j. same_le _)) i)
+      (well_beside w ended refl stays h)
+      (record { alive = record { kind = exporting.alive.kind; life = exporting.alive.life }; standing = rw (same_self t) refl })
+      (λ x k j e m n same. own_pages o w l x t k j (was x e).alive exporting.alive m n same)
+      (l.sessions.first_stream t exporting.standing) (λ z. refl) refl (λ k. refl)
+      (All-weaker (AgreesWithOwn w t s) (λ c. is_of s c ≡ true → IsBehind (new_bundle t slot token [] ended) c)
+      (λ c f e. (let k = f e in record {
+        epoch = omega (arith, k.epoch, left);
+        token = λ z. omega (arith, k.epoch, left);
+        page = λ z. cc;
+        started = λ z. absurd (running (k.started z));
+      })) w.outgoing.bundles says.each)
+      (record { epoch = rw (same_self t) (omega arith); page = λ z. cc; started = λ z. rw (same_self t) refl })
+    where
+      running : w.tds.ops t ≢ op.PostExport
+      running = never_of op.PostExport paused_ops (w.tds.ops t) refl paused
+
+      left : w.tds.mig_epochs t < start_epoch
+      left = says.room running
+
+      ended : World
+      ended = set_op t op.PostExport (set_mig_epoch t start_epoch w)
+
+      token : About
+      token = record (about 5 start_epoch) { total = bundles_so_far w t }
+
+      was : (x : ℕ) → IsExporting ended x → IsExporting w x
+      was x e = record {
+        alive = record { kind = e.alive.kind; life = e.alive.life };
+        standing = by_test (x == t) (λ y. subst (λ (z : ℕ). is_exporting (w.tds.ops z) ≡ true) (sym (eqb-true x t y)) exporting.standing) (λ y. rw y at e.standing);
+      }
+
+      more : (x : ℕ) → w.tds.mig_epochs x ≤ ended.tds.mig_epochs x
+      more x = by_test (x == t) (λ y. rw y (let same = ap w.tds.mig_epochs (eqb-true x t y) in omega (arith, same, left))) (λ y. rw y (omega arith))
+
+      stays : (x : ℕ) → IsExporting ended x → WellStays w ended x
+      stays x e = record {
+        exporting = was x e;
+        session = refl;
+        streams = refl;
+        counter = λ k m. refl;
+        epoch = more x;
+        mark = λ n epoch m. record { exported = m.exported; first = m.first; last = omega (arith, m.last, more x) };
+        room = λ room off. by_test (x == t) (λ y. absurd (off (rw y refl))) (λ y. rw y (room (λ z. off (rw y z))));
+        started = λ z. by_test (x == t) (λ y. rw y refl) (λ y. rw y z);
+      }
+
+  -- a page
+  pub page_well : (gpa k slot : ℕ) → k < length (w.tds.streams t) → ((entry_at w t 0 gpa).mark == w.tds.mig_epochs t) ≡ false
+      → WellHolds (make_bundle t slot (record (about 3 (w.tds.mig_epochs t)) { stream = k; gpa = gpa }) (payload_words (w.words (entry_at w t 0 gpa).page) 512)
+      (count_export t k (entry_at w t 0 gpa).state (restate t (number_at 0 gpa) entry.ExportedBlockedW (w.tds.mig_epochs t) w)))
+  page_well gpa k slot there fresh = made_well t slot page words sent
+      (ivs_stay w sent refl refl (λ x e. session_same w sent x (was x e) (λ z. z) refl refl (λ j. same_le _)) i)
+      (well_beside w sent refl stays h)
+      (record { alive = record { kind = exporting.alive.kind; life = exporting.alive.life }; standing = exporting.standing })
+      (λ x j n e m l'. own_pages o w l x t j n (was x e).alive exporting.alive m l')
+      there (λ z. absurd (z refl)) refl (λ z. cc)
+      (All-weaker (AgreesWithOwn w t s) (λ c. is_of s c ≡ true → IsBehind (new_bundle t slot page words sent) c)
+      (λ c f e. (let k = f e in record { epoch = k.epoch; token = λ z. cc; page = λ z at. earlier c k at; started = λ z. refl })) w.outgoing.bundles says.each)
+      (record {
+        epoch = same_le _;
+        page = λ z. record { exported = rw (same_self t, same_self g) refl; first = rw (same_self t, same_self g) (same_le _); last = rw (same_self t, same_self g) (same_le _) };
+        started = λ z. cc;
+      })
+    where
+      g : ℕ
+      g = page_of_gpa gpa
+
+      page : About
+      page = record (about 3 (w.tds.mig_epochs t)) { stream = k; gpa = gpa }
+
+      words : List ℕ
+      words = payload_words (w.words (entry_at w t 0 gpa).page) 512
+
+      sent : World
+      sent = count_export t k (entry_at w t 0 gpa).state (restate t (number_at 0 gpa) entry.ExportedBlockedW (w.tds.mig_epochs t) w)
+
+      was : (x : ℕ) → IsExporting sent x → IsExporting w x
+      was x e = record { alive = record { kind = e.alive.kind; life = e.alive.life }; standing = e.standing }
+
+      -- its entry's mark was another one
+      earlier : (c : Made) → AgreesWith w t c → is_page_at s (page_of_gpa gpa) c ≡ true → c.header.epoch < w.tds.mig_epochs t
+      earlier c k at =
+          let parts = and_parts (c.header.kind == 3) _ at in
+          let place = eqb-true (page_of_gpa c.header.gpa) (page_of_gpa gpa) (and_parts (c.header.session == s) _ parts.1).1 in
+          let m = subst (λ (n : ℕ). IsMarked w t n c.header.epoch) place (k.page (eqb-true c.header.kind 3 parts.0)) in
+          below c.header.epoch (w.tds.entries t 0 (page_of_gpa gpa)).mark (w.tds.mig_epochs t) m.first m.last (eqb-false (w.tds.entries t 0 (page_of_gpa gpa)).mark (w.tds.mig_epochs t) fresh)
+        where
+          below : (a b c : ℕ) → a ≤ b → b ≤ c → b ≢ c → a < c
+          below a b c p q off = grind (arith, p, q, off)
+
+      marked : (x n epoch : ℕ) → IsMarked w x n epoch → IsMarked sent x n epoch
+      marked x n epoch m = by_test (x == t)
+          (λ y. by_test (n == page_of_gpa gpa)
+          (λ z. let same = ap w.tds.mig_epochs (eqb-true x t y) in
+          record { exported = rw (y, z) refl; first = rw (y, z) (omega (arith, same, m.first, m.last)); last = rw (y, z) (omega (arith, same)) })
+          (λ z. let same = ap (λ (u : ℕ). w.tds.entries u 0 n) (eqb-true x t y) in
+          record {
+            exported = rw (y, z) (ap (λ (e : Entry). is_exported e.state) (sym same) ∙ m.exported);
+            first = rw (y, z) (subst (λ (e : Entry). epoch ≤ e.mark) same m.first);
+            last = rw (y, z) (subst (λ (e : Entry). e.mark ≤ w.tds.mig_epochs x) same m.last);
+          }))
+          (λ y. record { exported = rw y m.exported; first = rw y m.first; last = rw y m.last })
+
+      stays : (x : ℕ) → IsExporting sent x → WellStays w sent x
+      stays x e = record {
+        exporting = was x e;
+        session = refl;
+        streams = refl;
+        counter = λ j m. refl;
+        epoch = same_le _;
+        mark = marked x;
+        room = λ room. room;
+        started = λ z. z;
+      }
+
+  -- a state
+  pub state_well : (slot : ℕ) (a : About) (payload : List ℕ) (u : World) → seen u ≡ seen w → IvsHold u → IsExporting u t → ((x : ℕ) → IsExporting u x → IsAlive w.pages w.tds x)
+      → (w.tds.ops t ≢ op.PostExport) → a.stream ≡ 0 → is_state a.kind ≡ true → a.epoch ≡ w.tds.mig_epochs t → WellHolds (make_bundle t slot a payload u)
+  state_well slot a payload u same ivs standing back running zeroth state epoch = made_well t slot a payload u ivs (seen_well w u same h) standing
+      (λ x k j e m n pages. own_pages o w l x t k j (back x e) exporting.alive (subst (λ (z : Seen). k < length (z.streams x)) same m) (subst (λ (z : Seen). j < length (z.streams t)) same n)
+      (subst (λ (z : Seen). get_or (z.streams x) k 0 ≡ get_or (z.streams t) j 0) same pages))
+      (subst (λ (z : Seen). a.stream < length (z.streams t)) (sym same) (let first = l.sessions.first_stream t exporting.standing in omega (arith, first, zeroth)))
+      (λ z. zeroth) (other 6 refl) (λ z. absurd (let no : false ≡ true = (rw (other 4 refl, other 5 refl) at z) in cc))
+      (subst (λ (z : Seen). All (λ c. is_of (z.sessions t) c ≡ true → IsBehind (new_bundle t slot a payload u) c) z.bundles) (sym same)
+      (All-weaker (AgreesWithOwn w t s) (λ c. is_of s c ≡ true → IsBehind (new_bundle t slot a payload u) c)
+      (λ c f e. (let k = f e in record {
+        epoch = omega (arith, k.epoch, epoch);
+        token = λ z. absurd (let no : false ≡ true = (rw (other 4 refl, other 5 refl) at z) in cc);
+        page = λ z. absurd (none 3 refl z);
+        started = λ z. absurd (running (k.started z));
+      })) w.outgoing.bundles says.each))
+      (record { epoch = (let now = ap (λ (z : Seen). z.mig_epochs t) same in omega (arith, epoch, now)); page = λ z. absurd (none 3 refl z); started = λ z. absurd (none 5 refl z) })
+    where
+      other : (n : ℕ) → is_state n ≡ false → (a.kind == n) ≡ false
+      other n off = ne_eqb a.kind n (λ e. let no : true ≡ false = sym state ∙ (ap is_state e ∙ off) in cc)
+
+      none : (n : ℕ) → is_state n ≡ false → a.kind ≡ n → ⊥
+      none n off e = let no : true ≡ false = sym state ∙ (ap is_state e ∙ off) in cc
+
+-- The rows
+
+module _ (o : Opening) (me : ℕ) (w : World) (l : Lawful o.machine w) (i : IvsHold w) (h : WellHolds w) where
+  abbrev After : Call → World
+  After c = (row_of o me c).act w
+
+  unmarked : {A : Type 0} (e : Entry) → is_exported e.state ≡ false → is_exported e.state ≡ true → A
+  unmarked e off on = absurd (let no : true ≡ false = sym on ∙ off in cc)
+
+  -- where nothing is asked of what changes but an entry of one TD
+  entry_numbers : (v : World) (t level n : ℕ) (e : Entry) → v.streams.counters ≡ w.streams.counters → v.tds.mig_epochs ≡ w.tds.mig_epochs → v.tds.ops ≡ w.tds.ops
+      → v.tds.entries ≡ put w.tds.entries t (put_in (w.tds.entries t) level n e) → (is_exported (w.tds.entries t level n).state ≡ true → e.mark ≡ (w.tds.entries t level n).mark) → (x : ℕ) → NumbersStay w v x
+  entry_numbers v t level n e counters epochs ops entries mark x = record {
+    counter = λ k m. ap (λ (f : ℕ → ℕ). f (stream_page w x k)) counters;
+    epoch = ap (λ (f : ℕ → ℕ). f x) epochs;
+    mark = λ j exported. ap (λ (f : ℕ → ℕ → ℕ → Entry). (f x 0 j).mark) entries ∙ marks w t level n e mark x j exported;
+    started = λ z. ap (λ (f : ℕ → OpState). f x) ops ∙ z;
+  }
+
+  numbers : (c : Call) → Passes ((row_of o me c).items w) → output_slot c ≡ None → (x : ℕ) → IsExporting (After c) x → NumbersStay w (After c) x
+  numbers (call.MngCreate t k) ps none x a = by_test (x == t)
+      (λ y. absurd (let no : false ≡ true = rw y at a.standing in cc))
+      (λ y. record { counter = λ j m. refl; epoch = rw y refl; mark = λ n e. rw y refl; started = λ e. rw y e })
+  numbers (call.MngInit t) ps none x a = by_test (x == t)
+      (λ y. absurd (let no : false ≡ true = rw y at a.standing in cc))
+      (λ y. record { counter = λ j m. refl; epoch = refl; mark = λ n e. refl; started = λ e. rw y e })
+  numbers (call.MrFinalize t) ps none x a = by_test (x == t)
+      (λ y. absurd (let no : false ≡ true = rw y at a.standing in cc))
+      (λ y. record { counter = λ j m. refl; epoch = refl; mark = λ n e. refl; started = λ e. rw y e })
+  numbers (call.MemSeptAdd t gpa level page) ps none x a =
+      let rest = behind_walk w t gpa level (state_in w t gpa level (entry.Free ∷ []) ∷ page_exclusive page ∷ host_page w page ∷ []) ps.1.1.1.1.1.1.1.1.1.1 in
+      let e = entry_at w t level gpa in
+      entry_numbers (After (call.MemSeptAdd t gpa level page)) t level (number_at level gpa) _ refl refl refl refl (unmarked e (free_unmarked e.state (free_of e.state rest.0))) x
+  numbers (call.MemSeptRemove t gpa level) ps none x a =
+      let e = entry_at w t level gpa in
+      let q = named_passed w t gpa level (entry.NlBlocked ∷ []) (empty_below w t gpa level ∷ tracked_page w t e.page ∷ []) ps.1.1.1.1 in
+      entry_numbers (After (call.MemSeptRemove t gpa level)) t level (number_at level gpa) _ refl refl refl refl (unmarked e (sept_removed e.state q.state).unmarked) x
+  numbers (call.MemPageAdd t gpa page source) ps none x a =
+      let e = entry_at w t 0 gpa in
+      let rest = behind_walk w t gpa 0 (state_in w t gpa 0 (entry.Free ∷ []) ∷ page_exclusive source ∷ host_page w source ∷ page_exclusive page ∷ host_page w page ∷ []) ps.1.1.1.1.1.1.1.1.1.1.1.1 in
+      entry_numbers (After (call.MemPageAdd t gpa page source)) t 0 (number_at 0 gpa) _ refl refl refl refl (unmarked e (free_unmarked e.state (free_of e.state rest.0))) x
+  numbers (call.MemPageAug t gpa page) ps none x a =
+      let e = entry_at w t 0 gpa in
+      let rest = behind_walk w t gpa 0 (state_in w t gpa 0 (entry.Free ∷ []) ∷ page_exclusive page ∷ host_page w page ∷ []) ps.1.1.1.1.1.1.1.1.1 in
+      entry_numbers (After (call.MemPageAug t gpa page)) t 0 (number_at 0 gpa) _ refl refl refl refl (unmarked e (free_unmarked e.state (free_of e.state rest.0))) x
+  numbers (call.MemPageRemove t gpa) ps none x a =
+      let e = entry_at w t 0 gpa in
+      let q = named_passed w t gpa 0 removed_states (tracked_page w t e.page ∷ []) ps.1.1.1 in
+      entry_numbers (After (call.MemPageRemove t gpa)) t 0 (number_at 0 gpa) _ refl refl refl refl (unmarked e (page_removed e.state q.state).unmarked) x
+  numbers (call.MemRangeBlock t gpa level) ps none x a =
+      let e = entry_at w t level gpa in
+      let q = named_passed w t gpa level open_states [] ps.1.1.1.1 in
+      entry_numbers (After (call.MemRangeBlock t gpa level)) t level (number_at level gpa) _ refl refl refl refl (unmarked e (block_restates e.state q.state).unmarked) x
+  numbers (call.MemRangeUnblock t gpa level) ps none x a =
+      let e = entry_at w t level gpa in
+      let q = named_passed w t gpa level blocked_states (tracked_page w t e.page ∷ []) ps.1.1.1.1 in
+      entry_numbers (After (call.MemRangeUnblock t gpa level)) t level (number_at level gpa) _ refl refl refl refl (unmarked e (unblock_restates e.state q.state).unmarked) x
+  numbers (call.MigStreamCreate t page) ps none x a =
+      let host = host_kind _ ps.1.1.1.1.1.1.1.1.0 in
+      let alive = ((row-beside o me w l (call.MigStreamCreate t page) ps refl).each x a).session.exporting.alive in
+      record {
+        counter = λ k m. by_test (stream_page w x k == page)
+            (λ y. absurd (let no : kind.Migsc ≡ kind.Nda = sym (stream_owned o.machine w l x k alive m).kind ∙ (ap w.pages.kinds (eqb-true (stream_page w x k) page y) ∙ host) in cc))
+            (λ y. rw y refl);
+        epoch = refl;
+        mark = λ n e. refl;
+        started = λ e. e;
+      }
+  numbers (call.ExportBlockw t gpa) ps none x a =
+      entry_numbers (After (call.ExportBlockw t gpa)) t 0 (number_at 0 gpa) (record { state = write_blocked (entry_at w t 0 gpa).state; page = (entry_at w t 0 gpa).page; mark = (entry_at w t 0 gpa).mark }) refl refl refl refl (λ e. refl) x
+  numbers (call.ExportUnblockw t gpa) ps none x a =
+      entry_numbers (After (call.ExportUnblockw t gpa)) t 0 (number_at 0 gpa) (record { state = write_unblocked (entry_at w t 0 gpa).state; page = (entry_at w t 0 gpa).page; mark = (entry_at w t 0 gpa).mark }) refl refl refl refl (λ e. refl) x
+  numbers (call.ExportPause t) ps none x a = record {
+    counter = λ k m. refl;
+    epoch = refl;
+    mark = λ n e. refl;
+    started = λ e. by_test (x == t)
+        (λ y. absurd (never_of op.PostExport live_ops (w.tds.ops t) refl ps.1.1.1.1.0 (ap w.tds.ops (sym (eqb-true x t y)) ∙ e)))
+        (λ y. rw y e);
+  }
+  numbers (call.ExportAbort t) ps none x a = by_test (x == t)
+      (λ y. absurd (let no : false ≡ true = rw y at a.standing in cc))
+      (λ y. record { counter = λ j m. refl; epoch = refl; mark = λ n e. refl; started = λ e. rw y e })
+  numbers (call.ExportRestore t gpa) ps none x a = by_test (x == t)
+      (λ y. absurd (
+      let p = opened_passed w t gpa restoring_ops restored_states ps.1.1.1 in
+      let standing : is_exporting (w.tds.ops t) ≡ true = ap (λ (z : ℕ). is_exporting (w.tds.ops z)) (sym (eqb-true x t y)) ∙ a.standing in
+      never_exporting restoring_ops (w.tds.ops t) (refl, refl, refl) p.op standing))
+      (λ y. record { counter = λ j m. refl; epoch = refl; mark = λ n e. rw y refl; started = λ e. e })
+  numbers (call.ExportStateImmutable t slot) ps none x a = cc
+  numbers (call.ExportMem t gpa k slot) ps none x a = cc
+  numbers (call.ExportTrack t slot start) ps none x a = cc
+  numbers (call.ExportStateTd t slot) ps none x a = cc
+  numbers (call.ExportStateVp t v slot) ps none x a = cc
+  numbers _ ps none x a = record { counter = λ j m. refl; epoch = refl; mark = λ n e. refl; started = λ e. e }
+
+  paused_well : (t slot : ℕ) (a : About) (payload : List ℕ) (u : World) → same_kind (w.pages.kinds t) kind.Tdr ≡ true → list_any (λ b. life_number b == life_number (w.tds.lives t)) (life.KeysConfigured ∷ []) ≡ true
+      → list_any (λ b. op_number b == op_number (w.tds.ops t)) paused_ops ≡ true → seen u ≡ seen w → u.key_table.last_exported ≡ w.key_table.last_exported → a.stream ≡ 0 → is_state a.kind ≡ true → a.epoch ≡ w.tds.mig_epochs t
+      → WellHolds (make_bundle t slot a payload u)
+  paused_well t slot a payload u root life paused same keys zeroth state epoch =
+      let alive = alive_of w t root life in
+      let exporting : IsExporting w t = record { alive = alive; standing = paused_exporting (w.tds.ops t) paused } in
+      state_well o w l i h t exporting slot a payload u same
+      (ivs_stay w u (ap (λ (z : Seen). z.bundles) same) keys
+      (λ x e. session_same w u x (seen_exporting u w (sym same) x e) (λ z. ap (λ (y : Seen). y.ops x) (sym same) ∙ z) (ap (λ (z : Seen). z.sessions x) same) (ap (λ (z : Seen). z.streams x) same)
+      (λ j. let counters = ap (λ (z : Seen). z.counters (stream_page w x j)) same in omega (arith, counters))) i)
+      (seen_exporting w u same t exporting) (λ x e. (seen_exporting u w (sym same) x e).alive)
+      (never_of op.PostExport paused_ops (w.tds.ops t) refl paused) zeroth state epoch
+
+  token_well : (t slot start : ℕ) → Passes ((row_of o me (call.ExportTrack t slot start)).items w) → WellHolds (After (call.ExportTrack t slot start))
+  token_well t slot zero ps =
+      let head = ps.1.1 in
+      let exporting : IsExporting w t = record { alive = alive_of w t head.0 head.1.0; standing = abortable_exporting (w.tds.ops t) head.1.1.1.0 } in
+      epoch_well o w l i h t exporting slot (never_of op.PostExport abortable_ops (w.tds.ops t) refl head.1.1.1.0) (ltb-true _ _ head.1.1.1.1.1.0)
+  token_well t slot (suc n) ps =
+      let head = ps.1.1 in
+      let exporting : IsExporting w t = record { alive = alive_of w t head.0 head.1.0; standing = paused_exporting (w.tds.ops t) head.1.1.1.0 } in
+      start_well o w l i h t exporting slot head.1.1.1.0
+
+  pub row-well : (c : Call) → Passes ((row_of o me c).items w) → WellHolds (After c)
+  row-well (call.ExportStateImmutable t slot) ps =
+      immutable_well o w l i h t slot (alive_of w t ps.1.0 ps.1.1.0) (ltb-true 0 (length (w.tds.streams t)) ps.1.1.1.1.1.0) (length (w.tds.vps t)) (six_words (w.tds.mrtds t))
+  row-well (call.ExportMem t gpa k slot) ps =
+      let head = ps.1.1.1.1 in
+      let exporting : IsExporting w t = record { alive = alive_of w t head.0 head.1.0; standing = abortable_exporting (w.tds.ops t) head.1.1.1.0 } in
+      let e = entry_at w t 0 gpa in
+      let rest = behind_walk w t gpa 0
+      (has_page w t gpa 0 ∷ named_page w t gpa 0 Exclusive ∷ state_in w t gpa 0 (exportable (w.tds.ops t)) ∷ other_epoch w t gpa ∷ page_exclusive (stream_page w t k) ∷ counter_room w t k ∷ tracked_in (w.tds.ops t) w t e.page)
+      head.1.1.1.1.1 in
+      page_well o w l i h t exporting gpa k slot (ltb-true k (length (w.tds.streams t)) head.1.1.1.1.0) (not-true (e.mark == w.tds.mig_epochs t) rest.1.1.0)
+  row-well (call.ExportTrack t slot start) ps = token_well t slot start ps
+  row-well (call.ExportStateTd t slot) ps =
+      paused_well t slot (about 1 (w.tds.mig_epochs t)) (payload_words (w.hidden.rtmrs t) 24) (note_td_export t w) ps.1.0 ps.1.1.0 ps.1.1.1.1.0 refl refl refl refl refl
+  row-well (call.ExportStateVp t p slot) ps =
+      let head = ps.1.1.1 in
+      paused_well t slot (record (about 2 (w.tds.mig_epochs t)) { index = w.vps.indexes p; info = w.vps.positions p % 2 ^ 32 }) (payload_words (w.hidden.registers p) 8) (note_vp_export t p w)
+      head.0 head.1.0 head.1.1.1.0 refl refl refl refl refl
+  row-well c ps = numbers_well w (After c) (row-beside o me w l c ps refl) (numbers c ps refl) h

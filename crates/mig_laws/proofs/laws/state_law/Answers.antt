@@ -1,0 +1,8 @@
+use Rattle.mig_laws.proofs.States.{states_kept, started_have_states}
+use Rattle.mig_laws.proofs.laws.state_law.Goals as goal
+
+pub returns-clause-kept : goal.returns-clause-kept
+returns-clause-kept c = states_kept
+
+pub returns-clause-runs : goal.returns-clause-runs
+returns-clause-runs c = started_have_states

@@ -1,0 +1,70 @@
+-- The law of the image: a TD whose import is committed starts from what its source was at the pause, unless a tag was forged (TD
+-- Migration Architecture, "Migration Session Control").
+use Rattle.std.specs.Prelude.{◌≡◌, ℕ, ◌%◌, ◌^◌, ◌<◌, List, ◌∷◌, ◌++◌, length, Option, Some, Ok, true, false, ◌==◌, ◌&&◌, All, slice_get}
+use Rattle.std.specs.List.{list_any}
+use Rattle.flat_core.specs.World.{World, VpImage, Image, ClearHeader, Made}
+use Rattle.flat_core.specs.Opening.{Opening, Incoming}
+use Rattle.flat_core.specs.Digests.{six_words}
+use Rattle.flat_core.specs.Sessions.{payload_words}
+use Rattle.flat_core.specs.Run.{bundles_in}
+use Rattle.flat_core.specs.Laws.{reached, HoldsInRuns}
+use Rattle.mig_laws.specs.Source.{last_payload}
+use Rattle.mig_laws.specs.Paused.{is_start, image_words}
+use Rattle.mig_laws.specs.WellMade.{is_of, AreWellMade}
+use Rattle.mig_laws.specs.States.{IsStateOf}
+
+-- a bundle with this header and these words is among those that were made, where it stands
+pub record IsMade (h : ClearHeader) (payload : List ℕ) (bundles : List Made) : Type 0 where
+  pub before : List Made
+  pub after : List Made
+  pub bundle : Made
+  pub place : bundles ≡ before ++ bundle ∷ after
+  pub same_header : bundle.header ≡ h
+  pub same_words : bundle.payload ≡ payload
+
+-- No tag is forged: each bundle of types 0 to 5 that comes in and opens was made by the source. One of type 6 goes back to the
+-- source, under another key.
+abbrev pub Unforged : Opening → List Made → Type 0
+Unforged o bundles = (slot : ℕ) (b : Incoming) (h : ClearHeader) → o.bundles slot ≡ Some b → b.header ≡ Ok h → b.«opens» ≡ true → (h.kind == 6) ≡ false → IsMade h b.payload bundles
+
+-- a virtual processor has the other's registers, and in 32 bits its position
+pub record IsVpFrom (old new : VpImage) : Type 0 where
+  pub registers : payload_words new.registers 8 ≡ payload_words old.registers 8
+  pub position : new.position ≡ old.position % 2 ^ 32
+
+-- A TD starts from an image: each page that it was given has the image's words, and MRTD, RTMRs and virtual processors are the
+-- image's.
+pub record StartsFrom (image start : Image) : Type 0 where
+  pub pages : (n : ℕ) (words : List ℕ) → image_words start n ≡ Some words → image_words image n ≡ Some words
+  pub mrtd : six_words start.mrtd ≡ six_words image.mrtd
+  pub rtmrs : payload_words start.rtmrs 24 ≡ payload_words image.rtmrs 24
+  pub as_many : length start.vps ≡ length image.vps
+  pub vps : (i : ℕ) (old new : VpImage) → slice_get image.vps i ≡ Some old → slice_get start.vps i ≡ Some new → IsVpFrom old new
+
+-- from the one that EXPORT.PAUSE noted under its session
+pub record StartsFromPause (source : World) (session : ℕ) (start : Image) : Type 0 where
+  pub image : Image
+  pub noted : source.hidden.paused session ≡ Some image
+  pub from : StartsFrom image start
+
+-- The law, of any two runs: where no bundle that comes into the one is forged, all made by the other, what IMPORT.COMMIT notes
+-- under a session starts from that session's pause.
+abbrev pub ImageLaw : Type 0
+ImageLaw = (q : Opening) (words_to_tell : Option (List ℕ)) (schedule : List ℕ) → let source = reached q words_to_tell schedule in
+    HoldsInRuns (λ o s. Unforged o (bundles_in source) → (session : ℕ) (start : Image) → s.world.hidden.given session ≡ Some start → StartsFromPause source.world session start)
+
+-- What its source's half says
+
+-- a session whose start token comes behind these bundles was paused: their last payload of each page, and each state, is the
+-- image's, and none of the states is missing
+pub record IsStarted (source : World) (session : ℕ) (before : List Made) : Type 0 where
+  pub image : Image
+  pub noted : source.hidden.paused session ≡ Some image
+  pub pages : (n : ℕ) (payload : List ℕ) → last_payload session n before ≡ Some payload → image_words image n ≡ Some payload
+  pub states : All (λ b. is_of session b ≡ true → IsStateOf image b) source.outgoing.bundles
+  pub td : list_any (λ b. is_of session b && b.header.kind == 1) before ≡ true
+  pub vps : (i : ℕ) → i < length image.vps → list_any (λ b. is_of session b && (b.header.kind == 2 && b.header.index == i)) before ≡ true
+
+pub record IsSource (source : World) : Type 0 where
+  pub made : AreWellMade source.outgoing.bundles
+  pub started : (session : ℕ) (before after : List Made) (b : Made) → source.outgoing.bundles ≡ before ++ b ∷ after → is_start session b ≡ true → IsStarted source session before

@@ -1,0 +1,126 @@
+-- The destination's half of the law of the image: what a TD that is being imported has of the bundles that its source made (TD
+-- Migration Architecture, "Migration Session Control"; ABI Reference, "TDH.IMPORT" leaf functions).
+use Rattle.std.specs.Prelude.{◌≡◌, ◌≢◌, ℕ, ◌≤◌, List, ◌∷◌, ◌++◌, length, map, Option, Some, None, option_map, Bool, true, false, ◌==◌, ◌&&◌, All, slice_get}
+use Rattle.std.specs.List.{list_any}
+use Rattle.td_words.specs.declared.names.OpState.{OpState}
+use Rattle.td_words.specs.declared.names.OpState.TheVariants as op
+use Rattle.td_words.specs.declared.names.VcpuState.TheVariants as vcpu
+use Rattle.td_words.specs.declared.calls.Call.{Call}
+use Rattle.flat_core.specs.World.{World, Image, Made}
+use Rattle.flat_core.specs.Opening.{Opening}
+use Rattle.flat_core.specs.Row.{Row, Passes}
+use Rattle.flat_core.specs.Sessions.{payload_words}
+use Rattle.flat_core.specs.Inputs.{word_given}
+use Rattle.flat_core.specs.ImportRows.{import_immutable, import_page, import_token, import_td, import_vp, commit_import, end_import, abort_import, abort_by_token}
+use Rattle.flat_core.specs.Table.{row_of}
+use Rattle.flat_core.specs.Lawful.{IsAlive, Lawful}
+use Rattle.flat_core.specs.Laws.{IsKept, ArePagesKnown}
+use Rattle.flat_core.specs.AccessLaw.{IsGuarded}
+use Rattle.mig_laws.specs.Source.{last_payload, known_words}
+use Rattle.mig_laws.specs.Paused.{is_start}
+use Rattle.mig_laws.specs.WellMade.{is_of, is_token}
+use Rattle.mig_laws.specs.Imported.{is_imported, last_imported, AreImported}
+use Rattle.mig_laws.specs.Image.{Unforged, StartsFromPause, IsSource}
+
+-- an import that has begun, and is neither committed nor given up
+abbrev pub is_filling : OpState → Bool
+is_filling op.MemoryImport = true
+is_filling op.StateImport = true
+is_filling op.PostImport = true
+is_filling _ = false
+
+pub record IsImporting (w : World) (t : ℕ) : Type 0 where
+  pub alive : IsAlive w.pages w.tds t
+  pub standing : is_filling (w.tds.ops t) ≡ true
+
+-- how many bundles of each stream were imported
+abbrev pub counts_of : World → ℕ → List ℕ
+counts_of w t = map w.streams.counters (w.tds.streams t)
+
+-- a page's words, as a payload gives them
+abbrev pub given_words : Option (List ℕ) → Option (List ℕ)
+given_words payload = option_map (λ words. payload_words (word_given words) 512) payload
+
+-- a virtual processor at the index of a bundle of type 2 is READY, with its registers and its position
+pub record IsVpGiven (w : World) (t : ℕ) (b : Made) : Type 0 where
+  pub vp : ℕ
+  pub place : slice_get (w.tds.vps t) b.header.index ≡ Some vp
+  pub ready : w.vps.states vp ≡ vcpu.Ready
+  pub registers : w.hidden.registers vp ≡ word_given b.payload
+  pub position : w.vps.positions vp ≡ b.header.info
+
+-- what an imported bundle has given: that of type 1 the RTMRs, once; one of type 2 the state of a virtual processor
+pub record HasState (w : World) (t : ℕ) (b : Made) : Type 0 where
+  pub td : b.header.kind ≡ 1 → (w.tds.ops t ≢ op.MemoryImport) × (w.hidden.rtmrs t ≡ word_given b.payload)
+  pub vp : b.header.kind ≡ 2 → IsVpGiven w t b
+
+-- the bundle of type 0 that began the session gave MRTD, and said how many virtual processors are expected
+pub record IsBegunBy (w : World) (t : ℕ) (bundles : List Made) : Type 0 where
+  pub before : List Made
+  pub after : List Made
+  pub first : Made
+  pub place : bundles ≡ before ++ first ∷ after
+  pub of_session : is_of (w.tds.sessions t) first ≡ true
+  pub kind : first.header.kind ≡ 0
+  pub mrtd : w.tds.mrtds t ≡ word_given first.payload
+  pub expected : w.tds.vps_expected t ≡ first.header.info
+
+-- all that the session made before its start token was imported, and nothing that came later
+pub record IsComplete (session : ℕ) (counts : List ℕ) (bundles : List Made) : Type 0 where
+  pub before : List Made
+  pub after : List Made
+  pub token : Made
+  pub place : bundles ≡ before ++ token ∷ after
+  pub start : is_start session token ≡ true
+  pub imported : All (λ b. is_of session b ≡ true → is_imported session counts b ≡ true) before
+  pub pages : (n : ℕ) → last_imported session counts n bundles ≡ last_payload session n before
+
+-- a token that was imported begins this migration epoch
+abbrev pub begins_epoch : (session : ℕ) (counts : List ℕ) (epoch : ℕ) → Made → Bool
+begins_epoch s counts epoch b = is_imported s counts b && (is_token b && b.header.epoch == epoch)
+
+-- Of a TD that is being imported: as many bundles of each stream as it has counted were imported, none of a later migration
+-- epoch than it is in, which is the first one or was begun by a token that was imported; each page that it was given has the
+-- last imported payload of that page; MRTD, the number of virtual processors, RTMRs, registers and positions are those that
+-- were imported; and from POST_IMPORT on all up to the start token was.
+pub record ImportHolds (bundles : List Made) (w : World) (t : ℕ) : Type 0 where
+  pub have : AreImported (w.tds.sessions t) (counts_of w t) (w.tds.mig_epochs t) bundles
+  pub tracked : w.tds.mig_epochs t ≢ 1 → list_any (begins_epoch (w.tds.sessions t) (counts_of w t) (w.tds.mig_epochs t)) bundles ≡ true
+  pub pages : (n : ℕ) → known_words w t n ≡ given_words (last_imported (w.tds.sessions t) (counts_of w t) n bundles)
+  pub begun : IsBegunBy w t bundles
+  pub states : All (λ b. is_imported (w.tds.sessions t) (counts_of w t) b ≡ true → HasState w t b) bundles
+  pub few : length (w.tds.vps t) ≤ w.tds.vps_expected t
+  pub complete : w.tds.ops t ≡ op.PostImport → IsComplete (w.tds.sessions t) (counts_of w t) bundles
+
+-- What a destination keeps of one source: so it is of each TD that is being imported; the guest of one that is UNINITIALIZED
+-- knows no page; and what was committed under a session starts from its pause.
+pub record DestinationHolds (source w : World) : Type 0 where
+  pub imports : (t : ℕ) → IsImporting w t → ImportHolds source.outgoing.bundles w t
+  pub empty : (t : ℕ) → IsAlive w.pages w.tds t → w.tds.ops t ≡ op.Uninitialized → (n : ℕ) → w.hidden.memories t n ≡ None
+  pub given : (session : ℕ) (start : Image) → w.hidden.given session ≡ Some start → StartsFromPause source session start
+
+-- a row whose act keeps it, where its conditions held
+abbrev pub KeepsDestination : (source : World) → Opening → Row → Type 0
+KeepsDestination source o row = (w : World) → Lawful o.machine w → DestinationHolds source w → Passes (row.items w) → DestinationHolds source (row.act w)
+
+-- So does each row of an import, where no tag is forged; IMPORT.COMMIT notes what the TD starts with.
+pub record ImportRowsKeepIt (source : World) (o : Opening) : Type 0 where
+  pub immutable : (tdr slot : ℕ) → KeepsDestination source o (import_immutable o.machine (o.bundles slot) tdr slot)
+  pub page : (tdr slot page : ℕ) → KeepsDestination source o (import_page o.machine (o.bundles slot) tdr slot page)
+  pub token : (tdr slot : ℕ) → KeepsDestination source o (import_token o.machine (o.bundles slot) tdr slot)
+  pub td : (tdr slot : ℕ) → KeepsDestination source o (import_td o.machine (o.bundles slot) tdr slot)
+  pub vp : (tdr vp slot : ℕ) → KeepsDestination source o (import_vp o.machine (o.bundles slot) tdr vp slot)
+  pub commit : (tdr : ℕ) → KeepsDestination source o (commit_import o.machine tdr)
+  pub finish : (tdr : ℕ) → KeepsDestination source o (end_import o.machine tdr)
+  pub abort : (tdr slot : ℕ) → KeepsDestination source o (abort_import o.machine tdr slot)
+  pub export_abort : (tdr slot : ℕ) → KeepsDestination source o (abort_by_token o.machine (o.bundles slot) tdr slot)
+
+abbrev pub ImportsKeepTheImage : Type 0
+ImportsKeepTheImage = (source : World) (o : Opening) → IsSource source → Unforged o source.outgoing.bundles → ImportRowsKeepIt source o
+
+-- So does each row of the leaf table, and each event of guests beside it: of a TD that is being imported no guest runs.
+abbrev pub CallsKeepTheImage : Type 0
+CallsKeepTheImage = (source : World) (o : Opening) (me : ℕ) (c : Call) → KeepsDestination source o (row_of o me c)
+
+abbrev pub EventsKeepTheImage : Type 0
+EventsKeepTheImage = (source : World) → IsKept (λ o s. (IsGuarded o s × ArePagesKnown s.world) × DestinationHolds source s.world)

@@ -1,0 +1,9 @@
+pub mod Ivs
+pub mod Source
+pub mod Paused
+pub mod WellMade
+pub mod States
+pub mod Imported
+pub mod Image
+pub mod Imports
+pub mod Started
