@@ -13,4 +13,4 @@ mod seals;
 
 pub use containers::container_of;
 pub use laws::bundles_read_again;
-pub use seals::seal;
+pub use seals::{iv_of, key_of, seal};

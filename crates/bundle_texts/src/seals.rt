@@ -59,7 +59,7 @@ fn bytes_of(alloc: Global, words: &[u64]) -> Result<Vec<u8>, AllocError>
 }
 
 /// The IV of a bundle with that header.
-fn iv_of(header: &Header) -> [u8; 12]
+pub fn iv_of(header: &Header) -> [u8; 12]
     ensures { result ≡ iv_bytes (clear_header header.now) }
 {
     let [stream, _] = header.stream.to_le_bytes();
@@ -69,7 +69,7 @@ fn iv_of(header: &Header) -> [u8; 12]
 }
 
 /// The key for a bundle with that header.
-fn key_of<'a>(keys: &'a Keys, header: &Header) -> &'a Aes256
+pub fn key_of<'a>(keys: &'a Keys, header: &Header) -> &'a Aes256
     ensures { (forward backward : List ℕ) → HoldKeys keys.now forward backward → HasKey result.now (key_of forward backward (clear_header header.now)) }
 {
     if header.kind == BundleKind::AbortToken as u8 {

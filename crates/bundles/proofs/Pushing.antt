@@ -10,12 +10,12 @@ use Rattle.bundles.specs.Stores.{made_of, StandsWithin, StandWithin}
 use Rattle.bundles.specs.declared.stores.Kept.{Kept}
 
 -- a part of a list to which more is added
-part-stays : (words more : List ℕ) (from to : ℕ) → from ≤ to → to ≤ length words → slice_range (words ++ more) from to ≡ slice_range words from to
+pub part-stays : (words more : List ℕ) (from to : ℕ) → from ≤ to → to ≤ length words → slice_range (words ++ more) from to ≡ slice_range words from to
 part-stays words more from to order inside =
     ap (take (to - from)) (drop-append-le from words more (omega (arith, order, inside)))
     ∙ take-append-le (to - from) (drop from words) more (let n = length-drop from words in omega (arith, order, inside, n))
 
-part-added : (words more : List ℕ) → slice_range (words ++ more) (length words) (length words + length more) ≡ more
+pub part-added : (words more : List ℕ) → slice_range (words ++ more) (length words) (length words + length more) ≡ more
 part-added words more =
     let long : length words + length more - length words ≡ length more = omega arith in
     (λ i. take (long i) (drop-append_seam words more i)) ∙ take-length more

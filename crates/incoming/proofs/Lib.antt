@@ -1,0 +1,5 @@
+pub mod Words
+pub mod Sealed
+pub mod Pushing
+pub mod Found
+pub mod Opening

@@ -1,0 +1,17 @@
+-- A bundle that was sealed comes in as it was made.
+use Rattle.std.specs.Prelude.{◌≡◌, ◌<◌, ◌^◌, ℕ, List, length, Ok, true, All}
+use Rattle.flat_core.specs.World.{Made}
+use Rattle.flat_core.specs.Digests.{digest_bytes as word_bytes}
+use Rattle.bundle_format.specs.Headers.{is_lawful, payload_length}
+use Rattle.bundle_texts.specs.Sealed.{with_tag, tag_of, sealed_bytes}
+use Rattle.incoming.specs.Opened.{opened}
+
+-- a bundle whose header is lawful, with the payload that its kind wants, and words of 64 bits
+pub record IsWhole (forward backward : List ℕ) (m : Made) : Type 0 where
+  pub lawful : is_lawful (with_tag (tag_of forward backward m) m.header) ≡ true
+  pub whole : length (word_bytes m.payload) ≡ payload_length (with_tag (tag_of forward backward m) m.header)
+  pub words : All (λ w. w < 2 ^ 64) m.payload
+
+abbrev pub SealedComesIn : Type 0
+SealedComesIn = (forward backward : List ℕ) (m : Made) → IsWhole forward backward m
+    → opened forward backward (sealed_bytes forward backward m) ≡ record { header = Ok m.header; opens = true; payload = m.payload }

@@ -1,0 +1,3 @@
+pub mod Opened
+pub mod Arrivals
+pub mod Laws
