@@ -1,0 +1,9 @@
+pub mod CommitTrees
+pub mod CommitMeanings
+pub mod AbortTrees
+pub mod AbortMeanings
+pub mod TokenAbortTrees
+pub mod TokenAbortMeanings
+pub mod TokenTrees
+pub mod TokenShows
+pub mod TokenMeanings

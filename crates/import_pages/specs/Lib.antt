@@ -1,0 +1,4 @@
+pub mod PageImportTrees
+pub mod PageImportStages
+pub mod PageImportShows
+pub mod PageImportMeanings

@@ -1,0 +1,4 @@
+pub mod AloneMeans
+pub mod OpMeans
+pub mod InputMeans
+pub mod WordPuts

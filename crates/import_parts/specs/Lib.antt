@@ -1,0 +1,3 @@
+pub mod AloneTrees
+pub mod InputTrees
+pub mod WordPuts

@@ -1,0 +1,17 @@
+use Rattle.std.proofs.Common.{rules, ◌≡◌, ℕ, ◌+◌, ◌-◌, ◌≤◌, List, [], ◌∷◌, arith}
+use Rattle.td_words.specs.Place as place
+use Rattle.flat_core.specs.Inputs.{Input, input_in}
+use Rattle.leaf_engine.specs.Changes.{Change, Put}
+use Rattle.import_parts.specs.WordPuts.{put_words}
+use Rattle.import_states.proofs.Asked.{hands-past}
+use Rattle.import_states.proofs.tds.td_write.Goals as goal
+
+pub returns-in_default-clause-hands : goal.returns-in_default-clause-hands
+returns-in_default-clause-hands c =
+    let x : Input = input_in c.args.input.now in
+    let n : ℕ = c.args.number in
+    let d : ℕ = c.args.begun.tdcs in
+    let more : 3 ≤ c.args.number = search rules in
+    let is : c.args.number ≡ 3 + (c.args.number - 3) = omega (arith, more) in
+    let first : List Change = Put (place.Word d 16) (x.words 0) ∷ Put (place.Word d 4) 7 ∷ Put (place.Word c.args.begun.page 0) (x.header.counter + 1) ∷ [] in
+    hands-past c.args.machine first (put_words d 16 x.words 1 23) n (n - 3) c.args._hand.now c.args._hand.now c.write.result is (c.write.ensures.hands c.args._hand.now)

@@ -1,0 +1,9 @@
+pub mod VpImportTrees
+pub mod VpImportShows
+pub mod VpImportMeanings
+pub mod BeginImportTrees
+pub mod BeginImportShows
+pub mod BeginImportMeanings
+pub mod TdImportTrees
+pub mod TdImportShows
+pub mod TdImportMeanings
