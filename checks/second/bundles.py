@@ -1,5 +1,6 @@
 """Bundles and containers of docs/profile.md."""
 
+import functools
 import struct
 from collections import namedtuple
 
@@ -78,8 +79,9 @@ def iv_of(header):
     return struct.pack("<BBHQ", header.stream, 0, header.session, header.iv)
 
 
+@functools.lru_cache(1024)
 def seal(keys, header, payload):
-    """The bundle with that header and payload."""
+    """The bundle with that header and payload. Runs of one script seal the same ones."""
     start = LAYOUT.pack(*header)
     sealed, tag = gcm.seal(key_of(keys, header.type), iv_of(header), payload, start)
     return start + tag + sealed

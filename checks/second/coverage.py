@@ -30,9 +30,11 @@ def states(*names):
     return tuple(f"EPT_ENTRY_STATE_INCORRECT {name}" for name in names)
 
 
+EXPORTED = states("EXPORTED_BLOCKEDW", "EXPORTED_DIRTY", "EXPORTED_DIRTY_BLOCKEDW")
+
 # By call, and by field for MNG.RD: which of its tries can be denied, and its other refusals. Where O is
-# held exclusively T can't be busy. A TD that runs has no VCPU in CREATED, since nothing is imported; no page is
-# exported, so none is dirty or unrestored; and no script has calls enough for the last value of a counter.
+# held exclusively T can't be busy. A TD that runs has no VCPU in CREATED, since nothing is imported; and no script
+# has calls enough for the last value of a counter.
 REFUSALS = {
     "HOST.READ": ((1,), ()),
     "HOST.WRITE": ((1,), ("NOT_HOST",)),
@@ -63,7 +65,8 @@ REFUSALS = {
     ),
     "MEM.PAGE.AUG": (
         (1, 2, 3, 4),
-        (*EARLY, PAUSED, POST, *WALKS, THIRD, *states("MAPPED", "PENDING", "BLOCKED", "PENDING_BLOCKED", "BLOCKEDW")),
+        (*EARLY, PAUSED, POST, *WALKS, THIRD, *states("MAPPED", "PENDING", "BLOCKED", "PENDING_BLOCKED", "BLOCKEDW"),
+         *EXPORTED),
     ),
     "VP.ENTER": (
         (1, 2, 3, 4),
@@ -78,25 +81,35 @@ REFUSALS = {
         (*EARLY, *SESSION, *WALKS[:2], *states("FREE", "NL_MAPPED"), "SEPT_NOT_EMPTY", "TLB_TRACKING_NOT_DONE"),
     ),
     "MEM.PAGE.REMOVE": (
-        (1, 2, 3, 4, 5), (*EARLY, *SESSION, *WALKS, *states("FREE", "MAPPED", "PENDING", "BLOCKEDW"), "TLB_TRACKING_NOT_DONE")
+        (1, 2, 3, 4, 5),
+        (*EARLY, *SESSION, *WALKS, *states("FREE", "MAPPED", "PENDING", "BLOCKEDW"), *EXPORTED, "TLB_TRACKING_NOT_DONE"),
     ),
     "MEM.RANGE.BLOCK": (
-        (1, 2, 3, 4, 5), (*EARLY, *SESSION, *WALKS, *states("FREE", "BLOCKED", "PENDING_BLOCKED", "NL_BLOCKED", "BLOCKEDW"))
+        (1, 2, 3, 4, 5),
+        (*EARLY, *SESSION, *WALKS, *states("FREE", "BLOCKED", "PENDING_BLOCKED", "NL_BLOCKED", "BLOCKEDW"), *EXPORTED),
     ),
     "MEM.RANGE.UNBLOCK": (
         (1, 2, 3, 4, 5),
-        (*EARLY, *SESSION, *WALKS, *states("FREE", "MAPPED", "PENDING", "NL_MAPPED", "BLOCKEDW"), "TLB_TRACKING_NOT_DONE"),
+        (*EARLY, *SESSION, *WALKS, *states("FREE", "MAPPED", "PENDING", "NL_MAPPED", "BLOCKEDW"), *EXPORTED,
+         "TLB_TRACKING_NOT_DONE"),
     ),
     "MEM.TRACK": ((1, 2, 3), (*EARLY, PAUSED, POST, "PREVIOUS_TLB_EPOCH_BUSY")),
     "MIG.STREAM.CREATE": ((1, 2, 3), (*HEAD, *SESSION, SECOND, "LIMIT STREAMS")),
-    "EXPORT.STATE.IMMUTABLE": ((1, 2, 3), (*EARLY, *SESSION, "NO_STREAM 0")),
+    "EXPORT.STATE.IMMUTABLE": ((1, 2, 3), (*EARLY, *SESSION, "NO_STREAM 0", "UNRESTORED_PAGES")),
     "EXPORT.BLOCKW": (
-        (1, 2, 3, 4, 5), (*EARLY, RUNNABLE, PAUSED, POST, *WALKS, *states("FREE", "PENDING", "BLOCKED", "BLOCKEDW"))
+        (1, 2, 3, 4, 5),
+        (*EARLY, RUNNABLE, PAUSED, POST, *WALKS, *states("FREE", "PENDING", "BLOCKED", "BLOCKEDW"), EXPORTED[0], EXPORTED[2]),
     ),
     "EXPORT.UNBLOCKW": (
-        (1, 2, 3, 4), (*EARLY, RUNNABLE, PAUSED, POST, *WALKS, *states("FREE", "MAPPED", "PENDING", "BLOCKED"))
+        (1, 2, 3, 4), (*EARLY, RUNNABLE, PAUSED, POST, *WALKS, *states("FREE", "MAPPED", "PENDING", "BLOCKED"), EXPORTED[1])
     ),
-    "EXPORT.TRACK": ((1, 2), (*EARLY, RUNNABLE, LIVE, POST, "STATE_MISSING")),
+    "EXPORT.MEM": (
+        (1, 2, 3, 4, 5, 6),
+        (*EARLY, RUNNABLE, POST, "NO_STREAM 1", "NO_STREAM 2", "NO_STREAM 3", *WALKS,
+         *states("FREE", "MAPPED", "PENDING", "BLOCKED", "PENDING_BLOCKED"), *EXPORTED[:2], "EXPORTED_THIS_EPOCH",
+         "TLB_TRACKING_NOT_DONE"),
+    ),
+    "EXPORT.TRACK": ((1, 2), (*EARLY, RUNNABLE, LIVE, POST, "STATE_MISSING", "DIRTY_PAGES")),
     "EXPORT.PAUSE": ((1, 2), (*EARLY, RUNNABLE, PAUSED, POST)),
     "EXPORT.STATE.TD": ((1, 2), (*EARLY, RUNNABLE, LIVE, POST, "ALREADY_EXPORTED")),
     "EXPORT.STATE.VP": ((1, 2, 3), (*EARLY, RUNNABLE, LIVE, POST, SECOND, "ALREADY_EXPORTED")),
@@ -108,7 +121,7 @@ REFUSALS = {
 }
 SHOWN_WITHOUT_NUMBER = (
     "SUCCESS", "PAGES_EXIST", "FLUSHVP_NOT_DONE", "VCPU_ASSOCIATED", "PREVIOUS_TLB_EPOCH_BUSY", "SEPT_NOT_EMPTY",
-    "STATE_MISSING",
+    "STATE_MISSING", "DIRTY_PAGES", "UNRESTORED_PAGES",
 )
 
 # What can come of each guest operation. A private access is decided by a cached translation or by a walk.
@@ -145,10 +158,22 @@ BLOCKING = {
     "accept": BLOCKED_WAYS,
 }
 # What a guest meets only where an export can begin, and the bundles that are made then.
+OPEN, CLOSED = ("MAPPED", "EXPORTED_DIRTY"), ("BLOCKEDW", "EXPORTED_DIRTY_BLOCKEDW")
 EXPORTING = {
-    "store private": ("EPT_VIOLATION at BLOCKEDW",),
-    "accept": ("completed at BLOCKEDW",),
-    "bundles": tuple(f"made of type {kind}" for kind in (0, 1, 2, 4, 5)),
+    "store private": (
+        *(f"EPT_VIOLATION at {state}" for state in ("BLOCKEDW", "EXPORTED_BLOCKEDW", "EXPORTED_DIRTY_BLOCKEDW")),
+        "completed by a translation of an entry blocked for writing", "completed by a walk with a block for writing behind it",
+    ),
+    "accept": ("completed at BLOCKEDW", "completed at EXPORTED_BLOCKEDW", "completed at EXPORTED_DIRTY"),
+    "bundles": tuple(f"made of type {kind}" for kind in range(6)),
+    # At which state of an entry these calls succeed, and in which op state.
+    "EXPORT.BLOCKW": tuple(f"SUCCESS at {state} in LIVE_EXPORT" for state in OPEN),
+    "EXPORT.UNBLOCKW": tuple(f"SUCCESS at {state} in LIVE_EXPORT" for state in (*CLOSED, "EXPORTED_BLOCKEDW")),
+    "EXPORT.MEM": (
+        *(f"SUCCESS at {state} in LIVE_EXPORT" for state in CLOSED),
+        *(f"SUCCESS at {state} in PAUSED_EXPORT" for state in (*OPEN, *CLOSED)),
+    ),
+    "EXPORT.RESTORE": tuple(f"SUCCESS at {state} in RUNNABLE" for state in (*CLOSED, "EXPORTED_BLOCKEDW", "EXPORTED_DIRTY")),
 }
 # Beside which guests of the TD memory is blocked and taken, and why a block isn't tracked.
 BESIDES = ("SUCCESS without a guest", "SUCCESS beside a guest")
@@ -162,6 +187,7 @@ BESIDE_GUESTS = {
     "MEM.RANGE.UNBLOCK": TAKING,
     "MEM.PAGE.REMOVE": TAKING,
     "MEM.SEPT.REMOVE": TAKING,
+    "EXPORT.MEM": TAKING,
     "MEM.TRACK": BESIDES,
     # What is cached of a TD on a processor. None that was removed is kept: no page leaves a TD before that.
     "translations": (

@@ -86,13 +86,27 @@ def encrypted(key, block):
     return struct.pack(">4I", *(word ^ its for word, its in zip(last, words[4 * ROUNDS :])))
 
 
+@functools.lru_cache(64)
+def byte_products(second):
+    """The products, in the field of GHASH, of that block and each block that has one byte alone: by the byte's place
+    and by the byte."""
+    tables = []
+    for _ in range(16):
+        table = [0] * 256
+        for bit in (128, 64, 32, 16, 8, 4, 2, 1):
+            table[bit] = second
+            second = second >> 1 ^ (POLYNOMIAL if second & 1 else 0)
+        for byte in range(1, 256):
+            table[byte] = table[byte & -byte] ^ table[byte & byte - 1]
+        tables.append(table)
+    return tables
+
+
 def product(first, second):
     """The product of two blocks in the field of GHASH."""
     made = 0
-    for bit in range(127, -1, -1):
-        if first >> bit & 1:
-            made ^= second
-        second = second >> 1 ^ (POLYNOMIAL if second & 1 else 0)
+    for table, byte in zip(byte_products(second), first.to_bytes(16, "big")):
+        made ^= table[byte]
     return made
 
 

@@ -1,14 +1,14 @@
 """Random machines, scripts and schedules. A case is what its seed and its place say, and nothing else.
 
-A *story* tells lives of TDs, with other calls between them. A *race* has a TD somewhere in its life, and
-processors that call for the same pages and locks at once. A *crowd* has a TD that runs, processors that enter
-its VCPUs, and others that give it pages, block, track and remove them meanwhile. A *meeting* changes a map under a
-guest that is just on its way, or lets guests in at once, as it comes rarely in a crowd. A *noise* has calls without
-any order. A *session* exports a TD as far as calls go, and tries all calls in one of its states; others enter its
-VCPUs meanwhile. Faulty scripts are one of these with bad lines put in. Last there are scripts at a limit of the
-grammar, and command lines that name no script. What comes rarely by chance, as a race for one call, comes in
-turn. Calls that the program doesn't have stand in UNBUILT, and come in faulty scripts alone. Most scripts come
-with a secrets file and a key file, a few of these with a bad one.
+A *story* tells lives of TDs, with other calls between them. A *race* has a TD somewhere in its life, and processors
+that call for the same pages and locks at once. A *crowd* has a TD that runs, processors that enter its VCPUs, and
+others that give it pages, block, track and remove them meanwhile. A *meeting* changes a map under a guest that is
+just on its way, exports its page, or lets guests in at once, as it comes rarely in a crowd. A *noise* has calls
+without any order. A *session* exports a TD as far as calls go, and tries all calls in one of its states; others
+enter its VCPUs meanwhile. Faulty scripts are one of these with bad lines put in. Last there are scripts at a limit
+of the grammar, and command lines that name no script. What comes rarely by chance, as a race for one call, comes in
+turn. Calls that the program doesn't have stand in UNBUILT, and come in faulty scripts alone. Most scripts come with
+a secrets file and a key file, a few of these with a bad one.
 
 A call that makes a bundle has the word SLOT in the place of its slot until its script is whole (`with_slots`).
 """
@@ -38,7 +38,7 @@ LEAVING = ("EXPORT.PAUSE", "EXPORT.ABORT")
 DEEP = (
     "MR.EXTEND", "MEM.SEPT.ADD", "MEM.SEPT.RD", "MEM.PAGE.ADD", "MEM.PAGE.AUG", "VP.ENTER", "VP.FLUSH",
     "MEM.SEPT.REMOVE", "MEM.PAGE.REMOVE", "MEM.RANGE.BLOCK", "MEM.RANGE.UNBLOCK", "EXPORT.RESTORE", "EXPORT.BLOCKW",
-    "EXPORT.UNBLOCKW",
+    "EXPORT.UNBLOCKW", "EXPORT.MEM",
 )
 
 # Calls on a VCPU of a TD, which is their second argument.
@@ -93,7 +93,8 @@ class Life:
             return pages
         gpa, level = int(words[1], 0), int(words[2]) if "level" in BUILT[name][-1] else 0
         if level == 0:
-            return [self.page_at(gpa - gpa % PAGE_BYTES)]
+            streams = self.streams[int(words[2]) :][:1] if "stream" in BUILT[name] else []
+            return [self.page_at(gpa - gpa % PAGE_BYTES), *streams]
         return self.spare if gpa > self.gpa else [self.tables[3 - level]]
 
     def build(self, chance, source):
@@ -150,15 +151,26 @@ class Life:
         return [*added, *calls, f"{name} {self.td} {gpa} {level}", *again]
 
     def live(self, chance):
-        """What is done while an export begins: writes are blocked and allowed, and epochs begin."""
+        """What is done while an export begins: writes are blocked and allowed, pages are exported, and epochs begin."""
         gpas = self.gpas() or [self.gpa]
         calls = [f"EXPORT.BLOCKW {self.td} {chance.choice(gpas)}"] * chance.choice((0, 1))
         for _ in range(chance.choice((1, 3, 5))):
             gpa = chance.choice(gpas)
             blocks, again = (f"EXPORT.{name} {self.td} {gpa}" for name in ("BLOCKW", "UNBLOCKW"))
-            rounds = ([blocks], [blocks, again], self.tracking(chance), self.entries(chance), [self.token(0)])
+            exports = [blocks, *self.tracking(chance), self.memory(chance, gpa)]
+            rounds = ([blocks], [blocks, again], self.tracking(chance), self.entries(chance), [self.token(0)],
+                      exports, [*exports, again], [*exports, again, blocks], [*exports, again, self.token(0), *exports])
             calls += chance.choice(rounds)
         return calls
+
+    def memory(self, chance, gpa):
+        """The export of a private page, on a stream that it has in most cases."""
+        few = len(self.streams) if self.streams and chance.random() < 0.9 else 4
+        return f"EXPORT.MEM {self.td} {gpa} {chance.randrange(few)} SLOT"
+
+    def rest(self, chance):
+        """The export of each private page, in an epoch in which none was exported, or not."""
+        return [self.token(0)] * chance.choice((0, 1, 1)) + [self.memory(chance, gpa) for gpa in self.gpas()]
 
     def token(self, starts):
         """An epoch token, or the start token."""
@@ -174,16 +186,20 @@ class Life:
 
     def export(self, chance, starts):
         """The calls of an export from its first bundle on, in three parts: while it is live, from its pause on, and its
-        end: the start token, or an abort with what it leaves to be done, and perhaps a further export."""
-        live = [f"EXPORT.STATE.IMMUTABLE {self.td} SLOT", *self.live(chance)]
-        paused = [f"EXPORT.PAUSE {self.td}", *self.states(chance, starts)]
+        end: the start token, before which pages may be left dirty for once, or an abort with what it leaves to be done,
+        and perhaps a further export."""
+        begins = f"EXPORT.STATE.IMMUTABLE {self.td} SLOT"
+        live = [begins, *self.live(chance)]
+        paused = [f"EXPORT.PAUSE {self.td}", *riffle(chance, self.rest(chance), self.states(chance, starts))]
         if starts:
-            return live, paused, [self.token(1)]
-        gpa = chance.choice(self.gpas() or [self.gpa])
-        left = [f"MEM.RANGE.BLOCK {self.td} {gpa} 0", f"MEM.RANGE.UNBLOCK {self.td} {gpa} 0", f"MEM.PAGE.REMOVE {self.td} {gpa}"]
+            late = chance.random() < 0.3
+            paused = [call for call in paused if not late or not call.startswith("EXPORT.MEM")]
+            return live, paused, [self.token(1), self.token(0), *self.rest(chance)] * late + [self.token(1)]
+        names = (("MEM.RANGE.BLOCK", " 0"), ("MEM.RANGE.UNBLOCK", " 0"), ("MEM.PAGE.REMOVE", ""))
+        left = [f"{name} {self.td} {gpa}{level}" for gpa in self.gpas() or [self.gpa] for name, level in names]
         restores = [f"EXPORT.RESTORE {self.td} {gpa}" for gpa in self.gpas()]
         again = [call for part in self.export(chance, chance.random() < 0.5) for call in part]
-        others = left * chance.choice((0, 1)) + restores + again * chance.choice((0, 1))
+        others = left * chance.choice((0, 1, 1)) + [begins] * chance.choice((0, 0, 1)) + restores + again * chance.choice((0, 1))
         return live, paused, [self.token(1)] * chance.choice((0, 1)) + [f"EXPORT.ABORT {self.td}", *others]
 
     def export_round(self, chance):
@@ -298,6 +314,8 @@ class Scene:
             return chance.choice((1, 2, 10, 65_535))
         if kind == "output":
             return "SLOT"
+        if kind == "stream":
+            return chance.choice((0, 0, 1, 2, 3))
         ranges = {"level": range(4), "upper level": range(1, 4), "value": range(1 << 16), "start": range(2)}
         return chance.choice(ranges[kind])
 
@@ -327,6 +345,7 @@ class Scene:
             "value": ((1 << 64) - 1,),
             "field": FIELDS,
             "start": (1, 2),
+            "stream": (3, 4),
         }
         places = [place for place, kind in enumerate(kinds) if kind != "output"]
         for place in chance.sample(places, chance.choice((1, 1, 1, min(2, len(places))))):
@@ -397,13 +416,13 @@ def race(chance, scene, turn):
     life = scene.lives[0]
     visit, due = divmod(turn, len(BUILT))
     name, answered = tuple(BUILT)[due], []
-    if name.startswith("EXPORT") and not life.streams and len(scene.host) > 4:
-        life.streams = [scene.host.pop()]
+    if name.startswith("EXPORT"):
+        give_stream(scene, life)
     for _ in range(20):
         if not answered:
             whole = life.build(chance, scene.host[-1]) + life.run(chance) + life.end(chance)
             answered = places_of(scene, whole, name)
-    at = chance.choice(answered or range(len(whole)))
+    at = chance.choice(answered[:1] if name == "EXPORT.MEM" and answered else answered or range(len(whole)))
     name = whole[at].split()[0]
     pages = life.pages_of(whole[at])
     targets = [*pages, life.td, "E", "T", "O", "K", *pages]
@@ -418,6 +437,8 @@ def race(chance, scene, turn):
         again = [blocks, whole[at]] * 12
         if name == "EXPORT.RESTORE":
             again = [f"EXPORT.STATE.IMMUTABLE {life.td} SLOT", blocks, f"EXPORT.ABORT {life.td}", whole[at]] * 6
+    if name == "EXPORT.MEM":
+        again = [call for _ in range(5) for call in again_exported(chance, life, whole[at])]
     blocks = [whole[: at + 1] + again]
     for _ in range(scene.lps - 1):
         calls = [chance.choice((whole[at], scene.call(name, life, False))) for _ in range(chance.randrange(4))]
@@ -425,6 +446,23 @@ def race(chance, scene, turn):
         blocks.append([first, *riffle(chance, calls, rivals)])
     meeting = [(0, exact_events(scene, whole[:at])), (1, events), (0, 12)]
     return blocks, meeting + bursts(chance, range(scene.lps), 150 * scene.lps)
+
+
+def give_stream(scene, life):
+    """Gives a life a stream, where it has none and the host has pages."""
+    if not life.streams and len(scene.host) > 4:
+        life.streams = [scene.host.pop()]
+
+
+def again_exported(chance, life, call):
+    """What lets the first export of a page be made once more, in a further session, live or paused. At the end of the one
+    before, the page may be dirty, and is neither unblocked nor removed before it is restored."""
+    td, gpa = call.split()[1:3]
+    blocks, again = (f"EXPORT.{name} {td} {gpa}" for name in ("BLOCKW", "UNBLOCKW"))
+    left = [f"MEM.RANGE.UNBLOCK {td} {gpa} 0", f"MEM.PAGE.REMOVE {td} {gpa}"]
+    ends = [*chance.choice(([], [again], [again, blocks])), f"EXPORT.ABORT {td}", *left]
+    begins = [f"EXPORT.RESTORE {td} {gpa}", f"EXPORT.STATE.IMMUTABLE {td} SLOT"]
+    return [*ends, *begins, *chance.choice(([blocks, f"MEM.TRACK {td}"], [f"EXPORT.PAUSE {td}"])), call]
 
 
 def places_of(scene, calls, name):
@@ -555,11 +593,12 @@ class Meeting:
         return f"{self.ranged('MEM.SEPT.ADD', self.beyond, 1)} {self.life.spare[0]}"
 
     def blocks_under_a_walk(self):
-        """An entry of any level is blocked under a walk or behind it; nothing is taken back or removed under it."""
+        """An entry of any level is blocked just behind a walk, or anywhere under it or behind it; nothing is taken back or
+        removed under it."""
         level = self.chance.choice((0, 0, 1, 2, 3))
         last = self.ranged("MEM.RANGE.UNBLOCK", self.life.gpa, level)
         self.meanwhile = [*self.block(self.life.gpa, level), last, f"MEM.TRACK {self.life.td}"]
-        self.events = self.chance.randint(max(1, 4 - level), 5)
+        self.events = (4, self.chance.randint(max(1, 4 - level), 5))[self.visit // 2 % 2]
 
     def makes_the_way(self):
         """What is missing is added under a walk, by the host and by a second guest."""
@@ -626,10 +665,38 @@ class Meeting:
         self.events = 5 + 4 + 6 + 5 + 4
 
 
+    def stores(self):
+        """Lets lists begin with stores to one page; answers the beginning of an export."""
+        for index in (0, 1):
+            begins(self.scene, self.life, index, [f"store {self.chance.randrange(8)} {self.life.gpa:#x}"] * 3)
+        return [f"EXPORT.STATE.IMMUTABLE {self.life.td} SLOT"]
+
+    def exported(self):
+        """The export of the page that is stored to."""
+        return f"EXPORT.MEM {self.life.td} {self.life.gpa} 0 SLOT"
+
+    def blocks_writes_under_a_walk(self):
+        """A page is blocked for writing under the walk of a store or behind it, and can't be exported before the guest
+        has left."""
+        self.before = self.stores()
+        self.meanwhile = [self.ranged("EXPORT.BLOCKW", self.life.gpa), f"MEM.TRACK {self.life.td}", self.exported()]
+        self.events = (4, 5, 3)[self.visit % 3]
+
+    def exports_a_page(self):
+        """A page is exported beside a guest that entered behind the tracking, perhaps before the next one; then writes
+        may be allowed again, and blocked once more. A second guest accepts it."""
+        blocks, again = (self.ranged(f"EXPORT.{name}", self.life.gpa) for name in ("BLOCKW", "UNBLOCKW"))
+        self.before = [*self.stores(), blocks, f"MEM.TRACK {self.life.td}"]
+        begins(self.scene, self.life, 1, [f"accept {self.life.gpa}"])
+        page = f"{self.ranged('MEM.PAGE.AUG', self.life.gpa)} {self.scene.host[0]}"
+        self.meanwhile = [*self.perhaps_tracked(), self.exported(), *([page], [again, page], [again, blocks, page])[self.visit % 3]]
+        self.entries, self.events = [self.enter(0, 1), self.enter(1), self.enter(0)], self.chance.randrange(4)
+
+
 MEETINGS = (
     Meeting.blocks_under_a_walk, Meeting.makes_the_way, Meeting.takes_a_block_back, Meeting.removes_a_page,
     Meeting.removes_a_table, Meeting.finds_nothing, Meeting.moves_a_vcpu, Meeting.flushes_another,
-    Meeting.shares_a_processor,
+    Meeting.blocks_writes_under_a_walk, Meeting.exports_a_page, Meeting.shares_a_processor,
 )
 # Two more kinds of meetings, which have guests in at once: of two TDs, or eight of one TD.
 KINDS = len(MEETINGS) + 2
@@ -644,6 +711,7 @@ def meeting(chance, scene, turn):
     life = scene.lives[0]
     if not all(life.spare and life.first_waiting for life in scene.lives[: 1 + (kind in OF_TWO_TDS)]):
         return crowd(chance, scene, turn)
+    give_stream(scene, life)
     scene.lps = chance.choice((3, 3, 4))
     met = Meeting(chance, scene, visit)
     MEETINGS[kind](met)
@@ -807,6 +875,7 @@ def script_lines(chance, make, turn):
     else:
         scene = Scene(chance, ROOMY if make in (race, crowd, session) else SIZES, CROWDED if make is crowd else FEW)
     blocks, turns = make(chance, scene, turn)
+    blocks = [block[:CALLS_OF_A_PROCESSOR] for block in blocks]
     blocks = [[f"lp {lp}", *block, "end"] for lp, block in enumerate(blocks) if block or chance.random() < 0.5]
     slotted = iter(with_slots(chance, [line for block in blocks for line in block]))
     parts = [[next(slotted) for _ in block] for block in blocks]
@@ -850,9 +919,11 @@ BAD_INSIDE = (
     "MEM.PAGE.RELOCATE 1 0 2", "MEM.TRACK", "EXPORT.ABORT", "EXPORT.ABORT 1 2", "EXPORT.ABORT 1 x", "EXPORT.ABORT x",
     "EXPORT.ABORT 1 2 3", "EXPORT.TRACK 1 2", "EXPORT.TRACK x 4096 1", "EXPORT.STATE.TD 1 4096",
     "EXPORT.STATE.IMMUTABLE 1 18446744073709551615", "EXPORT.STATE.VP 1 2 0x1000", "EXPORT.STATE.TD 1 {slot}",
-    "EXPORT.TRACK 1 {slot} x", "EXPORT.STATE.TD 1 4095\nEXPORT.TRACK 1 4095 0", "EXPORT.STATE.VP 1 2 7\nEXPORT.STATE.VP 1 3 007",
+    "EXPORT.TRACK 1 {slot} x", "EXPORT.STATE.TD 1 4095\nEXPORT.TRACK 1 4095 0",
+    "EXPORT.MEM 1 0 0 4096", "EXPORT.MEM 1 0 4096", "EXPORT.MEM x 0 9 4096", "EXPORT.MEM 1 0 0 {slot}",
+    "EXPORT.MEM 1 0 0 9\nEXPORT.MEM 1 4096 1 0x9", "EXPORT.STATE.VP 1 2 7\nEXPORT.STATE.VP 1 3 007",
     "EXPORT.STATE.IMMUTABLE 1 0\nEXPORT.STATE.IMMUTABLE 1 0x0", "{call}", "{call} x", "{call} 1 2 3 4 5 6", "{call} 1 0 3 x", "{unbuilt}",
-    "{unbuilt} 1 0", "{unbuilt} x", "{unbuilt} \x1f", "end\x7f", "HOST.READ 1 1\r",
+    "{unbuilt} 1 0", "{unbuilt} x", "{unbuilt} 1 0 8", "{unbuilt} \x1f", "end\x7f", "HOST.READ 1 1\r",
 )
 BAD_IN_CODE = (
     "code 0 0", "code {code}", "lp 0", "schedule x", "end end", "machine", "foo", "SET 0 0", "{call}", "{unbuilt}",
@@ -1053,10 +1124,10 @@ def script_of(chance, round_, kind):
         return text_of(script_lines(chance, story, round_))
     if kind < 19:
         return text_of(script_lines(chance, race, 8 * round_ + kind - 11))
-    if kind < 24:
+    if kind < 23:
         return text_of(script_lines(chance, crowd, round_))
     if kind < 27:
-        return text_of(script_lines(chance, meeting, 3 * round_ + kind - 24))
+        return text_of(script_lines(chance, meeting, 4 * round_ + kind - 23))
     if kind == 27:
         return text_of(script_lines(chance, noise, round_))
     return text_of(script_lines(chance, session, 2 * round_ + kind - 28))

@@ -178,10 +178,14 @@ class Guest:
             self.how = "by a translation"
             if not self.allows_reading(gpa):
                 self.how = "by a translation of a blocked entry"
+            elif writes and not self.allows_writing(gpa):
+                self.how = "by a translation of an entry blocked for writing"
         if translation is None:
             return violation
         if self.how.startswith("by a walk") and not self.allows_reading(gpa):
             self.how = "by a walk with a block behind it"
+        elif self.how.startswith("by a walk") and writes and not self.allows_writing(gpa):
+            self.how = "by a walk with a block for writing behind it"
         self.move(register, gpa, translation[2], self.vcpu.registers[register] if writes else None)
         yield
         return None
@@ -207,6 +211,10 @@ class Guest:
     def allows_reading(self, gpa):
         """Whether a walk at this moment would end at an entry that allows reading."""
         return is_reached(self.td, gpa, 0) and entry_state(self.td, gpa, 0) in READABLE
+
+    def allows_writing(self, gpa):
+        """Whether the entry at the end of such a walk allows writing too."""
+        return entry_state(self.td, gpa, 0) in WRITABLE
 
     def walk(self, gpa, writes):
         """The walk to a private page, entry by entry; answers the translation that it has cached, or None."""

@@ -5,7 +5,7 @@ import struct
 import bundles
 from bundles import ABORT_TOKEN, EPOCH_TOKEN, IMMUTABLE, MEMORY, START_TOKEN, TD_STATE, VCPU_STATE, Header
 from machine import EXCLUSIVELY, KEY_TABLE, SHARED, Entry, Stream
-from memory_rows import need_tracked
+from memory_rows import meet_guests, need_tracked
 from rows import entry_key, entry_state, need, need_entry, need_free, of_page, td_with_op, vcpu_at, walk
 
 COUNTER_END = 2**32 - 1
@@ -89,6 +89,11 @@ def need_room(td, number):
     need(td.streams[number].counter < COUNTER_END, "COUNTER_LIMIT MB")
 
 
+def meet_entry(machine, name, td, entry):
+    """Keeps at which state of an entry a call succeeds, and in which state of its TD."""
+    machine.met.append(f"{name}: SUCCESS at {entry.state} in {td.op}")
+
+
 def in_states(td, states):
     """How many entries are in one of these states."""
     return sum(entry.state in states for entry in td.entries.values())
@@ -142,6 +147,7 @@ def export_blockw(machine, td_page, gpa):
     need_entry(td, gpa, 0, *BLOCKED)
 
     def effect():
+        meet_entry(machine, "EXPORT.BLOCKW", td, entry)
         entry.state = BLOCKED[entry.state]
         machine.pages[entry.page].epoch = td.epoch
 
@@ -163,6 +169,7 @@ def export_unblockw(machine, td_page, gpa):
     entry = yield from entry_alone(td, td_page, gpa, *UNBLOCKED)
 
     def effect():
+        meet_entry(machine, "EXPORT.UNBLOCKW", td, entry)
         entry.state = UNBLOCKED[entry.state]
 
     return effect
@@ -180,7 +187,8 @@ def entry_alone(td, td_page, gpa, *states):
 
 def export_mem(machine, td_page, gpa, stream, slot):
     """EXPORT.MEM TDR GPA STREAM SLOT"""
-    td = yield from td_with_op(machine, td_page, SHARED, "LIVE_EXPORT", "PAUSED_EXPORT", "POST_EXPORT")
+    ops = ("LIVE_EXPORT", "PAUSED_EXPORT", *("POST_EXPORT",) * machine.outside.late_pages)
+    td = yield from td_with_op(machine, td_page, SHARED, *ops)
     live = td.op == "LIVE_EXPORT"
     need_stream(td, stream)
     yield ("T", td_page), SHARED
@@ -194,6 +202,8 @@ def export_mem(machine, td_page, gpa, stream, slot):
         need_tracked(machine, td, entry.page, "EXPORT.MEM")
 
     def effect():
+        meet_entry(machine, "EXPORT.MEM", td, entry)
+        meet_guests(machine, td, "EXPORT.MEM")
         words = machine.pages[entry.page].words
         payload = struct.pack("<512Q", *(words.get(place, 0) for place in range(512)))
         make(machine, td, slot, MEMORY, payload, stream, gpa=gpa)
@@ -292,6 +302,7 @@ def export_restore(machine, td_page, gpa):
     entry = yield from entry_alone(td, td_page, gpa, "BLOCKEDW", *EXPORTED)
 
     def effect():
+        meet_entry(machine, "EXPORT.RESTORE", td, entry)
         entry.state, entry.mark = "MAPPED", 0
 
     return effect

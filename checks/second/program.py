@@ -112,7 +112,8 @@ def outside_of(script, files):
     if len(files.get("--secrets", bytes(4096))) != 4096:
         raise Ended(7, "secrets file\n")
     secrets = struct.unpack(SECRETS, files.get("--secrets", bytes(4096)))
-    return Outside(script.code, files["--bundles"], files.get("--keys", bytes(64)), secrets)
+    keys = files.get("--keys", bytes(64))
+    return Outside(script.code, files["--bundles"], keys, secrets, late_pages=not script.unbuilt)
 
 
 def run_of(runs, words, load, unbuilt):

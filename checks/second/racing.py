@@ -116,9 +116,20 @@ def exports(chance):
     return {}, [[*BUILD[:7], *begin, *["EXPORT.PAUSE 1"] * chance.choice((0, 1)), *first], second]
 
 
+def exports_memory(chance):
+    """A page is blocked for writing, tracked and exported beside its guest; or, once the TD is paused, beside a processor
+    that exports another page, on the same stream or on another one."""
+    finalized = ["MIG.STREAM.CREATE 1 10", "MR.FINALIZE 1", "EXPORT.STATE.IMMUTABLE 1 0"]
+    if chance.random() < 0.5:
+        host = ["EXPORT.BLOCKW 1 0", "MEM.TRACK 1", "EXPORT.MEM 1 0 0 1"]
+        return {0: ["store 1 0"] * 2}, [[*BUILD, *finalized, *host], [ENTERS]]
+    pages = ["MEM.PAGE.ADD 1 4096 9 0", "MIG.STREAM.CREATE 1 11", *finalized, "EXPORT.PAUSE 1", "EXPORT.MEM 1 0 0 1"]
+    return {0: []}, [[*BUILD, *pages], [f"EXPORT.MEM 1 4096 {chance.randrange(2)} 2"]]
+
+
 KINDS = (
     takes, stores_before_loads, uses_host_pages, passes_a_message, takes_memory_away, shares_a_word, extends_and_accepts,
-    talks_with_the_host, exports,
+    talks_with_the_host, exports, exports_memory,
 )
 
 

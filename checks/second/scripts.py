@@ -17,7 +17,6 @@ ABORT_WITH_SLOT = "EXPORT.ABORT with a slot"
 # The first words of the finished grammar that the program doesn't have, and that form.
 UNBUILT = set(
     """
-    EXPORT.MEM
     IMPORT.STATE.IMMUTABLE IMPORT.MEM IMPORT.TRACK IMPORT.STATE.TD IMPORT.STATE.VP IMPORT.COMMIT
     IMPORT.END IMPORT.ABORT
     """.split()

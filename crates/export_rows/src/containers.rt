@@ -1,8 +1,12 @@
 //! The container that is saved has the bundles of all processors, each in the slot that its call names.
 
+use aes_block::Aes256;
 use bundle_store::read_container;
+use gcm_seal::open_in_place;
 use hex::FromHex;
-use row_replay::{BUILT, OTHER, PAGE, RUNS, Row, SECOND, STREAM, TREE, container_of_row};
+use row_replay::{
+    BUILT, DIRTIED, OTHER, PAGE, PAGES, RUNS, Row, SECOND, SENT, STREAM, TREE, container_of_row,
+};
 use std::alloc::Global;
 use std::test::Fail;
 
@@ -58,6 +62,21 @@ const ROWS: &[Row<'static>] = &[
                     | EXPORT.PAUSE 20 | EXPORT.STATE.TD 20 2",
             ],
         ],
+        "",
+    ),
+    // A whole source: a page that goes out twice, and two others, on two streams.
+    (
+        "",
+        &["1 0 | set 1 44 | store 1 0 | load 2 0 | load 2 4096 | load 2 8192 | vmcall 2"],
+        &[&[
+            TREE,
+            PAGES,
+            SENT,
+            DIRTIED,
+            "SUCCESS | EXPORT.TRACK 1 2 0 | EXPORT.MEM 1 0 0 3 | EXPORT.MEM 1 4096 1 4 \
+                | EXPORT.MEM 1 8192 1 5 | EXPORT.STATE.TD 1 6 | EXPORT.STATE.VP 1 4 7 \
+                | EXPORT.TRACK 1 8 1",
+        ]],
         "",
     ),
 ];
@@ -170,6 +189,67 @@ const OF_TURNS: [Sealed; 4] = [
     },
 ];
 
+/// What the third row's container has.
+const OF_PAGES: [Sealed; 9] = [
+    Sealed {
+        slot: 0,
+        length: 112,
+        head: "400001000000000000000000010000000000000000000000010000000100000000000000000000000000000000000000",
+        tag: "6c6b6980d1c15d0fc5f0adaa6857ec16",
+    },
+    Sealed {
+        slot: 1,
+        length: 4160,
+        head: "400001000100030000000000010000000000000000000000010000000000000000000000000000000000000000000000",
+        tag: "fad4c7ea66472374672a264fdb7878db",
+    },
+    Sealed {
+        slot: 2,
+        length: 64,
+        head: "400001000000040001000000020000000100000000000000010000000000000000000000000000000200000000000000",
+        tag: "d79ba60f5285a27a113ea47a85c4bb79",
+    },
+    Sealed {
+        slot: 3,
+        length: 4160,
+        head: "400001000000030002000000020000000200000000000000010000000000000000000000000000000000000000000000",
+        tag: "e86b01f3d7f326199b1205a328397e33",
+    },
+    Sealed {
+        slot: 4,
+        length: 4160,
+        head: "400001000100030001000000020000000100000000000000010000000000000000100000000000000000000000000000",
+        tag: "6ccf72094f824d2eb91a1ef6fdd5285a",
+    },
+    Sealed {
+        slot: 5,
+        length: 4160,
+        head: "400001000100030002000000020000000200000000000000010000000000000000200000000000000000000000000000",
+        tag: "1be9654d20a1492fd43991a2ae8f7214",
+    },
+    Sealed {
+        slot: 6,
+        length: 256,
+        head: "400001000000010003000000020000000300000000000000010000000000000000000000000000000000000000000000",
+        tag: "e74b2de82099e1a9fa8d4ecb58b119bf",
+    },
+    Sealed {
+        slot: 7,
+        length: 128,
+        head: "400001000000020004000000020000000400000000000000010000000200000000000000000000000000000000000000",
+        tag: "796b9f31ff5fa38410537d8142b6296a",
+    },
+    Sealed {
+        slot: 8,
+        length: 64,
+        head: "400001000000050005000000ffffffff0500000000000000010000000000000000000000000000000800000000000000",
+        tag: "70763439dccae31b0f410a3995e22563",
+    },
+];
+
+/// The first bytes of its pages as they were exported, by their slots. All others are 0.
+const FIRST_BYTES: [(u16, u8); 4] = [(1, 11), (3, 44), (4, 22), (5, 33)];
+
 /// The bytes from a place up to another, or none where they aren't there.
 fn part(bytes: &[u8], from: usize, to: usize) -> &[u8] {
     if from <= to && to <= bytes.len() {
@@ -205,12 +285,70 @@ fn compare(alloc: Global, container: &[u8], wanted: &[Sealed]) -> Result<(), Fai
 #[test]
 fn bundles_stand_in_their_slots(rt: HostRuntime) -> Result<(), Fail> {
     let alloc = rt.alloc();
-    for (row, wanted) in ROWS
-        .iter()
-        .zip([OF_SESSIONS.as_slice(), OF_TURNS.as_slice()])
-    {
+    for (row, wanted) in ROWS.iter().zip([
+        OF_SESSIONS.as_slice(),
+        OF_TURNS.as_slice(),
+        OF_PAGES.as_slice(),
+    ]) {
         let container = container_of_row(&rt, alloc, row)?;
         compare(alloc, &container, wanted)?;
     }
+    Ok(())
+}
+
+// That byte, or 0 where it isn't there.
+fn byte(bytes: &[u8], i: usize) -> u8 {
+    if i < bytes.len() { bytes[i] } else { 0 }
+}
+
+// Whether a bundle opens under that key, and its payload then.
+fn open(key: &Aes256, bytes: &[u8]) -> (bool, [u8; 4096]) {
+    let mut iv = [0u8; 12];
+    iv[0] = byte(bytes, 4);
+    for i in 0..2 {
+        iv[2 + i] = byte(bytes, 24 + i);
+    }
+    for i in 0..8 {
+        iv[4 + i] = byte(bytes, 16 + i);
+    }
+    let mut head = [0u8; 48];
+    for i in 0..48 {
+        head[i] = byte(bytes, i);
+    }
+    let mut tag = [0u8; 16];
+    for i in 0..16 {
+        tag[i] = byte(bytes, 48 + i);
+    }
+    let mut page = [0u8; 4096];
+    for i in 0..4096 {
+        page[i] = byte(bytes, 64 + i);
+    }
+    let is_open = open_in_place(key, &iv, &head, &mut page, &tag);
+    (is_open, page)
+}
+
+#[test]
+fn pages_are_read_again(rt: HostRuntime) -> Result<(), Fail> {
+    let alloc = rt.alloc();
+    let mut forward = [0u8; 32];
+    for i in 0..32 {
+        forward[i] = i as u8;
+    }
+    let key = Aes256::new(&forward);
+    let container = container_of_row(&rt, alloc, &ROWS[2])?;
+    let bundles = read_container(alloc, &container)?;
+    let mut count: usize = 0;
+    for bundle in bundles.iter() {
+        for (slot, first) in FIRST_BYTES {
+            if bundle.slot == slot {
+                let mut wanted = [0u8; 4096];
+                wanted[0] = first;
+                let (is_open, page) = open(&key, bundle.bytes.as_slice());
+                assert!(rt; is_open && page == wanted, "slot {slot}");
+                count = count.wrapping_add(1);
+            }
+        }
+    }
+    assert_eq!(rt; count, FIRST_BYTES.len());
     Ok(())
 }

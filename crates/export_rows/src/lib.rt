@@ -8,4 +8,10 @@ mod containers;
 #[cfg(test)]
 mod locks;
 #[cfg(test)]
+mod migrations;
+#[cfg(test)]
+mod page_locks;
+#[cfg(test)]
+mod pages;
+#[cfg(test)]
 mod sessions;

@@ -14,6 +14,7 @@ mod scripts;
 
 pub use calls::{replay_each, replay_races, replays};
 pub use parts::{
-    BEGUN, BUILT, EMPTY, ENDED, INITIALIZED, KEYS, OTHER, PAGE, RUNS, SECOND, STREAM, TREE,
+    BEGUN, BUILT, DIRTIED, EMPTY, ENDED, INITIALIZED, KEYS, OTHER, PAGE, PAGES, RUNS, SECOND, SENT,
+    STREAM, TREE,
 };
 pub use rows::{Row, SecretRow, container_of_row, replay_rows, replay_secret_rows};

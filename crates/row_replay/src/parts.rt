@@ -28,6 +28,20 @@ pub const STREAM: &str = "SUCCESS | MIG.STREAM.CREATE 1 10";
 /// An export begins, in 7 events.
 pub const BEGUN: &str = "SUCCESS | EXPORT.STATE.IMMUTABLE 1 0";
 
+/// Three private pages with a word each, of a TD that runs then, and two streams, in 61 events.
+pub const PAGES: &str = "SUCCESS | HOST.WRITE 0 0 11 | MEM.PAGE.ADD 1 0 8 0 | HOST.WRITE 0 0 22 \
+    | MEM.PAGE.ADD 1 4096 9 0 | HOST.WRITE 0 0 33 | MEM.PAGE.ADD 1 8192 10 0 | MR.FINALIZE 1 \
+    | MIG.STREAM.CREATE 1 11 | MIG.STREAM.CREATE 1 12";
+
+/// Behind PAGES: an export begins, and the first page is exported live on stream 1, in 38 events.
+pub const SENT: &str = "SUCCESS | EXPORT.STATE.IMMUTABLE 1 0 | EXPORT.BLOCKW 1 0 | MEM.TRACK 1 \
+    | EXPORT.MEM 1 0 1 1";
+
+/// Its guest, of which the second operation stores there, is stopped once, and makes it dirty; then the
+/// TD is paused.
+pub const DIRTIED: &str = "EXIT EPT_VIOLATION 0x0 WRITE | VP.ENTER 1 4 10 \
+    ; SUCCESS | EXPORT.UNBLOCKW 1 0 ; EXIT MAX | VP.ENTER 1 4 1 ; SUCCESS | EXPORT.PAUSE 1";
+
 /// A second TD with TDR 20, as far as TREE, in 64 events.
 pub const OTHER: &str =
     "SUCCESS | MNG.CREATE 20 2 | MNG.KEY.CONFIG 20 | MNG.ADDCX 20 21 | MNG.ADDCX 20 22 \

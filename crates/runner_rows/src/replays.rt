@@ -76,7 +76,7 @@ const BAD_LINES: &[&str] = &[
     "script line 3 UNTERMINATED\n| machine 1 8 1\nlp 0\nHOST.RE",
     "script line 3 COUNT\n| machine 1 8 1\nlp 0\nHOST.READ 5\nend\n",
     "script line 3 RANGE\n| machine 1 8 1\ncode 1 0\nsecret 0 512\nend\n",
-    "script line 3 UNBUILT\n| machine 1 8 1\nlp 0\nEXPORT.MEM 1\n",
+    "script line 3 UNBUILT\n| machine 1 8 1\nlp 0\nIMPORT.MEM 1\n",
     "script line 4 ENDLESS\n| machine 1 8 1\nlp 0\nHOST.READ 5 0\n",
     "script line 3 MACHINE\n| # nothing\n\n",
     "script line 1 RANGE\n| machine 9 8 1\n",
