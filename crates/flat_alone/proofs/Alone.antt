@@ -34,6 +34,7 @@ use Rattle.flat_core.proofs.Induction.{counts_stay, play_append}
 use Rattle.flat_core.proofs.Ends.{drop_next}
 use Rattle.flat_alone.specs.Whole.{first_fault, reply_unless, world_unless, row_reply, row_world, replies_of, world_of, lines_at_once, world_at_once, EnterNone, CallsEnterNone, EachCallAtOnce, EndsInTheirWorld}
 use Rattle.flat_alone.proofs.Free.{shared_for, FreeTries, other_page, free_reclaim, free_read, free_walk, free_checks, apart_false, apart_named, free_named, has_use, free_opened, apart_stream, free_tracked}
+use Rattle.flat_alone.proofs.ImportFree.{import_immutable-free, import_page-free, import_token-free, import_td-free, import_vp-free, commit_import-free, end_import-free, abort_import-free, abort_by_token-free}
 
 -- it holds no lock, and is being refused none
 pub record Quiet (lp : Lp) : Type 0 where
@@ -203,6 +204,15 @@ free_row o p (call.ExportTrack tdr slot (suc n)) w la = λ a b. (refl, refl, λ 
 free_row o p (call.ExportStateTd tdr slot) w la = λ a. (refl, refl, λ b d e. (refl, refl, λ f g h. tt))
 free_row o p (call.ExportStateVp tdr vp slot) w la =
     λ a b apart. (refl, refl, λ d e f. (refl, refl, λ g. let n : (tdr == vp) ≡ false = other_page vp tdr apart in (refl, rw n refl, λ h i j. tt)))
+free_row o p (call.ExportAbortByToken tdr slot) w la = abort_by_token-free o.machine (o.bundles slot) tdr slot w
+free_row o p (call.ImportStateImmutable tdr slot) w la = import_immutable-free o.machine (o.bundles slot) tdr slot w
+free_row o p (call.ImportMem tdr slot page) w la = import_page-free o.machine (o.bundles slot) tdr slot page w la
+free_row o p (call.ImportTrack tdr slot) w la = import_token-free o.machine (o.bundles slot) tdr slot w
+free_row o p (call.ImportStateTd tdr slot) w la = import_td-free o.machine (o.bundles slot) tdr slot w
+free_row o p (call.ImportStateVp tdr vp slot) w la = import_vp-free o.machine (o.bundles slot) tdr vp slot w
+free_row o p (call.ImportCommit tdr) w la = commit_import-free o.machine tdr w
+free_row o p (call.ImportEnd tdr) w la = end_import-free o.machine tdr w
+free_row o p (call.ImportAbort tdr slot) w la = abort_import-free o.machine tdr slot w
 
 -- and every world is lawful
 passes_of : (items : List (Item Reply)) → first_fault items ≡ None → Passes items

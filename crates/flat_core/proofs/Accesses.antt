@@ -12,13 +12,14 @@ use Rattle.td_words.specs.Packing.{Entry, is_exported}
 use Rattle.flat_core.specs.World.{World, Pages, Tds, put}
 use Rattle.flat_core.specs.Processor.{Translation, Guest}
 use Rattle.flat_core.specs.Opening.{Opening}
-use Rattle.flat_core.specs.Row.{Passes}
+use Rattle.flat_core.specs.Row.{Row, Passes}
 use Rattle.flat_core.specs.Conditions.{is_host, host_page, page_exclusive, is_elsewhere}
 use Rattle.flat_core.specs.Effects.{put_in}
 use Rattle.flat_core.specs.Tracking.{tracked_page}
 use Rattle.flat_core.specs.KeyRows.{reclaim_conditions}
 use Rattle.flat_core.specs.MemRows.{open_states, blocked_states, removed_states, blocked_state, unblocked_state}
 use Rattle.flat_core.specs.ExportRows.{live_ops, writable_states, write_blocked, write_blocked_states, write_unblocked, restoring_ops, restored_states}
+use Rattle.flat_core.specs.ImportRows.{import_immutable, import_page, import_token, import_td, commit_import, end_import, abort_import, abort_by_token}
 use Rattle.flat_core.specs.Tree.{state_in, empty_below, entry_at, number_at}
 use Rattle.flat_core.specs.Table.{row_of}
 use Rattle.flat_core.specs.Lawful.{Lawful, IsAlive}
@@ -31,8 +32,13 @@ use Rattle.flat_core.proofs.Numbers.{holds_of_none}
 use Rattle.flat_core.proofs.Ranges.{named_passed, named_alive, block_restates, unblock_restates, blocked_less, blocked_stops, page_removed, sept_removed, living, opened_passed, write_passed, export_passed, entry_alive, write_remarks, unwrite_remarks, restored, can_export, export_allows, mapped_allows, unblocked_allows}
 use Rattle.flat_core.proofs.Removals.{empty_at}
 use Rattle.flat_core.proofs.AccessActs.{is_new, is_begun, free_of, unexempt, here-built, frame, current-same, walking-same, entry-apart, entry-kept, quiet-act, taken-act, life-off, op-off, flushed-off, op-act, td-act, host-act, restated-act, block-noted, raised-act, removed-act}
+use Rattle.flat_core.proofs.ImportAccesses.{KeepsTranslations, import_immutable-access, import_page-access, import_token-access, import_td-access, commit_import-access, end_import-access, abort_import-access, abort_by_token-access}
 
 module _ (m : Machine) (w : World) (la : Lawful m w) (le : LawfulEpochs w) (p : ℕ) (cs : List Translation) (g : Option Guest) (occ : (x : Guest) → g ≡ Some x → IsOccupied w p x.tdr x.vp) (a : LawfulTranslations w p cs g) where
+  -- by what is shown beside a row
+  by_row : (o : Opening) → o.machine ≡ m → (row : Machine → Row) → KeepsTranslations m (row m) → Passes ((row o.machine).items w) → LawfulTranslations ((row o.machine).act w) p cs g
+  by_row o em row keeps = subst (λ (x : Machine). Passes ((row x).items w) → LawfulTranslations ((row x).act w) p cs g) (sym em) (keeps w p cs g la le occ a)
+
   pub row-access : (o : Opening) (me : ℕ) (c : Call) → o.machine ≡ m → Passes ((row_of o me c).items w) → ((t v most : ℕ) → c ≡ call.VpEnter t v most → p ≢ me) → ((t v : ℕ) → c ≡ call.VpFlush t v → p ≢ me)
       → LawfulTranslations ((row_of o me c).act w) p cs g
   row-access o me (call.PhymemPageReclaim u page) em ps n k =
@@ -196,6 +202,14 @@ module _ (m : Machine) (w : World) (la : Lawful m w) (le : LawfulEpochs w) (p : 
   row-access o me (call.ExportTrack u slot zero) em ps n k = quiet-act m w la le p cs g occ a _ refl refl refl refl refl refl refl refl
   row-access o me (call.ExportTrack u slot (suc j)) em ps n k =
       op-act m w la le p cs g occ a ((row_of o me (call.ExportTrack u slot (suc j))).act w) refl refl (λ t v h. refl) (λ t v h. h.life) (λ t i bu s x. by_test (t == u) (λ y. rw y refl) (λ y. rw y x)) (λ t bu. refl) (λ t l i bu f. refl)
+  row-access o me (call.ExportAbortByToken u slot) em ps n k = by_row o em (λ x. abort_by_token x (o.bundles slot) u slot) (abort_by_token-access m (o.bundles slot) u slot) ps
+  row-access o me (call.ImportStateImmutable u slot) em ps n k = by_row o em (λ x. import_immutable x (o.bundles slot) u slot) (import_immutable-access m (o.bundles slot) u slot) ps
+  row-access o me (call.ImportMem u slot page) em ps n k = by_row o em (λ x. import_page x (o.bundles slot) u slot page) (import_page-access m (o.bundles slot) u slot page) ps
+  row-access o me (call.ImportTrack u slot) em ps n k = by_row o em (λ x. import_token x (o.bundles slot) u slot) (import_token-access m (o.bundles slot) u slot) ps
+  row-access o me (call.ImportStateTd u slot) em ps n k = by_row o em (λ x. import_td x (o.bundles slot) u slot) (import_td-access m (o.bundles slot) u slot) ps
+  row-access o me (call.ImportCommit u) em ps n k = by_row o em (λ x. commit_import x u) (commit_import-access m u) ps
+  row-access o me (call.ImportEnd u) em ps n k = by_row o em (λ x. end_import x u) (end_import-access m u) ps
+  row-access o me (call.ImportAbort u slot) em ps n k = by_row o em (λ x. abort_import x u slot) (abort_import-access m u slot) ps
   row-access o me (call.HostRead page i) em ps n k = a
   row-access o me _ em ps n k = quiet-act m w la le p cs g occ a _ refl refl refl refl refl refl refl refl
 

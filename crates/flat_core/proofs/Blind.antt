@@ -1,5 +1,5 @@
 -- Each row asks and answers the same in two worlds that differ in private words alone, and keeps them so.
-use Rattle.std.proofs.Common.{◌≡◌, refl, sym, ◌∙◌, subst, ap, ℕ, ◌+◌, ◌-◌, List, [], ◌∷◌, ◌++◌, Bool, true, false, not, ◌==◌, ◌&&◌, ◌||◌, if◌then◌else◌}
+use Rattle.std.proofs.Common.{◌≡◌, refl, sym, ◌∙◌, subst, ap, ℕ, ◌+◌, ◌-◌, List, [], ◌∷◌, ◌++◌, Option, Bool, true, false, not, ◌==◌, ◌&&◌, ◌||◌, if◌then◌else◌}
 use Rattle.std.specs.Prelude.{None}
 use Rattle.std.specs.List.{list_any}
 use Rattle.sha2.specs.Sha512.{sha384}
@@ -21,7 +21,7 @@ use Rattle.td_words.specs.declared.replies.Value.TheVariants as value
 use Rattle.td_words.specs.NameNumber.{op_number, life_number}
 use Rattle.td_words.specs.Packing.{Entry, Unassigned, AssignedTo, FlushedOf, is_exported}
 use Rattle.flat_core.specs.World.{World, Pages, Tds, Vps, Streams, KeyTable, put, free_entry}
-use Rattle.flat_core.specs.Opening.{Opening, Agree}
+use Rattle.flat_core.specs.Opening.{Opening, Incoming, Agree}
 use Rattle.flat_core.specs.Row.{Row}
 use Rattle.flat_core.specs.Digests.{digest_word}
 use Rattle.flat_core.specs.Conditions.{same_kind, is_host_in, host_page, page_exclusive}
@@ -33,6 +33,7 @@ use Rattle.flat_core.specs.VpRows.{create_vp, initialize_vp, enter_vp, flush_vp}
 use Rattle.flat_core.specs.MemRows.{add_sept, read_sept, add_page, augment_page, remove_page, remove_sept, blocked_state, unblocked_state, block_range, unblock_range, advance_epoch, chunk_bytes, extend}
 use Rattle.flat_core.specs.ExportRows.{add_stream, create_stream, write_blocked, block_write, write_unblocked, is_first_dirt, unblock_write, note_pause, pause, abort_export, one_less, restore}
 use Rattle.flat_core.specs.BundleRows.{export_immutable, export_page, export_token, export_td, export_vp}
+use Rattle.flat_core.specs.ImportRows.{import_immutable, import_page, import_token, import_td, import_vp, commit_import, end_import, abort_import, abort_by_token}
 use Rattle.flat_core.specs.Exports.{is_dirty}
 use Rattle.flat_core.specs.Tree.{page_of_gpa, number_at, entry_at, same_state, state_in}
 use Rattle.flat_core.specs.Table.{row_of}
@@ -42,6 +43,7 @@ use Rattle.flat_core.proofs.Tests.{by_test, host_kind, tdr_kind, range_of}
 use Rattle.flat_core.proofs.Maps.{walk_passed}
 use Rattle.flat_core.proofs.AlikeParts.{host_public, tds_alike, op_alike, keys_alike, key_alike, vps_alike, hidden_alike, taken_alike, cleared_alike, left_alike, filled_alike, mapped_alike, measured_alike, with_entered, added_alike}
 use Rattle.flat_core.proofs.BundleBlind.{export_immutable-blind, export_page-blind, export_token-blind, export_td-blind, export_vp-blind}
+use Rattle.flat_core.proofs.ImportBlind.{AlikeIn, inputs_agree, import_immutable-blind, import_page-blind, import_token-blind, import_td-blind, import_vp-blind, commit_import-blind, end_import-blind, abort_import-blind, abort_by_token-blind}
 
 read_alike : (v w : World) (page i : ℕ) → Alike v w
     → value.Number (if is_host_in v.pages page then v.words page i else 0) ≡ value.Number (if is_host_in w.pages page then w.words page i else 0)
@@ -212,7 +214,7 @@ finalize-blind m t = record {
   cached = λ v w ts a. refl;
   act = λ v w lv lw a ps.
       op_alike (end_measurement t v) (end_measurement t w)
-      (tds_alike v w a (λ x. record x { mrtds = put x.mrtds t (digest_word (sha384 (x.measured t))) }) (λ x. refl)) t op.Runnable (λ h. cc);
+      (tds_alike v w a (λ x. record x { mrtds = put x.mrtds t (digest_word (sha384 (x.measured t))); mrtds_given = put x.mrtds_given t None }) (λ x. refl)) t op.Runnable (λ h. cc);
 }
 
 pub end_flush-blind : (m : Machine) (t : ℕ) → AreBlind m (end_flush m t) (end_flush m t)
@@ -551,6 +553,12 @@ restore-blind m t gpa = record {
 blind_at : (o q : Opening) → o.machine ≡ q.machine → (r : Machine → Row) → AreBlind o.machine (r o.machine) (r o.machine) → AreBlind o.machine (r o.machine) (r q.machine)
 blind_at o q e r h = subst (λ (m : Machine). AreBlind o.machine (r o.machine) (r m)) e h
 
+-- and of one slot, to which bundles have come that are alike
+blind_in : (o q : Opening) → Agree o q → (slot : ℕ) → (row : Machine → Option Incoming → Row) → ((m : Machine) (b c : Option Incoming) → AlikeIn b c → AreBlind m (row m b) (row m c))
+    → AreBlind o.machine (row o.machine (o.bundles slot)) (row q.machine (q.bundles slot))
+blind_in o q a slot row blind =
+    subst (λ (m : Machine). AreBlind o.machine (row o.machine (o.bundles slot)) (row m (q.bundles slot))) a.machine (blind o.machine (o.bundles slot) (q.bundles slot) (inputs_agree o q a slot))
+
 pub row-blind : (o q : Opening) → Agree o q → (me : ℕ) (c : Call) → AreBlind o.machine (row_of o me c) (row_of q me c)
 row-blind o q a me (call.HostRead page i) = blind_at o q a.machine (λ m. host_read m page i) (host_read-blind o.machine page i)
 row-blind o q a me (call.HostWrite page i v) = blind_at o q a.machine (λ m. host_write m page i v) (host_write-blind o.machine page i v)
@@ -590,3 +598,12 @@ row-blind o q a me (call.ExportMem t gpa k slot) = blind_at o q a.machine (λ m.
 row-blind o q a me (call.ExportTrack t slot start) = blind_at o q a.machine (λ m. export_token m t slot start) (export_token-blind o.machine t slot start)
 row-blind o q a me (call.ExportStateTd t slot) = blind_at o q a.machine (λ m. export_td m t slot) (export_td-blind o.machine t slot)
 row-blind o q a me (call.ExportStateVp t vp slot) = blind_at o q a.machine (λ m. export_vp m t vp slot) (export_vp-blind o.machine t vp slot)
+row-blind o q a me (call.ExportAbortByToken t slot) = blind_in o q a slot (λ m b. abort_by_token m b t slot) (λ m b c i. abort_by_token-blind m b c t slot i)
+row-blind o q a me (call.ImportStateImmutable t slot) = blind_in o q a slot (λ m b. import_immutable m b t slot) (λ m b c i. import_immutable-blind m b c t slot i)
+row-blind o q a me (call.ImportMem t slot page) = blind_in o q a slot (λ m b. import_page m b t slot page) (λ m b c i. import_page-blind m b c t slot page i)
+row-blind o q a me (call.ImportTrack t slot) = blind_in o q a slot (λ m b. import_token m b t slot) (λ m b c i. import_token-blind m b c t slot i)
+row-blind o q a me (call.ImportStateTd t slot) = blind_in o q a slot (λ m b. import_td m b t slot) (λ m b c i. import_td-blind m b c t slot i)
+row-blind o q a me (call.ImportStateVp t vp slot) = blind_in o q a slot (λ m b. import_vp m b t vp slot) (λ m b c i. import_vp-blind m b c t vp slot i)
+row-blind o q a me (call.ImportCommit t) = blind_at o q a.machine (λ m. commit_import m t) (commit_import-blind o.machine t)
+row-blind o q a me (call.ImportEnd t) = blind_at o q a.machine (λ m. end_import m t) (end_import-blind o.machine t)
+row-blind o q a me (call.ImportAbort t slot) = blind_at o q a.machine (λ m. abort_import m t slot) (abort_import-blind o.machine t slot)

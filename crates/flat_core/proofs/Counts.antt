@@ -31,6 +31,7 @@ use Rattle.flat_core.proofs.Kept.{others_stay}
 use Rattle.flat_core.proofs.Tries.{rows_try_the_same}
 use Rattle.flat_core.proofs.Refused.{after_here, play_grows, no_more, same_last, HasActed, has_entered, Stays, still, over, own_stays}
 use Rattle.flat_core.proofs.Ordered.{MayAnswer, IsOrdered, HoldsFor, ArgumentsHold, walk_ordered, walk_alone_ordered, walk_holds, walk_alone_holds}
+use Rattle.flat_core.proofs.ImportOrdered.{import_immutable-ordered, import_page-ordered, import_token-ordered, import_td-ordered, import_vp-ordered, commit_import-ordered, end_import-ordered, abort_import-ordered, abort_by_token-ordered, import_page-holds}
 
 -- how many events a call has in all that is answered so, where its row tries n locks
 abbrev Takes : ℕ → Reply → ℕ → Type 0
@@ -131,6 +132,15 @@ row_ordered o me (call.ExportTrack t slot zero) w = (refl, (refl, (tt, (tt, (tt,
 row_ordered o me (call.ExportTrack t slot (suc n)) w = (refl, (refl, (tt, (tt, (tt, (tt, (tt, (tt, (tt, tt)))))))))
 row_ordered o me (call.ExportStateTd t slot) w = (refl, (tt, (tt, (tt, (tt, (tt, (tt, tt)))))))
 row_ordered o me (call.ExportStateVp t vp slot) w = (refl, (refl, (refl, (tt, (tt, (tt, (tt, (tt, (tt, (tt, tt))))))))))
+row_ordered o me (call.ExportAbortByToken t slot) w = abort_by_token-ordered o.machine (o.bundles slot) t slot w
+row_ordered o me (call.ImportStateImmutable t slot) w = import_immutable-ordered o.machine (o.bundles slot) t slot w
+row_ordered o me (call.ImportMem t slot page) w = import_page-ordered o.machine (o.bundles slot) t slot page w
+row_ordered o me (call.ImportTrack t slot) w = import_token-ordered o.machine (o.bundles slot) t slot w
+row_ordered o me (call.ImportStateTd t slot) w = import_td-ordered o.machine (o.bundles slot) t slot w
+row_ordered o me (call.ImportStateVp t vp slot) w = import_vp-ordered o.machine (o.bundles slot) t vp slot w
+row_ordered o me (call.ImportCommit t) w = commit_import-ordered o.machine t w
+row_ordered o me (call.ImportEnd t) w = end_import-ordered o.machine t w
+row_ordered o me (call.ImportAbort t slot) w = abort_import-ordered o.machine t slot w
 
 -- arguments are the same in every world
 reclaim_holds : (v w : World) (t page : ℕ) (b : Bool) → ArgumentsHold (reclaim_conditions v t page b) → ArgumentsHold (reclaim_conditions w t page b)
@@ -155,6 +165,7 @@ row_holds o me (call.MemRangeUnblock t gpa level) v w h = (h.0, (h.1.0, (h.1.1.0
 row_holds o me (call.ExportMem t gpa k slot) v w h = (h.0, (h.1.0, (h.1.1.0, (h.1.1.1.0, (tt, (tt, (tt, (tt, (tt, (tt, (tt, (tt, (tt, (tt, (tt, (tt, tracked_holds (w.tds.ops t) w t (entry_at w t 0 gpa).page))))))))))))))))
 row_holds o me (call.ExportTrack t slot zero) v w h = h
 row_holds o me (call.ExportTrack t slot (suc n)) v w h = h
+row_holds o me (call.ImportMem t slot page) v w h = import_page-holds o.machine (o.bundles slot) t slot page v w h
 row_holds o me (call.HostRead page word) v w h = h
 row_holds o me _ v w h = h
 

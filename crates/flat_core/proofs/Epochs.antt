@@ -24,6 +24,7 @@ use Rattle.flat_core.proofs.Tests.{by_test, host_kind, tdr_kind}
 use Rattle.flat_core.proofs.Trackings.{none_at}
 use Rattle.flat_core.proofs.Sparing.{not_configured, counted}
 use Rattle.flat_core.proofs.EpochActs.{old, new, le-frame, quiet-epochs, no-host, kind-at, kind-here, page-off, page-was, unmapped-epochs}
+use Rattle.flat_core.proofs.ImportEpochs.{import_immutable-epochs, import_page-epochs, import_token-epochs, import_td-epochs, commit_import-epochs, end_import-epochs, abort_import-epochs, abort_by_token-epochs}
 
 module _ (o : Opening) (w : World) (la : Lawful o.machine w) (le : LawfulEpochs w) where
   pub row-epochs : (me : ℕ) (c : Call) → Passes ((row_of o me c).items w) → LawfulEpochs ((row_of o me c).act w)
@@ -219,6 +220,14 @@ module _ (o : Opening) (w : World) (la : Lawful o.machine w) (le : LawfulEpochs 
       le-frame w _ le
       (λ t v k pa. old k (record { kind = pa.kind; owner = pa.owner }) refl refl refl (inl refl) (λ p n l b. (l, by_test (t == u) (λ y. rw y refl) (λ y. rw y b))))
       (λ t k e. by_test (t == u) (λ y. let no : op.PostExport ≡ op.Uninitialized = rw y at e in cc) (λ y. le.early t k (rw y at e)))
+  row-epochs me (call.ExportAbortByToken u slot) ps = abort_by_token-epochs o (o.bundles slot) u slot w la le ps
+  row-epochs me (call.ImportStateImmutable u slot) ps = import_immutable-epochs o (o.bundles slot) u slot w la le ps
+  row-epochs me (call.ImportMem u slot page) ps = import_page-epochs o (o.bundles slot) u slot page w la le ps
+  row-epochs me (call.ImportTrack u slot) ps = import_token-epochs o (o.bundles slot) u slot w la le ps
+  row-epochs me (call.ImportStateTd u slot) ps = import_td-epochs o (o.bundles slot) u slot w la le ps
+  row-epochs me (call.ImportCommit u) ps = commit_import-epochs o u w la le ps
+  row-epochs me (call.ImportEnd u) ps = end_import-epochs o u w la le ps
+  row-epochs me (call.ImportAbort u slot) ps = abort_import-epochs o u slot w la le ps
   row-epochs me (call.HostRead page i) ps = le
   row-epochs me _ ps = quiet-epochs o w la le _ refl refl refl refl refl refl refl
 

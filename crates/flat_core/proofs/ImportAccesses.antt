@@ -8,14 +8,13 @@ use Rattle.td_words.specs.declared.machines.Machine.{Machine}
 use Rattle.td_words.specs.declared.replies.Reply.{Reply}
 use Rattle.flat_core.specs.World.{World}
 use Rattle.flat_core.specs.Processor.{Translation, Guest}
-use Rattle.flat_core.specs.Opening.{Opening, Incoming}
-use Rattle.flat_core.specs.Row.{Item, Passes}
+use Rattle.flat_core.specs.Opening.{Incoming}
+use Rattle.flat_core.specs.Row.{Item, Row, Passes}
 use Rattle.flat_core.specs.Tree.{page_of_gpa, number_at, entry_at, state_in}
 use Rattle.flat_core.specs.Effects.{begin_memory}
 use Rattle.flat_core.specs.Sessions.{count_bundle}
 use Rattle.flat_core.specs.Inputs.{Input, input_in, tag_holds}
-use Rattle.flat_core.specs.ImportRows.{is_start, importable, page_to_fill, fill_page, import_immutable, import_page, import_token, import_td, import_vp, commit_import, end_import, abort_import, abort_by_token}
-use Rattle.flat_core.specs.ImportLaws.{KeepsTranslations}
+use Rattle.flat_core.specs.ImportRows.{is_start, importable, page_to_fill, fill_page, import_immutable, import_page, import_token, import_td, commit_import, end_import, abort_import, abort_by_token}
 use Rattle.flat_core.specs.Lawful.{Lawful, is_free}
 use Rattle.flat_core.specs.Guests.{IsOccupied}
 use Rattle.flat_core.specs.Access.{LawfulTranslations, LawfulEpochs}
@@ -24,10 +23,15 @@ use Rattle.flat_core.proofs.Maps.{behind_walk}
 use Rattle.flat_core.proofs.AccessActs.{is_new, entry-kept, quiet-act, op-off, op-act, td-act, host-act}
 use Rattle.flat_core.proofs.ImportStates.{token_not_run, td_state_not_run, commit_not_run, given_up_not_run}
 
-pub import_immutable-access : (o : Opening) (b : Option Incoming) (u slot : ℕ) → KeepsTranslations o (import_immutable o.machine b u slot)
-import_immutable-access o b u slot w p cs g la le occ a ps =
-    let off = op-off o.machine w la le p cs g occ a u (is_new (w.tds.ops u) ps.1.1.1.1.1.1.1.0) in
-    td-act o.machine w la le p cs g occ a ((import_immutable o.machine b u slot).act w) refl refl (λ t v h. refl) (λ t v h. h.life) (λ t bu. let x = off t bu in rw x refl) (λ t bu. let x = off t bu in rw x refl) (λ t l i bu f. refl)
+-- what is said of the translations that any logical processor has cached, and of the walk of its guest
+abbrev pub KeepsTranslations : Machine → Row → Type 0
+KeepsTranslations m row = (w : World) (p : ℕ) (cached : List Translation) (guest : Option Guest) → Lawful m w → LawfulEpochs w → ((g : Guest) → guest ≡ Some g → IsOccupied w p g.tdr g.vp)
+    → LawfulTranslations w p cached guest → Passes (row.items w) → LawfulTranslations (row.act w) p cached guest
+
+pub import_immutable-access : (m : Machine) (b : Option Incoming) (u slot : ℕ) → KeepsTranslations m (import_immutable m b u slot)
+import_immutable-access m b u slot w p cs g la le occ a ps =
+    let off = op-off m w la le p cs g occ a u (is_new (w.tds.ops u) ps.1.1.1.1.1.1.1.0) in
+    td-act m w la le p cs g occ a ((import_immutable m b u slot).act w) refl refl (λ t v h. refl) (λ t v h. h.life) (λ t bu. let x = off t bu in rw x refl) (λ t bu. let x = off t bu in rw x refl) (λ t l i bu f. refl)
 
 -- a host page becomes a private one, at an entry that was FREE; or there is one already, and no entry changes
 module _ (m : Machine) (w : World) (la : Lawful m w) (le : LawfulEpochs w) (p : ℕ) (cs : List Translation) (g : Option Guest) (occ : (x : Guest) → g ≡ Some x → IsOccupied w p x.tdr x.vp) (a : LawfulTranslations w p cs g)
@@ -39,45 +43,42 @@ module _ (m : Machine) (w : World) (la : Lawful m w) (le : LawfulEpochs w) (p : 
       (λ t x. refl) (λ t x. refl) (λ t x. refl) (λ t l i x f. entry-kept w u 0 (number_at 0 gpa) _ t l i (ap is_free is) f) (λ v x. refl) (λ v x. refl) (λ v x. refl)
   filled-access _ is ps = quiet-act m w la le p cs g occ a _ refl refl refl refl refl refl refl refl
 
-pub import_page-access : (o : Opening) (b : Option Incoming) (u slot page : ℕ) → KeepsTranslations o (import_page o.machine b u slot page)
-import_page-access o b u slot page w p cs g la le occ a ps =
+pub import_page-access : (m : Machine) (b : Option Incoming) (u slot page : ℕ) → KeepsTranslations m (import_page m b u slot page)
+import_page-access m b u slot page w p cs g la le occ a ps =
     let i : Input = input_in b in
     let gpa : ℕ = i.header.gpa in
     let s : EntryState = (entry_at w u 0 gpa).state in
     let head = ps.1.1.1.1.1.1 in
     let behind = behind_walk w u gpa 0 (state_in w u gpa 0 importable ∷ (page_to_fill w u gpa page s ++ tag_holds i ∷ [])) head.1.1.1.1.1.1.1.1 in
-    filled-access o.machine w la le p cs g occ a u gpa page i.header.stream i.words (tag_holds i ∷ []) s refl behind.1
+    filled-access m w la le p cs g occ a u gpa page i.header.stream i.words (tag_holds i ∷ []) s refl behind.1
 
-pub import_token-access : (o : Opening) (b : Option Incoming) (u slot : ℕ) → KeepsTranslations o (import_token o.machine b u slot)
-import_token-access o b u slot w p cs g la le occ a ps =
-    let off = op-off o.machine w la le p cs g occ a u (token_not_run (is_start (input_in b).header) (w.tds.ops u) ps.1.1.1.1.1.1.1.0) in
-    td-act o.machine w la le p cs g occ a ((import_token o.machine b u slot).act w) refl refl (λ t v h. refl) (λ t v h. h.life) (λ t bu. let x = off t bu in rw x refl) (λ t bu. refl) (λ t l i bu f. refl)
+pub import_token-access : (m : Machine) (b : Option Incoming) (u slot : ℕ) → KeepsTranslations m (import_token m b u slot)
+import_token-access m b u slot w p cs g la le occ a ps =
+    let off = op-off m w la le p cs g occ a u (token_not_run (is_start (input_in b).header) (w.tds.ops u) ps.1.1.1.1.1.1.1.0) in
+    td-act m w la le p cs g occ a ((import_token m b u slot).act w) refl refl (λ t v h. refl) (λ t v h. h.life) (λ t bu. let x = off t bu in rw x refl) (λ t bu. refl) (λ t l i bu f. refl)
 
-pub import_td-access : (o : Opening) (b : Option Incoming) (u slot : ℕ) → KeepsTranslations o (import_td o.machine b u slot)
-import_td-access o b u slot w p cs g la le occ a ps =
-    let off = op-off o.machine w la le p cs g occ a u (td_state_not_run (w.tds.ops u) ps.1.1.1.1.1.1.1.0) in
-    td-act o.machine w la le p cs g occ a ((import_td o.machine b u slot).act w) refl refl (λ t v h. refl) (λ t v h. h.life) (λ t bu. let x = off t bu in rw x refl) (λ t bu. refl) (λ t l i bu f. refl)
+pub import_td-access : (m : Machine) (b : Option Incoming) (u slot : ℕ) → KeepsTranslations m (import_td m b u slot)
+import_td-access m b u slot w p cs g la le occ a ps =
+    let off = op-off m w la le p cs g occ a u (td_state_not_run (w.tds.ops u) ps.1.1.1.1.1.1.1.0) in
+    td-act m w la le p cs g occ a ((import_td m b u slot).act w) refl refl (λ t v h. refl) (λ t v h. h.life) (λ t bu. let x = off t bu in rw x refl) (λ t bu. refl) (λ t l i bu f. refl)
 
-pub import_vp-access : (o : Opening) (b : Option Incoming) (u v slot : ℕ) → KeepsTranslations o (import_vp o.machine b u v slot)
-import_vp-access o b u v slot w p cs g la le occ a ps = quiet-act o.machine w la le p cs g occ a _ refl refl refl refl refl refl refl refl
-
-pub commit_import-access : (o : Opening) (u : ℕ) → KeepsTranslations o (commit_import o.machine u)
-commit_import-access o u w p cs g la le occ a ps =
-    let off = op-off o.machine w la le p cs g occ a u (commit_not_run (w.tds.ops u) ps.1.1.1.1.0) in
-    td-act o.machine w la le p cs g occ a ((commit_import o.machine u).act w) refl refl (λ t v h. refl) (λ t v h. h.life) (λ t bu. let x = off t bu in rw x refl) (λ t bu. refl) (λ t l i bu f. refl)
+pub commit_import-access : (m : Machine) (u : ℕ) → KeepsTranslations m (commit_import m u)
+commit_import-access m u w p cs g la le occ a ps =
+    let off = op-off m w la le p cs g occ a u (commit_not_run (w.tds.ops u) ps.1.1.1.1.0) in
+    td-act m w la le p cs g occ a ((commit_import m u).act w) refl refl (λ t v h. refl) (λ t v h. h.life) (λ t bu. let x = off t bu in rw x refl) (λ t bu. refl) (λ t l i bu f. refl)
 
 -- what was exempt is so still in RUNNABLE
-pub end_import-access : (o : Opening) (u : ℕ) → KeepsTranslations o (end_import o.machine u)
-end_import-access o u w p cs g la le occ a ps =
-    op-act o.machine w la le p cs g occ a ((end_import o.machine u).act w) refl refl (λ t v h. refl) (λ t v h. h.life)
+pub end_import-access : (m : Machine) (u : ℕ) → KeepsTranslations m (end_import m u)
+end_import-access m u w p cs g la le occ a ps =
+    op-act m w la le p cs g occ a ((end_import m u).act w) refl refl (λ t v h. refl) (λ t v h. h.life)
     (λ t i bu s x. by_test (t == u) (λ y. rw y refl) (λ y. rw y x)) (λ t bu. refl) (λ t l i bu f. refl)
 
-pub abort_import-access : (o : Opening) (u slot : ℕ) → KeepsTranslations o (abort_import o.machine u slot)
-abort_import-access o u slot w p cs g la le occ a ps =
-    let off = op-off o.machine w la le p cs g occ a u (given_up_not_run (w.tds.ops u) ps.1.1.1.1.0) in
-    td-act o.machine w la le p cs g occ a ((abort_import o.machine u slot).act w) refl refl (λ t v h. refl) (λ t v h. h.life) (λ t bu. let x = off t bu in rw x refl) (λ t bu. refl) (λ t l i bu f. refl)
+pub abort_import-access : (m : Machine) (u slot : ℕ) → KeepsTranslations m (abort_import m u slot)
+abort_import-access m u slot w p cs g la le occ a ps =
+    let off = op-off m w la le p cs g occ a u (given_up_not_run (w.tds.ops u) ps.1.1.1.1.0) in
+    td-act m w la le p cs g occ a ((abort_import m u slot).act w) refl refl (λ t v h. refl) (λ t v h. h.life) (λ t bu. let x = off t bu in rw x refl) (λ t bu. refl) (λ t l i bu f. refl)
 
-pub abort_by_token-access : (o : Opening) (b : Option Incoming) (u slot : ℕ) → KeepsTranslations o (abort_by_token o.machine b u slot)
-abort_by_token-access o b u slot w p cs g la le occ a ps =
-    op-act o.machine w la le p cs g occ a ((abort_by_token o.machine b u slot).act w) refl refl (λ t v h. refl) (λ t v h. h.life)
+pub abort_by_token-access : (m : Machine) (b : Option Incoming) (u slot : ℕ) → KeepsTranslations m (abort_by_token m b u slot)
+abort_by_token-access m b u slot w p cs g la le occ a ps =
+    op-act m w la le p cs g occ a ((abort_by_token m b u slot).act w) refl refl (λ t v h. refl) (λ t v h. h.life)
     (λ t i bu s x. by_test (t == u) (λ y. rw y refl) (λ y. rw y x)) (λ t bu. refl) (λ t l i bu f. refl)

@@ -107,6 +107,7 @@ begun_tds x t h ws = record x {
   epochs = put x.epochs t 1;
   vps_expected = put x.vps_expected t h.info;
   mrtds = put x.mrtds t ws;
+  mrtds_given = put x.mrtds_given t (Some ws);
   sessions = put x.sessions t h.session;
   mig_epochs = put x.mig_epochs t 1;
 }

@@ -9,17 +9,21 @@ use Rattle.td_words.specs.declared.names.EntryState.{EntryState}
 use Rattle.td_words.specs.declared.names.EntryState.TheVariants as entry
 use Rattle.flat_core.specs.World.{World, Pages, Vps, put}
 use Rattle.flat_core.specs.Opening.{Opening, Incoming}
+use Rattle.flat_core.specs.Row.{Row, Passes}
 use Rattle.flat_core.specs.Tree.{page_of_gpa, number_at, entry_at}
 use Rattle.flat_core.specs.Effects.{begin_memory}
 use Rattle.flat_core.specs.Sessions.{count_bundle}
 use Rattle.flat_core.specs.Inputs.{Input, input_in}
-use Rattle.flat_core.specs.ImportRows.{is_start, op_then, fill_page, import_immutable, import_page, import_token, import_td, import_vp, commit_import, end_import, abort_import, abort_by_token}
-use Rattle.flat_core.specs.ImportLaws.{KeepsEpochs}
+use Rattle.flat_core.specs.ImportRows.{is_start, op_then, fill_page, import_immutable, import_page, import_token, import_td, commit_import, end_import, abort_import, abort_by_token}
 use Rattle.flat_core.specs.Lawful.{Lawful}
 use Rattle.flat_core.specs.Access.{has_not_run, LawfulEpochs}
 use Rattle.flat_core.proofs.Tests.{by_test, tdr_kind}
 use Rattle.flat_core.proofs.EpochActs.{old, le-frame, kind-at, kind-here, page-off, page-was, quiet-epochs}
 use Rattle.flat_core.proofs.ImportStates.{first_only, token_not_run, token_later, td_state_not_run, given_up_not_run}
+
+-- what is said of epochs and associations
+abbrev pub KeepsEpochs : Opening → Row → Type 0
+KeepsEpochs o row = (w : World) → Lawful o.machine w → LawfulEpochs w → Passes (row.items w) → LawfulEpochs (row.act w)
 
 -- an act that gives one TD another operation state, before it has run here, or one of a TD that may have, and changes nothing
 -- else of this
@@ -84,9 +88,6 @@ import_token-epochs o b u slot w la le ps =
 
 pub import_td-epochs : (o : Opening) (b : Option Incoming) (u slot : ℕ) → KeepsEpochs o (import_td o.machine b u slot)
 import_td-epochs o b u slot w la le ps = op-epochs w le u op.StateImport (inl (td_state_not_run (w.tds.ops u) ps.1.1.1.1.1.1.1.0)) (λ e. cc) _ refl refl refl refl refl
-
-pub import_vp-epochs : (o : Opening) (b : Option Incoming) (u v slot : ℕ) → KeepsEpochs o (import_vp o.machine b u v slot)
-import_vp-epochs o b u v slot w la le ps = quiet-epochs o w la le _ refl refl refl refl refl refl refl
 
 pub commit_import-epochs : (o : Opening) (u : ℕ) → KeepsEpochs o (commit_import o.machine u)
 commit_import-epochs o u w la le ps = op-epochs w le u op.LiveImport (inr refl) (λ e. cc) _ refl refl refl refl refl

@@ -30,6 +30,7 @@ use Rattle.flat_core.proofs.Parts.{untouched, streams_kept, sessions_kept, sessi
 use Rattle.flat_core.proofs.Maps.{map_kept, walk_passed}
 use Rattle.flat_core.proofs.Streams.{stream_among}
 use Rattle.flat_core.proofs.Ranges.{begun_of, living}
+use Rattle.flat_core.proofs.ImportFills.{fill_tells}
 use Rattle.flat_core.proofs.BundleKeeps.{IsOfBegun, of_begun, counted_bundle}
 
 -- what the values of a header in form are bounded by
@@ -180,6 +181,7 @@ module _ (m : Machine) (w : World) (t : ℕ) (l : Lawful m w) (built : (length (
       ops = put w.tds.ops t op.MemoryImport;
       epochs = put w.tds.epochs t 1;
       mrtds = put w.tds.mrtds t mrtd;
+      mrtds_given = put w.tds.mrtds_given t (Some mrtd);
       sessions = put w.tds.sessions t session;
       mig_epochs = put w.tds.mig_epochs t 1;
     };
@@ -196,6 +198,7 @@ module _ (m : Machine) (w : World) (t : ℕ) (l : Lawful m w) (built : (length (
         ops = put w.tds.ops t op.MemoryImport;
         epochs = put w.tds.epochs t 1;
         mrtds = put w.tds.mrtds t mrtd;
+        mrtds_given = put w.tds.mrtds_given t (Some mrtd);
         sessions = put w.tds.sessions t session;
         mig_epochs = put w.tds.mig_epochs t 1;
       }
@@ -253,10 +256,6 @@ fill_of_begun : (t gpa page : ℕ) (ws : ℕ → ℕ) (s : EntryState) (w : Worl
 fill_of_begun t gpa page ws entry.Free w k h x q a =
     h x q (record { kind = by_test (x == page) (λ y. absurd (let no : kind.Reg ≡ kind.Tdr = rw y at a.kind in cc)) (λ n. rw n at a.kind); life = a.life })
 fill_of_begun t gpa page ws _ w k h x q a = h x q a
-
-fill_tells : (t gpa page : ℕ) (ws : ℕ → ℕ) (s : EntryState) (w : World) → (fill_page t gpa page ws s w).outgoing.to_tell ≡ w.outgoing.to_tell
-fill_tells t gpa page ws entry.Free w = refl
-fill_tells t gpa page ws _ w = refl
 
 -- a GPA of the form's is one of the map's
 mapped_range : (h : ClearHeader) → IsInForm h → list_any (λ k. k == h.kind) (3 ∷ []) ≡ true → number_at 0 h.gpa * level_size 0 < 2 ^ 47

@@ -51,27 +51,3 @@ pub import_page-holds : (m : Machine) (b : Option Incoming) (t slot page : ℕ) 
 import_page-holds m b t slot page v w h =
     let x : Input = input_in b in
     (h.0, (h.1.0, (h.1.1.0, (tt, (tt, (tt, (tt, (tt, (tt, (tt, (tt, (tt, (tt, (tt, (tt, (tt, (tt, (tt, fill_holds w t x.header.gpa page x (entry_at w t 0 x.header.gpa).state))))))))))))))))))
-
-pub import_immutable-holds : (m : Machine) (b : Option Incoming) (t slot : ℕ) (v w : World) → ArgumentsHold ((import_immutable m b t slot).items v) → ArgumentsHold ((import_immutable m b t slot).items w)
-import_immutable-holds m b t slot v w h = h
-
-pub import_token-holds : (m : Machine) (b : Option Incoming) (t slot : ℕ) (v w : World) → ArgumentsHold ((import_token m b t slot).items v) → ArgumentsHold ((import_token m b t slot).items w)
-import_token-holds m b t slot v w h = h
-
-pub import_td-holds : (m : Machine) (b : Option Incoming) (t slot : ℕ) (v w : World) → ArgumentsHold ((import_td m b t slot).items v) → ArgumentsHold ((import_td m b t slot).items w)
-import_td-holds m b t slot v w h = h
-
-pub import_vp-holds : (m : Machine) (b : Option Incoming) (t vp slot : ℕ) (v w : World) → ArgumentsHold ((import_vp m b t vp slot).items v) → ArgumentsHold ((import_vp m b t vp slot).items w)
-import_vp-holds m b t vp slot v w h = h
-
-pub commit_import-holds : (m : Machine) (t : ℕ) (v w : World) → ArgumentsHold ((commit_import m t).items v) → ArgumentsHold ((commit_import m t).items w)
-commit_import-holds m t v w h = h
-
-pub end_import-holds : (m : Machine) (t : ℕ) (v w : World) → ArgumentsHold ((end_import m t).items v) → ArgumentsHold ((end_import m t).items w)
-end_import-holds m t v w h = h
-
-pub abort_import-holds : (m : Machine) (t slot : ℕ) (v w : World) → ArgumentsHold ((abort_import m t slot).items v) → ArgumentsHold ((abort_import m t slot).items w)
-abort_import-holds m t slot v w h = h
-
-pub abort_by_token-holds : (m : Machine) (b : Option Incoming) (t slot : ℕ) (v w : World) → ArgumentsHold ((abort_by_token m b t slot).items v) → ArgumentsHold ((abort_by_token m b t slot).items w)
-abort_by_token-holds m b t slot v w h = h

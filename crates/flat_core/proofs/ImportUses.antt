@@ -12,8 +12,7 @@ use Rattle.flat_core.specs.Conditions.{is_host_in}
 use Rattle.flat_core.specs.Tree.{number_at, entry_at, state_in}
 use Rattle.flat_core.specs.Inputs.{Input, input_in, tag_holds}
 use Rattle.flat_core.specs.ImportRows.{importable, page_to_fill, fill_page, import_page}
-use Rattle.flat_core.specs.Laws.{IsUsedAsBefore, RowKeepsUses}
-use Rattle.flat_core.specs.ImportLaws.{none_given_back}
+use Rattle.flat_core.specs.Laws.{IsUsedAsBefore}
 use Rattle.flat_core.proofs.Maps.{behind_walk}
 use Rattle.flat_core.proofs.Uses.{host_taken}
 
@@ -22,8 +21,8 @@ filled_uses : (w : World) (u gpa page : ℕ) (ws : ℕ → ℕ) (rest : List (It
 filled_uses w u gpa page ws rest q entry.Free ps owned = host_taken w page kind.Reg u 0 (number_at 0 gpa) q ps.0 owned
 filled_uses w u gpa page ws rest q _ ps owned = record { kind = refl; owner = refl; level = refl; number = refl }
 
-pub import_page-uses : (m : Machine) (b : Option Incoming) (u slot page : ℕ) → RowKeepsUses (import_page m b u slot page) none_given_back
-import_page-uses m b u slot page w q ps owned stays =
+pub import_page-uses : (m : Machine) (b : Option Incoming) (u slot page : ℕ) (w : World) (q : ℕ) → Passes ((import_page m b u slot page).items w) → is_host_in w.pages q ≡ false → IsUsedAsBefore w.pages ((import_page m b u slot page).act w).pages q
+import_page-uses m b u slot page w q ps owned =
     let i : Input = input_in b in
     let gpa : ℕ = i.header.gpa in
     let s : EntryState = (entry_at w u 0 gpa).state in

@@ -17,7 +17,7 @@ use Rattle.flat_core.specs.Effects.{leave_guest, tell_words}
 use Rattle.flat_core.specs.Translations.{look_up}
 use Rattle.flat_core.specs.Event.{State, Event, next_event, event_for, line_event, entered_event, epoch_event, max_event, guest_event, staying_event, due_event, operation_due, operation_event, private_event, lines_left, is_epoch_lock, nothing_more, world_after, call_world, operation_world, after_event, event, start}
 use Rattle.flat_core.specs.Run.{play}
-use Rattle.flat_core.specs.Laws.{IsKept, HoldsInRuns}
+use Rattle.flat_core.specs.Laws.{IsKept, IsKeptInRuns, HoldsInRuns}
 use Rattle.std.specs.Prelude.{nat_le}
 
 -- what every event keeps of the state, every schedule keeps
@@ -40,6 +40,14 @@ in_runs holds kept o ws schedule = by schedule (start o ws) (kept.start o ws)
     by : (ps : List ℕ) (s : State) → holds o s → holds o (play o ps s)
     by [] s h = h
     by (p ∷ ps) s h = by ps (event o s p) (kept.event o o.bundles s p h)
+
+-- so too what goes by the bundles that have come in
+pub in_runs_of : (holds : Opening → State → Type 0) → IsKeptInRuns holds → HoldsInRuns holds
+in_runs_of holds kept o ws schedule = by schedule (start o ws) (kept.start o ws)
+  where
+    by : (ps : List ℕ) (s : State) → holds o s → holds o (play o ps s)
+    by [] s h = h
+    by (p ∷ ps) s h = by ps (event o s p) (kept.event o s p h)
 
 -- as many processors as before
 pub count_stays : (o : Opening) (s : State) (p : ℕ) → (event o s p).lp_count ≡ s.lp_count

@@ -42,6 +42,7 @@ use Rattle.flat_core.proofs.Acts.{event_world}
 use Rattle.flat_core.proofs.Owned.{are_owned}
 use Rattle.flat_core.proofs.Always.{occ-of, occupied-alive, access_kept, reaches_own}
 use Rattle.flat_core.proofs.Known.{words_stay, still_known, known_beside, alive_before, lived_before, owner_of, reclaim_known, create_known, sept_known, added_known, same_entry, augmented_known, restated_known, unmapped_known}
+use Rattle.flat_core.proofs.ImportKnown.{import_page-known}
 
 row_known : (o : Opening) (me : ℕ) (c : Call) (w : World) → Lawful o.machine w → ArePagesKnown w → Passes ((row_of o me c).items w) → ArePagesKnown ((row_of o me c).act w)
 row_known o me (call.HostWrite page i v) w l h ps x n a = known_beside o.machine w l h (set_word page i v w) page x n (host_kind _ ps.1.1.0) a (λ p e. words_stay w.words page i v p e) refl refl
@@ -113,6 +114,7 @@ row_known o me (call.ExportMem t gpa k slot) w l h ps x n a =
     restated_known o.machine w l h t 0 (number_at 0 gpa) entry.ExportedBlockedW (w.tds.mig_epochs t) (can_export (w.tds.ops t) (entry_at w t 0 gpa).state p.state).same_memory x n (record { kind = a.kind; life = a.life })
 row_known o me (call.ExportTrack t slot zero) w l h ps x n a = h x n (record { kind = a.kind; life = a.life })
 row_known o me (call.ExportTrack t slot (suc i)) w l h ps x n a = h x n (record { kind = a.kind; life = a.life })
+row_known o me (call.ImportMem t slot page) w l h ps x n a = import_page-known o.machine (o.bundles slot) t slot page w l h ps x n a
 row_known o me _ w l h ps x n a = h x n (record { kind = a.kind; life = a.life })
 
 -- what a store puts into one page changes, of what guests know, that page's word alone

@@ -7,8 +7,11 @@ use Rattle.sha2.specs.Sha512.{sha384, digest_bytes as hash_bytes, final_hash, in
 use Rattle.td_words.specs.declared.replies.Value.TheVariants as value
 use Rattle.td_words.specs.declared.calls.Call.TheVariants as call
 use Rattle.flat_core.specs.Digests.{digest_word, digest_bytes, six_words}
+use Rattle.flat_core.specs.Tree.{entry_at}
+use Rattle.flat_core.specs.Inputs.{Input, input_in}
 use Rattle.flat_core.specs.Laws.{MrtdIsTheDigest, RecordsAreMeasured}
 use Rattle.flat_core.proofs.Tests.{put_here}
+use Rattle.flat_core.proofs.ImportFills.{fill_measured}
 
 byte_small : (i n : ℕ) → byte_at i n < 256
 byte_small zero n = omega arith
@@ -53,4 +56,7 @@ pub records_are_measured : RecordsAreMeasured
 records_are_measured o me (call.HostRead page i) w t = refl
 records_are_measured o me (call.ExportTrack u slot zero) w t = refl
 records_are_measured o me (call.ExportTrack u slot (suc n)) w t = refl
+records_are_measured o me (call.ImportMem u slot page) w t =
+    let x : Input = input_in (o.bundles slot) in
+    ap (λ (f : ℕ → List ℕ). f t) (fill_measured u x.header.gpa page x.words (entry_at w u 0 x.header.gpa).state w)
 records_are_measured o me _ w t = refl

@@ -26,6 +26,7 @@ use Rattle.flat_core.proofs.Operations.{operation_row, accepted}
 use Rattle.flat_core.proofs.Enter.{all_pass}
 use Rattle.flat_core.proofs.Due.{Due, calls, frees, leaves, stops, fills, operates, walks, reaches, undoes, gives_back, due_event_is}
 use Rattle.flat_core.proofs.Uses.{same_use, other_taken, host_taken}
+use Rattle.flat_core.proofs.ImportUses.{import_page-uses}
 
 pub one_use : PagesHaveOneUse
 one_use o me (call.PhymemPageReclaim t page) w p ps owned stays = other_taken w page _ 0 0 0 p stays
@@ -48,6 +49,7 @@ one_use o me (call.MigStreamCreate t page) w p ps owned stays = host_taken w pag
 one_use o me (call.ExportBlockw t gpa) w p ps owned stays = record { kind = refl; owner = refl; level = refl; number = refl }
 one_use o me (call.ExportTrack t slot zero) w p ps owned stays = same_use w.pages p
 one_use o me (call.ExportTrack t slot (suc n)) w p ps owned stays = same_use w.pages p
+one_use o me (call.ImportMem t slot page) w p ps owned stays = import_page-uses o.machine (o.bundles slot) t slot page w p ps owned
 one_use o me _ w p ps owned stays = same_use w.pages p
 
 -- through events

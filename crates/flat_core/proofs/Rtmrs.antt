@@ -14,6 +14,8 @@ use Rattle.flat_core.specs.World.{World}
 use Rattle.flat_core.specs.Processor.{Answered, Held, Guest, Lp}
 use Rattle.flat_core.specs.Opening.{Opening}
 use Rattle.flat_core.specs.Row.{OperationRow, Move, Attempts, Undoes, Refuses, Succeeds, Releases, Rests, next, next_in}
+use Rattle.flat_core.specs.Tree.{entry_at}
+use Rattle.flat_core.specs.Inputs.{Input, input_in}
 use Rattle.flat_core.specs.Table.{row_of}
 use Rattle.flat_core.specs.Digests.{digest_bytes, six_words}
 use Rattle.flat_core.specs.Effects.{set_rtmr, tell_words}
@@ -23,6 +25,7 @@ use Rattle.flat_core.specs.Rtmrs.{rtmr_bytes, extension_bytes, rtmr_after_call, 
 use Rattle.flat_core.proofs.Tests.{by_test}
 use Rattle.flat_core.proofs.Operations.{accepted}
 use Rattle.flat_core.proofs.Mrtd.{digest_read}
+use Rattle.flat_core.proofs.ImportFills.{fill_rtmrs}
 use Rattle.flat_core.proofs.Due.{Due, calls, frees, leaves, stops, fills, operates, walks, reaches, undoes, gives_back, due_event_is}
 
 abbrev bytes_of : (ℕ → ℕ) → List ℕ
@@ -69,12 +72,18 @@ module _ (o : Opening) (w : World) (t i : ℕ) where
   abbrev Becomes : List ℕ → World → Type 0
   Becomes bytes x = rtmr_bytes x t i ≡ bytes
 
-  call_extends : (me : ℕ) (c : Call) → Becomes (rtmr_after_call c w t i) ((row_of o me c).act w)
+  call_extends : (me : ℕ) (c : Call) → Becomes (rtmr_after_call o c w t i) ((row_of o me c).act w)
   call_extends me (call.MngCreate tdr hkid) = by_test (t == tdr)
       (λ y. rw y refl)
       (λ y. rw y refl)
   call_extends me (call.ExportTrack tdr slot zero) = refl
   call_extends me (call.ExportTrack tdr slot (suc n)) = refl
+  call_extends me (call.ImportMem tdr slot page) =
+      let x : Input = input_in (o.bundles slot) in
+      ap (λ (f : ℕ → ℕ → ℕ). bytes_of (λ k. f t (6 * i + k))) (fill_rtmrs tdr x.header.gpa page x.words (entry_at w tdr 0 x.header.gpa).state w)
+  call_extends me (call.ImportStateTd tdr slot) = by_test (t == tdr)
+      (λ y. rw y refl)
+      (λ y. rw y refl)
   call_extends me (call.HostRead page word) = refl
   call_extends me _ = refl
 

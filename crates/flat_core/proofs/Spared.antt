@@ -16,6 +16,7 @@ use Rattle.flat_core.proofs.Tests.{by_test, host_kind, tdr_kind, range_of}
 use Rattle.flat_core.proofs.Maps.{node_named, walk_passed}
 use Rattle.flat_core.proofs.Ranges.{named_passed, named_alive, page_removed, sept_removed}
 use Rattle.flat_core.proofs.Sparing.{uninitialized_runs, initialized_runs, paused_runs, running_on, beside, no_change, page_off, tdr_off, life_off, op_off, flushed_off, owned_off, owner_of, named_off, created_off, elsewhere_off}
+use Rattle.flat_core.proofs.ImportSpared.{import_immutable-spares, import_page-spares, import_token-spares, import_td-spares, import_vp-spares, commit_import-spares, end_import-spares, abort_import-spares, abort_by_token-spares}
 
 pub row_spares : RowsSpare
 row_spares o me (call.PhymemPageReclaim u page) t n w p v l ps x apart =
@@ -122,5 +123,14 @@ row_spares o me (call.ExportStateVp u q slot) t n w p v l ps x apart =
     let owned : w.pages.owners q ≡ u = eqb-true _ u (and_parts (same_kind (w.pages.kinds q) kind.Tdvpr) (w.pages.owners q == u) ps.1.1.1.1.1.1.1.0).1 in
     let a = (owned_off m w l p t v x u q off owned).0 in
     beside m w l p t v x _ refl refl refl refl refl (record { index = refl; state = refl; associated = refl; last = refl; position = refl; exported = rw a refl; entered = refl; registers = λ r. refl })
+row_spares o me (call.ExportAbortByToken u slot) t n w p v l ps x apart = abort_by_token-spares o.machine (o.bundles slot) u slot me t w p v l ps x apart
+row_spares o me (call.ImportStateImmutable u slot) t n w p v l ps x apart = import_immutable-spares o.machine (o.bundles slot) u slot me t w p v l ps x apart
+row_spares o me (call.ImportMem u slot page) t n w p v l ps x apart = import_page-spares o.machine (o.bundles slot) u slot page me t w p v l ps x apart
+row_spares o me (call.ImportTrack u slot) t n w p v l ps x apart = import_token-spares o.machine (o.bundles slot) u slot me t w p v l ps x apart
+row_spares o me (call.ImportStateTd u slot) t n w p v l ps x apart = import_td-spares o.machine (o.bundles slot) u slot me t w p v l ps x apart
+row_spares o me (call.ImportStateVp u q slot) t n w p v l ps x apart = import_vp-spares o.machine (o.bundles slot) u q slot me t w p v l ps x apart
+row_spares o me (call.ImportCommit u) t n w p v l ps x apart = commit_import-spares o.machine u me t w p v l ps x apart
+row_spares o me (call.ImportEnd u) t n w p v l ps x apart = end_import-spares o.machine u me t w p v l ps x apart
+row_spares o me (call.ImportAbort u slot) t n w p v l ps x apart = abort_import-spares o.machine u slot me t w p v l ps x apart
 row_spares o me (call.HostRead page i) t n w p v l ps x apart = beside o.machine w l p t v x _ refl refl refl refl refl (no_change o.machine w l p t v x _ refl refl)
 row_spares o me _ t n w p v l ps x apart = beside o.machine w l p t v x _ refl refl refl refl refl (record { index = refl; state = refl; associated = refl; last = refl; position = refl; exported = refl; entered = refl; registers = λ r. refl })

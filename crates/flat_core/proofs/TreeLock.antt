@@ -63,57 +63,66 @@ AreBehindOps (x ∷ xs) = IsBehindOp x xs × AreBehindOps xs
 tree_first : (t : ℕ) (xs : List (Option LockId)) → InOrder (Some (OfTree t) ∷ Some (OfOp t) ∷ None ∷ []) xs → InOrder [] (None ∷ Some (OfOp t) ∷ Some (OfTree t) ∷ xs)
 tree_first t xs h = (tt, (tt, ((inl refl, tt), h)))
 
-tries_in_order : (c : Call) (w : World) → InOrder [] (kinds (tries_of c w))
-tries_in_order (call.PhymemPageReclaim t page) w = by (page == t)
+tries_in_order : (o : Opening) (c : Call) (w : World) → InOrder [] (kinds (tries_of o c w))
+tries_in_order o (call.PhymemPageReclaim t page) w = by (page == t)
   where
     by : (b : Bool) → InOrder [] (None ∷ kinds (if b then [] else alone (OfPage page) ∷ []))
     by true = (tt, tt)
     by false = (tt, (tt, tt))
-tries_in_order (call.HostRead page word) w = (tt, tt)
-tries_in_order (call.HostWrite page word value) w = (tt, tt)
-tries_in_order (call.PhymemPageRdmd page) w = (tt, tt)
-tries_in_order call.PhymemCacheWb w = (tt, tt)
-tries_in_order (call.MngCreate t hkid) w = (tt, (tt, tt))
-tries_in_order (call.MngKeyConfig t) w = (tt, tt)
-tries_in_order (call.MngAddcx t page) w = (tt, (tt, tt))
-tries_in_order (call.MngInit t) w = (tt, (tt, tt))
-tries_in_order (call.MngRd t field.Life) w = (tt, tt)
-tries_in_order (call.MngRd t field.Op) w = (tt, (tt, tt))
-tries_in_order (call.MngRd t field.Epoch) w = (tt, (tt, (tt, tt)))
-tries_in_order (call.MngRd t field.Mrtd) w = (tt, (tt, tt))
-tries_in_order (call.MngVpflushdone t) w = (tt, (tt, tt))
-tries_in_order (call.MngKeyFreeid t) w = (tt, (tt, tt))
-tries_in_order (call.MrExtend t gpa) w = tree_first t (None ∷ []) (tt, tt)
-tries_in_order (call.MrFinalize t) w = (tt, (tt, tt))
-tries_in_order (call.VpCreate t page) w = (tt, (tt, (tt, tt)))
-tries_in_order (call.VpInit t vp value) w = (tt, (tt, (tt, tt)))
-tries_in_order (call.VpEnter t vp most) w = (tt, (tt, (tt, (tt, tt))))
-tries_in_order (call.VpFlush t vp) w = (tt, (tt, tt))
-tries_in_order (call.MemSeptAdd t gpa level page) w = tree_first t (None ∷ []) (tt, tt)
-tries_in_order (call.MemSeptRd t gpa level) w = tree_first t [] tt
-tries_in_order (call.MemPageAdd t gpa page source) w = tree_first t (None ∷ None ∷ []) (tt, (tt, tt))
-tries_in_order (call.MemPageAug t gpa page) w = tree_first t (None ∷ []) (tt, tt)
-tries_in_order (call.MemSeptRemove t gpa level) w = tree_first t (Some (OfEpoch t) ∷ None ∷ []) (tt, (tt, tt))
-tries_in_order (call.MemPageRemove t gpa) w = tree_first t (Some (OfEpoch t) ∷ None ∷ []) (tt, (tt, tt))
-tries_in_order (call.MemRangeBlock t gpa level) w = tree_first t (Some (OfEpoch t) ∷ None ∷ []) (tt, (tt, tt))
-tries_in_order (call.MemRangeUnblock t gpa level) w = tree_first t (Some (OfEpoch t) ∷ None ∷ []) (tt, (tt, tt))
-tries_in_order (call.MemTrack t) w = (tt, (tt, (tt, tt)))
-tries_in_order (call.MigStreamCreate t page) w = (tt, (tt, (tt, tt)))
-tries_in_order (call.ExportBlockw t gpa) w = tree_first t (Some (OfEpoch t) ∷ None ∷ []) (tt, (tt, tt))
-tries_in_order (call.ExportUnblockw t gpa) w = tree_first t (None ∷ []) (tt, tt)
-tries_in_order (call.ExportPause t) w = tree_first t [] tt
-tries_in_order (call.ExportAbort t) w = tree_first t [] tt
-tries_in_order (call.ExportRestore t gpa) w = tree_first t (None ∷ []) (tt, tt)
-tries_in_order (call.ExportStateImmutable t slot) w = (tt, (tt, (tt, tt)))
-tries_in_order (call.ExportMem t gpa k slot) w = tree_first t (Some (OfEpoch t) ∷ None ∷ None ∷ []) (tt, (tt, (tt, tt)))
-tries_in_order (call.ExportTrack t slot start) w = tree_first t [] tt
-tries_in_order (call.ExportStateTd t slot) w = (tt, (tt, tt))
-tries_in_order (call.ExportStateVp t vp slot) w = (tt, (tt, (tt, tt)))
+tries_in_order o (call.HostRead page word) w = (tt, tt)
+tries_in_order o (call.HostWrite page word value) w = (tt, tt)
+tries_in_order o (call.PhymemPageRdmd page) w = (tt, tt)
+tries_in_order o call.PhymemCacheWb w = (tt, tt)
+tries_in_order o (call.MngCreate t hkid) w = (tt, (tt, tt))
+tries_in_order o (call.MngKeyConfig t) w = (tt, tt)
+tries_in_order o (call.MngAddcx t page) w = (tt, (tt, tt))
+tries_in_order o (call.MngInit t) w = (tt, (tt, tt))
+tries_in_order o (call.MngRd t field.Life) w = (tt, tt)
+tries_in_order o (call.MngRd t field.Op) w = (tt, (tt, tt))
+tries_in_order o (call.MngRd t field.Epoch) w = (tt, (tt, (tt, tt)))
+tries_in_order o (call.MngRd t field.Mrtd) w = (tt, (tt, tt))
+tries_in_order o (call.MngVpflushdone t) w = (tt, (tt, tt))
+tries_in_order o (call.MngKeyFreeid t) w = (tt, (tt, tt))
+tries_in_order o (call.MrExtend t gpa) w = tree_first t (None ∷ []) (tt, tt)
+tries_in_order o (call.MrFinalize t) w = (tt, (tt, tt))
+tries_in_order o (call.VpCreate t page) w = (tt, (tt, (tt, tt)))
+tries_in_order o (call.VpInit t vp value) w = (tt, (tt, (tt, tt)))
+tries_in_order o (call.VpEnter t vp most) w = (tt, (tt, (tt, (tt, tt))))
+tries_in_order o (call.VpFlush t vp) w = (tt, (tt, tt))
+tries_in_order o (call.MemSeptAdd t gpa level page) w = tree_first t (None ∷ []) (tt, tt)
+tries_in_order o (call.MemSeptRd t gpa level) w = tree_first t [] tt
+tries_in_order o (call.MemPageAdd t gpa page source) w = tree_first t (None ∷ None ∷ []) (tt, (tt, tt))
+tries_in_order o (call.MemPageAug t gpa page) w = tree_first t (None ∷ []) (tt, tt)
+tries_in_order o (call.MemSeptRemove t gpa level) w = tree_first t (Some (OfEpoch t) ∷ None ∷ []) (tt, (tt, tt))
+tries_in_order o (call.MemPageRemove t gpa) w = tree_first t (Some (OfEpoch t) ∷ None ∷ []) (tt, (tt, tt))
+tries_in_order o (call.MemRangeBlock t gpa level) w = tree_first t (Some (OfEpoch t) ∷ None ∷ []) (tt, (tt, tt))
+tries_in_order o (call.MemRangeUnblock t gpa level) w = tree_first t (Some (OfEpoch t) ∷ None ∷ []) (tt, (tt, tt))
+tries_in_order o (call.MemTrack t) w = (tt, (tt, (tt, tt)))
+tries_in_order o (call.MigStreamCreate t page) w = (tt, (tt, (tt, tt)))
+tries_in_order o (call.ExportBlockw t gpa) w = tree_first t (Some (OfEpoch t) ∷ None ∷ []) (tt, (tt, tt))
+tries_in_order o (call.ExportUnblockw t gpa) w = tree_first t (None ∷ []) (tt, tt)
+tries_in_order o (call.ExportPause t) w = tree_first t [] tt
+tries_in_order o (call.ExportAbort t) w = tree_first t [] tt
+tries_in_order o (call.ExportRestore t gpa) w = tree_first t (None ∷ []) (tt, tt)
+tries_in_order o (call.ExportStateImmutable t slot) w = (tt, (tt, (tt, tt)))
+tries_in_order o (call.ExportMem t gpa k slot) w = tree_first t (Some (OfEpoch t) ∷ None ∷ None ∷ []) (tt, (tt, (tt, tt)))
+tries_in_order o (call.ExportTrack t slot start) w = tree_first t [] tt
+tries_in_order o (call.ExportStateTd t slot) w = (tt, (tt, tt))
+tries_in_order o (call.ExportStateVp t vp slot) w = (tt, (tt, (tt, tt)))
+tries_in_order o (call.ExportAbortByToken t slot) w = tree_first t [] tt
+tries_in_order o (call.ImportStateImmutable t slot) w = (tt, (tt, (tt, tt)))
+tries_in_order o (call.ImportMem t slot page) w = tree_first t (None ∷ []) (tt, tt)
+tries_in_order o (call.ImportTrack t slot) w = tree_first t [] tt
+tries_in_order o (call.ImportStateTd t slot) w = (tt, (tt, tt))
+tries_in_order o (call.ImportStateVp t vp slot) w = (tt, (tt, (tt, tt)))
+tries_in_order o (call.ImportCommit t) w = tree_first t [] tt
+tries_in_order o (call.ImportEnd t) w = (tt, (tt, tt))
+tries_in_order o (call.ImportAbort t slot) w = tree_first t [] tt
 
--- and in every world they are the same
-kinds_same : (c : Call) (v w : World) → kinds (tries_of c v) ≡ kinds (tries_of c w)
-kinds_same (call.HostRead page word) v w = refl
-kinds_same _ v w = refl
+-- and in every world they are the same, whatever bundles have come in
+pub kinds_same : (c : Call) (o q : Opening) (v w : World) → kinds (tries_of o c v) ≡ kinds (tries_of q c w)
+kinds_same (call.HostRead page word) o q v w = refl
+kinds_same _ o q v w = refl
 
 -- the locks held, oldest first, and then these
 
@@ -136,17 +145,17 @@ next_tried (Try a b ∷ items) zero l m e = let same : a ≡ l = cc in (kinds (t
 next_tried (Try a b ∷ items) (suc k) l m e = next_tried items k l m e
 
 -- the locks that a call tries first
-first_behind : (c : Call) (w : World) (hs : List Held) → AreFirstTries c hs → AreBehindOps (kinds hs)
-first_behind c w hs first = let x = first w in (from_order hs x.0 (subst (λ (ys : List (Option LockId)). InOrder [] ys) x.1 (tries_in_order c w))).0
+first_behind : (o : Opening) (c : Call) (w : World) (hs : List Held) → AreFirstTries c hs → AreBehindOps (kinds hs)
+first_behind o c w hs first = let x = first o w in (from_order hs x.0 (subst (λ (ys : List (Option LockId)). InOrder [] ys) x.1 (tries_in_order o c w))).0
 
 but_first : (c : Call) (h : Held) (hs : List Held) → AreFirstTries c (h ∷ hs) → AreFirstTries c hs
-but_first c h hs first w = let x = first w in (but_page h.lock ∷ x.0, x.1)
+but_first c h hs first o w = let x = first o w in (but_page h.lock ∷ x.0, x.1)
 
 fresh : (cs : List Call) (lp : Lp) → lp.guest ≡ None → lp.call ≡ nothing_yet → IsOrderlyAt cs lp
 fresh [] lp g e = (g, e)
 fresh (c ∷ cs) lp g e =
     subst (λ (x : Option Guest). IsOrderlyIn c lp x) (sym g)
-    (subst (λ (x : Progress Reply). AreFirstTries c (undo_of x.phase ++ x.held)) (sym e) (λ w. (kinds (tries_of c w), refl)))
+    (subst (λ (x : Progress Reply). AreFirstTries c (undo_of x.phase ++ x.held)) (sym e) (λ o w. (kinds (tries_of o c w), refl)))
 
 -- The locks that a guest's entry and its operation hold
 
@@ -187,7 +196,7 @@ nothing_behind (x ∷ xs) e = absurd (omega (arith, e))
 entry_held : (o : Opening) (me t v most : ℕ) (w : World) (hs : List Held) → AreFirstTries (call.VpEnter t v most) hs → next ((row_of o me (call.VpEnter t v most)).items w) (length hs) ≡ Succeeds
     → kinds hs ≡ kinds (entry_locks t v)
 entry_held o me t v most w hs first is =
-    let x = first w in
+    let x = first o w in
     let tried = all_tried ((row_of o me (call.VpEnter t v most)).items w) (length hs) is in
     let long = length_onto hs x.0 in
     let same = ap length x.1 in
@@ -224,7 +233,7 @@ but_epoch h hs t v epoch (inr e) = cc
 
 -- VP.ENTER tries first what it leaves its guest
 guest_first : (t v most : ℕ) (hs : List Held) → kinds hs ≡ kinds (guest_locks t v) → AreFirstTries (call.VpEnter t v most) hs
-guest_first t v most hs e w =
+guest_first t v most hs e o w =
     let rest : List (Option LockId) = Some (OfEpoch t) ∷ [] in
     let turns : turned (kinds (guest_locks t v)) rest ≡ onto hs rest = ap (λ (ks : List (Option LockId)). turned ks rest) (sym e) ∙ sym (onto_turned hs rest) in
     (rest, turns)
@@ -306,22 +315,22 @@ module _ (t v most : ℕ) where
 
 module _ (o : Opening) (p : ℕ) where
   module _ (c : Call) (w : World) (hs : List Held) (first : AreFirstTries c hs) (l : LockId) (m : Mode) (is : next ((row_of o p c).items w) (length hs) ≡ Attempts l m) where
-    rest : (xs : List (Option LockId)) × (kinds (tries_of c w) ≡ onto hs (but_page l ∷ xs))
+    rest : (xs : List (Option LockId)) × (kinds (tries_of o c w) ≡ onto hs (but_page l ∷ xs))
     rest =
         let items = (row_of o p c).items w in
-        let x = first w in
+        let x = first o w in
         let n = next_tried items (length hs) l m is in
-        let same : kinds (tries items) ≡ kinds (tries_of c w) = ap kinds (rows_try_lists o p c w) in
+        let same : kinds (tries items) ≡ kinds (tries_of o c w) = ap kinds (rows_try_lists o p c w) in
         let none : length hs ≡ length hs + 0 = omega arith in
         let left : x.0 ≡ but_page l ∷ n.0 =
         sym (drop_onto hs 0 x.0) ∙ (ap (λ (k : ℕ). drop k (onto hs x.0)) (sym none) ∙ (ap (drop (length hs)) (sym (same ∙ x.1)) ∙ n.1)) in
         (n.0, x.1 ∙ ap (onto hs) left)
 
     first_more : (n : Mode) → AreFirstTries c (record { lock = l; mode = n } ∷ hs)
-    first_more n v = (rest.0, kinds_same c v w ∙ rest.1)
+    first_more n q v = (rest.0, kinds_same c q o v w ∙ rest.1)
 
     next_behind : IsBehindOp (but_page l) (kinds hs)
-    next_behind = (first_behind c w (record { lock = l; mode = m } ∷ hs) (first_more m)).0
+    next_behind = (first_behind o c w (record { lock = l; mode = m } ∷ hs) (first_more m)).0
 
   module _ (c : Call) (cs : List Call) where
     goes_on : (lp : Lp) (phase : Phase Reply) (hs : List Held) → lp.guest ≡ None → lines_left o p lp ≡ c ∷ cs → AreFirstTries c (undo_of phase ++ hs) → IsOrderly (calls_of o.calls p) (record lp { call = record { phase = phase; held = hs } })
@@ -557,10 +566,10 @@ away l lp g a r =
     record { alone = x.0 ∙ none_alone l lp.call.held a; shared = x.1 ∙ none_shared l lp.call.held a; refused = x.2 ∙ r }
 
 -- a call that holds no O is away from T
-call_away : (t : ℕ) (c : Call) (phase : Phase Reply) (hs : List Held) → World → AreFirstTries c (undo_of phase ++ hs) → times_held (OfOp t) hs ≡ 0 → AreOthers (OfTree t) hs × (refused_in (OfTree t) phase ≡ 0)
-call_away t c Trying hs w h none = (no_trees t hs (first_behind c w hs h) none, refl)
-call_away t c (Undoing l) hs w h none = let behind = first_behind c w (shared l ∷ hs) h in let off = not_tree t l hs behind.0 none in (no_trees t hs behind.1 none, rw off refl)
-call_away t c (Answered r) hs w h none = (no_trees t hs (first_behind c w hs h) none, refl)
+call_away : (t : ℕ) (c : Call) (phase : Phase Reply) (hs : List Held) → Opening → World → AreFirstTries c (undo_of phase ++ hs) → times_held (OfOp t) hs ≡ 0 → AreOthers (OfTree t) hs × (refused_in (OfTree t) phase ≡ 0)
+call_away t c Trying hs o w h none = (no_trees t hs (first_behind o c w hs h) none, refl)
+call_away t c (Undoing l) hs o w h none = let behind = first_behind o c w (shared l ∷ hs) h in let off = not_tree t l hs behind.0 none in (no_trees t hs behind.1 none, rw off refl)
+call_away t c (Answered r) hs o w h none = (no_trees t hs (first_behind o c w hs h) none, refl)
 
 -- of one in guest
 inside : (l : LockId) (lp : Lp) (g : Guest) → lp.guest ≡ Some g → (alone_of l lp ≡ alone_in l lp.call.held + alone_in l g.operation.held) × (shared_of l lp ≡ shared_in l lp.call.held + shared_in l g.operation.held)
@@ -650,7 +659,7 @@ module _ (o : Opening) (s : State) (ordered : IsInOrder o s) where
             let x = outside (OfOp t) (s.lps q) n in
             let x0 = x.0 in let x1 = x.1 in let op0 = op.0 in let op1 = op.1 in
             let none : times_held (OfOp t) (s.lps q).call.held ≡ 0 = omega (arith, op0, op1, x0, x1) in
-            let tree = call_away t c (s.lps q).call.phase (s.lps q).call.held s.world (order_in q c cs None e n) none in
+            let tree = call_away t c (s.lps q).call.phase (s.lps q).call.held o s.world (order_in q c cs None e n) none in
             away (OfTree t) (s.lps q) n tree.0 tree.1
 
         by : (x : List Call) → lines_left o q (s.lps q) ≡ x → IsAway (OfTree t) (s.lps q)

@@ -13,6 +13,7 @@ use Rattle.td_words.specs.declared.replies.Reply.{Reply}
 use Rattle.td_words.specs.declared.replies.Reply.TheVariants.{Refused}
 use Rattle.flat_core.specs.World.{World}
 use Rattle.flat_core.specs.Processor.{OfPage, OfTree, OfEpoch, Held}
+use Rattle.flat_core.specs.Opening.{Opening}
 use Rattle.flat_core.specs.Row.{Item, Check, Try, tries_in}
 use Rattle.flat_core.specs.Conditions.{page_exclusive, host_page}
 use Rattle.flat_core.specs.Tree.{entry_at, walk, state_in, empty_below, named_page, is_passed, levels_above}
@@ -21,10 +22,12 @@ use Rattle.flat_core.specs.KeyRows.{reclaim_conditions}
 use Rattle.flat_core.specs.MemRows.{named_row, open_states, blocked_states}
 use Rattle.flat_core.specs.BundleRows.{tracked_in}
 use Rattle.flat_core.specs.Sessions.{stream_page}
+use Rattle.flat_core.specs.Inputs.{Input, input_in}
 use Rattle.flat_core.specs.Table.{row_of, most_tries}
 use Rattle.flat_core.specs.Bounds.{RowsTryFew}
 use Rattle.flat_core.specs.Laws.{RowsTryTheSame}
 use Rattle.flat_core.specs.Tries.{tries, shared, alone, td_tries, named_tries, tries_of, RowsTryTheirLists}
+use Rattle.flat_core.proofs.ImportFills.{fill_tries}
 
 -- a walk is conditions alone
 conditions_try_nothing : (b : ℕ → Bool) (r : ℕ → Reply) (ls : List ℕ) → tries (map (λ l. Check (b l) (r l)) ls) ≡ []
@@ -75,6 +78,9 @@ rows_try_lists o me (call.ExportMem t gpa k slot) w =
     (tracked_tries_nothing (w.tds.ops t) w t page)
 rows_try_lists o me (call.ExportTrack t slot zero) w = refl
 rows_try_lists o me (call.ExportTrack t slot (suc n)) w = refl
+rows_try_lists o me (call.ImportMem t slot page) w =
+    let x : Input = input_in (o.bundles slot) in
+    ap (λ (hs : List Held). td_tries t Shared ++ alone (OfTree t) ∷ hs) (fill_tries w t x.header.gpa page x (entry_at w t 0 x.header.gpa).state)
 rows_try_lists o me (call.HostRead page word) w = refl
 rows_try_lists o me _ w = refl
 
@@ -85,29 +91,29 @@ tries_counted [] = refl
 tries_counted (Check b r ∷ items) = tries_counted items
 tries_counted (Try l m ∷ items) = let rest = tries_counted items in omega (arith, rest)
 
-few_tries : (c : Call) (w : World) → length (tries_of c w) ≤ most_tries c
-few_tries (call.PhymemPageReclaim t page) w = by (page == t)
+few_tries : (o : Opening) (c : Call) (w : World) → length (tries_of o c w) ≤ most_tries c
+few_tries o (call.PhymemPageReclaim t page) w = by (page == t)
   where
     by : (b : Bool) → length (alone (OfPage t) ∷ (if b then [] else alone (OfPage page) ∷ [])) ≤ 2
     by true = omega arith
     by false = omega arith
-few_tries (call.MngRd t field.Life) w = omega arith
-few_tries (call.MngRd t field.Op) w = omega arith
-few_tries (call.MngRd t field.Epoch) w = omega arith
-few_tries (call.MngRd t field.Mrtd) w = omega arith
-few_tries _ w = omega arith
+few_tries o (call.MngRd t field.Life) w = omega arith
+few_tries o (call.MngRd t field.Op) w = omega arith
+few_tries o (call.MngRd t field.Epoch) w = omega arith
+few_tries o (call.MngRd t field.Mrtd) w = omega arith
+few_tries o _ w = omega arith
 
-same_count : (c : Call) (v w : World) → length (tries_of c v) ≡ length (tries_of c w)
-same_count (call.HostRead page word) v w = refl
-same_count _ v w = refl
+same_count : (o : Opening) (c : Call) (v w : World) → length (tries_of o c v) ≡ length (tries_of o c w)
+same_count o (call.HostRead page word) v w = refl
+same_count o _ v w = refl
 
 pub row_tries : RowsTryFew
 row_tries o me c w =
-    let few = few_tries c w in
+    let few = few_tries o c w in
     let many = tries_counted ((row_of o me c).items w) ∙ ap length (rows_try_lists o me c w) in
     omega (arith, few, many)
 
 pub rows_try_the_same : RowsTryTheSame
 rows_try_the_same o me c v w =
-    let many : (x : World) → tries_in ((row_of o me c).items x) ≡ length (tries_of c x) = λ x. tries_counted ((row_of o me c).items x) ∙ ap length (rows_try_lists o me c x) in
-    many v ∙ (same_count c v w ∙ sym (many w))
+    let many : (x : World) → tries_in ((row_of o me c).items x) ≡ length (tries_of o c x) = λ x. tries_counted ((row_of o me c).items x) ∙ ap length (rows_try_lists o me c x) in
+    many v ∙ (same_count o c v w ∙ sym (many w))

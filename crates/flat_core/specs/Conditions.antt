@@ -183,10 +183,6 @@ all_ops = op.Uninitialized ∷ begun_ops
 abbrev pub running_ops : List OpState
 running_ops = op.Runnable ∷ op.LiveExport ∷ op.LiveImport ∷ []
 
--- those in which a TD that was built here runs or is exported
-abbrev pub built_here_ops : List OpState
-built_here_ops = op.Runnable ∷ op.LiveExport ∷ op.PausedExport ∷ op.PostExport ∷ []
-
 -- the one in which its pages are blocked, unblocked and removed: while it runs and no session stands
 abbrev pub blocking_ops : List OpState
 blocking_ops = op.Runnable ∷ []

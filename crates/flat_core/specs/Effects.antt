@@ -103,7 +103,9 @@ abbrev pub measure : ℕ → List ℕ → World → World
 measure t records w = record w { tds = record (w.tds) { measured = put w.tds.measured t (w.tds.measured t ++ records) } }
 
 abbrev pub end_measurement : ℕ → World → World
-end_measurement t w = record w { tds = record (w.tds) { mrtds = put w.tds.mrtds t (digest_word (sha384 (w.tds.measured t))) } }
+end_measurement t w = record w {
+  tds = record (w.tds) { mrtds = put w.tds.mrtds t (digest_word (sha384 (w.tds.measured t))); mrtds_given = put w.tds.mrtds_given t None };
+}
 
 -- a page becomes the TDVPR page of the TD's next virtual processor
 abbrev pub add_vp : ℕ → ℕ → World → World
@@ -139,6 +141,7 @@ new_td t h w = record w {
     streams = put w.tds.streams t [];
     measured = put w.tds.measured t [];
     mrtds = put w.tds.mrtds t (λ i. 0);
+    mrtds_given = put w.tds.mrtds_given t None;
     sessions = put w.tds.sessions t 0;
     mig_epochs = put w.tds.mig_epochs t 0;
     td_exported = put w.tds.td_exported t 0;

@@ -1,6 +1,6 @@
 -- Calls of a migration's destination, and the end of a source's export by the destination's token (TD Migration Architecture,
 -- "Migration Session Control"; ABI Reference, "TDH.IMPORT" leaf functions). Each row of a call with an input
--- slot is given the bundle that came there. The leaf table doesn't have these rows yet.
+-- slot is given the bundle that came there.
 use Rattle.std.specs.Prelude.{ℕ, ◌+◌, ◌-◌, ◌^◌, ◌==◌, List, [], ◌∷◌, ◌++◌, Option, Some, Bool, true, false, nat_lt}
 use Rattle.td_words.specs.declared.names.PageKind.TheVariants as kind
 use Rattle.td_words.specs.declared.names.OpState.{OpState}
@@ -60,6 +60,7 @@ begin_import t x w = record w {
     epochs = put w.tds.epochs t 1;
     vps_expected = put w.tds.vps_expected t x.header.info;
     mrtds = put w.tds.mrtds t x.words;
+    mrtds_given = put w.tds.mrtds_given t (Some x.words);
     sessions = put w.tds.sessions t x.header.session;
     mig_epochs = put w.tds.mig_epochs t 1;
   };
@@ -74,8 +75,9 @@ import_immutable m b tdr slot = let x = input_in b in call_row
     (λ w. count_bundle tdr 0 (begin_import tdr x w))
     (λ w. value.Nothing)
 
--- IMPORT.MEM TDR SLOT PAGE: a page's words come in. Where its entry is FREE, the page is taken, else PAGE isn't used; that the
--- guest may know the words from then on, is noted (ABI Reference, "TDH.IMPORT.MEM")
+-- IMPORT.MEM TDR SLOT PAGE: a page's words come in, before the start token; a page that comes late has no row yet. Where its
+-- entry is FREE, the page is taken, else PAGE isn't used; that the guest may know the words from then on, is noted (ABI
+-- Reference, "TDH.IMPORT.MEM")
 abbrev pub importable : List EntryState
 importable = entry.Free ∷ entry.Mapped ∷ []
 

@@ -1,5 +1,5 @@
--- Worked imports, which compute: the bundles of the worked export with pages come to another machine, where the rows of an
--- import, which the leaf table doesn't have yet, are gone through one after the other, each with the locks that it tries.
+-- Worked imports, which compute: the bundles of the worked export with pages come to another machine, where the calls of an
+-- import take them. Each call's row is gone through at once, as if every try were granted.
 use Rattle.std.specs.Prelude.{◌≡◌, ℕ, List, [], ◌∷◌, ◌++◌, map, replicate, drop, Option, Some, None, Ok, true, false, ◌==◌, option_map}
 use Rattle.std.specs.List.{find}
 use Rattle.td_words.specs.declared.names.OpState.TheVariants as op
@@ -8,7 +8,7 @@ use Rattle.td_words.specs.declared.names.PageKind.TheVariants as kind
 use Rattle.td_words.specs.declared.names.LimitName.TheVariants.{Vcpus}
 use Rattle.td_words.specs.declared.names.HeaderField.TheVariants as field
 use Rattle.td_words.specs.declared.calls.Call.{Call}
-use Rattle.td_words.specs.declared.calls.Call.TheVariants.{MngRd, VpCreate, VpInit, MemSeptAdd, MigStreamCreate, MngCreate, MngKeyConfig, MngAddcx}
+use Rattle.td_words.specs.declared.calls.Call.TheVariants.{MngRd, VpCreate, VpInit, MemSeptAdd, MigStreamCreate, MngCreate, MngKeyConfig, MngAddcx, ExportAbortByToken, ImportStateImmutable, ImportMem, ImportTrack, ImportStateTd, ImportStateVp, ImportCommit, ImportEnd, ImportAbort}
 use Rattle.td_words.specs.declared.names.ReadField.TheVariants.{Op}
 use Rattle.td_words.specs.declared.refusals.Status.TheVariants.{OperandInvalid, OpStateIncorrect, VcpuStateIncorrect, PageMetadataIncorrect, EptWalkFailed, Limit, NoStream, NoBundle, BundleHeader, BundleCounter, BundleTag, TokenTotal}
 use Rattle.td_words.specs.declared.replies.Value.TheVariants as value
@@ -19,34 +19,7 @@ use Rattle.flat_core.specs.Opening.{Opening, Incoming}
 use Rattle.flat_core.specs.Row.{Item, Check, Try, Row}
 use Rattle.flat_core.specs.Table.{row_of}
 use Rattle.flat_core.specs.Run.{run}
-use Rattle.flat_core.specs.ImportRows.{import_immutable, import_page, import_token, import_td, import_vp, commit_import, end_import, abort_import, abort_by_token}
 use Rattle.flat_core.specs.Worked.{usual_opening, success, exporting_pages}
-
--- what is done next: a call of the leaf table, or one of an import, of the TD of TDR page 1 where none is named, and of TDVPR
--- page 4
-pub data Step : Type 0 where
-  Listed : (c : Call) → Step
-  Immutable : (tdr slot : ℕ) → Step
-  Page : (slot page : ℕ) → Step
-  Token : (slot : ℕ) → Step
-  TdState : (slot : ℕ) → Step
-  VpState : (slot : ℕ) → Step
-  Commit : Step
-  End : Step
-  Abort : (slot : ℕ) → Step
-  ExportAbort : (slot : ℕ) → Step
-
-abbrev pub step_row : Opening → Step → Row
-step_row o (Listed c) = row_of o 0 c
-step_row o (Immutable tdr slot) = import_immutable o.machine (o.bundles slot) tdr slot
-step_row o (Page slot page) = import_page o.machine (o.bundles slot) 1 slot page
-step_row o (Token slot) = import_token o.machine (o.bundles slot) 1 slot
-step_row o (TdState slot) = import_td o.machine (o.bundles slot) 1 slot
-step_row o (VpState slot) = import_vp o.machine (o.bundles slot) 1 4 slot
-step_row o Commit = commit_import o.machine 1
-step_row o End = end_import o.machine 1
-step_row o (Abort slot) = abort_import o.machine 1 slot
-step_row o (ExportAbort slot) = abort_by_token o.machine (o.bundles slot) 1 slot
 
 -- the first condition that fails, where every try is granted
 abbrev pub first_fault : List (Item Reply) → Option Reply
@@ -64,12 +37,12 @@ abbrev pub after_row : Row → Option Reply → SoFar → SoFar
 after_row row None s = record { replies = s.replies ++ Done (row.value s.world) ∷ []; world = row.act s.world }
 after_row row (Some r) s = record { replies = s.replies ++ r ∷ []; world = s.world }
 
-abbrev pub all_done : Opening → List Step → SoFar → SoFar
+abbrev pub all_done : Opening → List Call → SoFar → SoFar
 all_done o [] s = s
-all_done o (c ∷ cs) s = all_done o cs (after_row (step_row o c) (first_fault ((step_row o c).items s.world)) s)
+all_done o (c ∷ cs) s = all_done o cs (after_row (row_of o 0 c) (first_fault ((row_of o 0 c).items s.world)) s)
 
-abbrev pub done_from : Opening → World → List Step → SoFar
-done_from o w cs = all_done o cs (record { replies = []; world = w })
+abbrev pub done_from : Opening → World → List Call → SoFar
+done_from o w calls = all_done o calls (record { replies = []; world = w })
 
 -- the source's world at its end, and its bundles as they come in, each in the slot that it was made in
 abbrev pub source : World
@@ -85,22 +58,27 @@ abbrev pub destination : Opening
 destination = arrived source.outgoing.bundles
 
 -- a TD with two streams, whose import begins; and with one virtual processor and the map of the first GPAs
-abbrev pub prepared : List Step
-prepared = map (λ c. Listed c) (MngCreate 1 1 ∷ MngKeyConfig 1 ∷ MngAddcx 1 2 ∷ MngAddcx 1 3 ∷ MigStreamCreate 1 11 ∷ MigStreamCreate 1 12 ∷ [])
+abbrev pub prepared : List Call
+prepared = MngCreate 1 1 ∷ MngKeyConfig 1 ∷ MngAddcx 1 2 ∷ MngAddcx 1 3 ∷ MigStreamCreate 1 11 ∷ MigStreamCreate 1 12 ∷ []
 
-abbrev pub begun : List Step
-begun = prepared ++ Immutable 1 0 ∷ map (λ c. Listed c) (VpCreate 1 4 ∷ MemSeptAdd 1 0 3 5 ∷ MemSeptAdd 1 0 2 6 ∷ MemSeptAdd 1 0 1 7 ∷ [])
+abbrev pub begun : List Call
+begun = prepared ++ ImportStateImmutable 1 0 ∷ VpCreate 1 4 ∷ MemSeptAdd 1 0 3 5 ∷ MemSeptAdd 1 0 2 6 ∷ MemSeptAdd 1 0 1 7 ∷ []
 
 -- The first page comes twice; the second time it is there already, so the page that is offered stays the host's.
-abbrev pub importing : List Step
-importing = begun ++ Page 1 8 ∷ Token 2 ∷ Page 3 13 ∷ Page 4 9 ∷ TdState 5 ∷ VpState 6 ∷ Token 7 ∷ Commit ∷ End ∷ []
+abbrev pub importing : List Call
+importing =
+    begun ++ ImportMem 1 1 8 ∷ ImportTrack 1 2 ∷ ImportMem 1 3 13 ∷ ImportMem 1 4 9 ∷ ImportStateTd 1 5 ∷ ImportStateVp 1 4 6 ∷ ImportTrack 1 7
+    ∷ ImportCommit 1 ∷ ImportEnd 1 ∷ []
 
 abbrev pub imported : SoFar
 imported = done_from destination (first_world 32 None) importing
 
--- the replies of what follows where an import has begun
-abbrev pub after_begun : List Step → List Reply
-after_begun cs = drop 11 (done_from destination (first_world 32 None) (begun ++ cs)).replies
+-- the replies of what follows where no import has begun yet, or one has
+abbrev pub after_prepared : Opening → List Call → List Reply
+after_prepared o calls = drop 6 (done_from o (first_world 32 None) (prepared ++ calls)).replies
+
+abbrev pub after_begun : List Call → List Reply
+after_begun calls = drop 11 (done_from destination (first_world 32 None) (begun ++ calls)).replies
 
 -- of an image the position of each virtual processor
 abbrev pub positions : Image → List ℕ
@@ -115,14 +93,14 @@ abbrev pub misshapen : Opening
 misshapen = arrived (map {A = Made} (λ b. record b { header = record (b.header) { info = 9 } }) source.outgoing.bundles)
 
 -- what follows on a machine with another HKID; and on the source, once an import there was given up
-abbrev pub after_begun_of_two : List Step → List Reply
-after_begun_of_two cs = drop 11 (done_from (record destination { machine = record { lps = 1; pages = 32; hkids = 2 } }) (first_world 32 None) (begun ++ cs)).replies
+abbrev pub after_begun_of_two : List Call → List Reply
+after_begun_of_two calls = drop 11 (done_from (record destination { machine = record { lps = 1; pages = 32; hkids = 2 } }) (first_world 32 None) (begun ++ calls)).replies
 
 abbrev pub given_up : World
-given_up = (done_from destination (first_world 32 None) (begun ++ Abort 30 ∷ [])).world
+given_up = (done_from destination (first_world 32 None) (begun ++ ImportAbort 1 30 ∷ [])).world
 
-abbrev pub back_at_the_source : List Step → List Reply
-back_at_the_source cs = (done_from (arrived given_up.outgoing.bundles) source cs).replies
+abbrev pub back_at_the_source : List Call → List Reply
+back_at_the_source calls = (done_from (arrived given_up.outgoing.bundles) source calls).replies
 
 pub record ImportExamples : Type 0 where
   -- an import takes each bundle of the export, in the order in which they were made
@@ -134,25 +112,25 @@ pub record ImportExamples : Type 0 where
   pub noted : option_map positions (imported.world.hidden.given 1) ≡ option_map positions (source.hidden.paused 1)
   pub session : imported.world.key_table.last_imported ∷ imported.world.tds.sessions 1 ∷ imported.world.tds.mig_epochs 1 ∷ [] ≡ 1 ∷ 1 ∷ 0xffffffff ∷ []
   -- each bundle has its place in the order: a page waits for the token before it, a token for all bundles before it
-  pub out_of_order : after_begun (Page 3 8 ∷ Token 7 ∷ Token 2 ∷ Page 1 8 ∷ Page 1 8 ∷ Token 2 ∷ Page 4 9 ∷ Page 3 10 ∷ VpState 6 ∷ TdState 5 ∷ TdState 5 ∷ Page 1 8 ∷ [])
+  pub out_of_order : after_begun (ImportMem 1 3 8 ∷ ImportTrack 1 7 ∷ ImportTrack 1 2 ∷ ImportMem 1 1 8 ∷ ImportMem 1 1 8 ∷ ImportTrack 1 2 ∷ ImportMem 1 4 9 ∷ ImportMem 1 3 10 ∷ ImportStateVp 1 4 6 ∷ ImportStateTd 1 5 ∷ ImportStateTd 1 5 ∷ ImportMem 1 1 8 ∷ [])
       ≡ Refused (BundleHeader field.Epoch) ∷ Refused (OpStateIncorrect op.MemoryImport) ∷ Refused (TokenTotal 1 2) ∷ success ∷ Refused (BundleCounter 1 0) ∷ success ∷ success ∷ success
       ∷ Refused (OpStateIncorrect op.MemoryImport) ∷ success ∷ Refused (OpStateIncorrect op.StateImport) ∷ Refused (BundleHeader field.Epoch) ∷ []
   -- a virtual processor's state comes once; then the start token, after which no page comes; and the TD is committed and ended
-  pub last_steps : after_begun (Page 1 8 ∷ Token 2 ∷ Page 3 8 ∷ Page 4 9 ∷ TdState 5 ∷ VpState 6 ∷ VpState 6 ∷ Commit ∷ Token 7 ∷ Page 4 10 ∷ End ∷ Commit ∷ Commit ∷ End ∷ [])
+  pub last_steps : after_begun (ImportMem 1 1 8 ∷ ImportTrack 1 2 ∷ ImportMem 1 3 8 ∷ ImportMem 1 4 9 ∷ ImportStateTd 1 5 ∷ ImportStateVp 1 4 6 ∷ ImportStateVp 1 4 6 ∷ ImportCommit 1 ∷ ImportTrack 1 7 ∷ ImportMem 1 4 10 ∷ ImportEnd 1 ∷ ImportCommit 1 ∷ ImportCommit 1 ∷ ImportEnd 1 ∷ [])
       ≡ replicate 6 success ++ Refused (VcpuStateIncorrect vcpu.Ready) ∷ Refused (OpStateIncorrect op.StateImport) ∷ success ∷ Refused (OpStateIncorrect op.PostImport) ∷ Refused (OpStateIncorrect op.PostImport)
       ∷ success ∷ Refused (OpStateIncorrect op.LiveImport) ∷ success ∷ []
   -- each kind of bundle has its call, and each slot its bundle; a page that is taken is the host's; and the TD has as many
   -- virtual processors as the first bundle says
-  pub not_this_bundle : after_begun (Page 0 8 ∷ Page 9 8 ∷ TdState 1 ∷ Page 1 1 ∷ Page 1 32 ∷ Page 1 4 ∷ Commit ∷ End ∷ Listed (VpInit 1 4 0) ∷ Listed (VpCreate 1 8) ∷ [])
+  pub not_this_bundle : after_begun (ImportMem 1 0 8 ∷ ImportMem 1 9 8 ∷ ImportStateTd 1 1 ∷ ImportMem 1 1 1 ∷ ImportMem 1 1 32 ∷ ImportMem 1 1 4 ∷ ImportCommit 1 ∷ ImportEnd 1 ∷ VpInit 1 4 0 ∷ VpCreate 1 8 ∷ [])
       ≡ Refused (BundleHeader field.Kind) ∷ Refused (NoBundle 9) ∷ Refused (BundleHeader field.Kind) ∷ Refused (OperandInvalid 3) ∷ Refused (OperandInvalid 3) ∷ Refused (PageMetadataIncorrect 4)
       ∷ Refused (OpStateIncorrect op.MemoryImport) ∷ Refused (OpStateIncorrect op.MemoryImport) ∷ Refused (OpStateIncorrect op.MemoryImport) ∷ Refused (Limit Vcpus) ∷ []
-  pub no_map : drop 7 (done_from destination (first_world 32 None) (prepared ++ Immutable 1 0 ∷ Page 1 8 ∷ [])).replies ≡ Refused (EptWalkFailed 3) ∷ []
+  pub no_map : after_prepared destination (ImportStateImmutable 1 0 ∷ ImportMem 1 1 8 ∷ []) ≡ success ∷ Refused (EptWalkFailed 3) ∷ []
   -- a session is imported once, over a stream
-  pub once : after_begun_of_two (Immutable 1 0 ∷ (map (λ c. Listed c) (MngCreate 20 2 ∷ MngKeyConfig 20 ∷ MngAddcx 20 21 ∷ MngAddcx 20 22 ∷ []) ++ Immutable 20 0 ∷ Listed (MigStreamCreate 20 23) ∷ Immutable 20 0 ∷ []))
+  pub once : after_begun_of_two (ImportStateImmutable 1 0 ∷ MngCreate 20 2 ∷ MngKeyConfig 20 ∷ MngAddcx 20 21 ∷ MngAddcx 20 22 ∷ ImportStateImmutable 20 0 ∷ MigStreamCreate 20 23 ∷ ImportStateImmutable 20 0 ∷ [])
       ≡ Refused (OpStateIncorrect op.MemoryImport) ∷ (replicate 4 success ++ Refused (NoStream 0) ∷ success ∷ Refused (BundleHeader field.Session) ∷ [])
   -- a wrong tag, and a wrong form, change nothing
-  pub tag : drop 6 (done_from tampered (first_world 32 None) (prepared ++ Immutable 1 0 ∷ Listed (MngRd 1 Op) ∷ [])).replies ≡ Refused BundleTag ∷ Done (value.Op op.Uninitialized) ∷ []
-  pub form : drop 6 (done_from misshapen (first_world 32 None) (prepared ++ Immutable 1 0 ∷ Listed (MngRd 1 Op) ∷ [])).replies ≡ Refused (BundleHeader field.Value) ∷ Done (value.Op op.Uninitialized) ∷ []
+  pub tag : after_prepared tampered (ImportStateImmutable 1 0 ∷ MngRd 1 Op ∷ []) ≡ Refused BundleTag ∷ Done (value.Op op.Uninitialized) ∷ []
+  pub form : after_prepared misshapen (ImportStateImmutable 1 0 ∷ MngRd 1 Op ∷ []) ≡ Refused (BundleHeader field.Value) ∷ Done (value.Op op.Uninitialized) ∷ []
   -- an import that is given up makes a token, by which the source runs on
-  pub abandoned : after_begun (Page 1 8 ∷ Abort 30 ∷ Page 1 9 ∷ Abort 31 ∷ []) ≡ success ∷ success ∷ Refused (OpStateIncorrect op.FailedImport) ∷ Refused (OpStateIncorrect op.FailedImport) ∷ []
-  pub runs_on : back_at_the_source (ExportAbort 0 ∷ ExportAbort 30 ∷ ExportAbort 30 ∷ Listed (MngRd 1 Op) ∷ []) ≡ Refused (NoBundle 0) ∷ success ∷ Refused (OpStateIncorrect op.Runnable) ∷ Done (value.Op op.Runnable) ∷ []
+  pub abandoned : after_begun (ImportMem 1 1 8 ∷ ImportAbort 1 30 ∷ ImportMem 1 1 9 ∷ ImportAbort 1 31 ∷ []) ≡ success ∷ success ∷ Refused (OpStateIncorrect op.FailedImport) ∷ Refused (OpStateIncorrect op.FailedImport) ∷ []
+  pub runs_on : back_at_the_source (ExportAbortByToken 1 0 ∷ ExportAbortByToken 1 30 ∷ ExportAbortByToken 1 30 ∷ MngRd 1 Op ∷ []) ≡ Refused (NoBundle 0) ∷ success ∷ Refused (OpStateIncorrect op.Runnable) ∷ Done (value.Op op.Runnable) ∷ []

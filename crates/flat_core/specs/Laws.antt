@@ -23,8 +23,9 @@ use Rattle.flat_core.specs.Processor.{Guest, Lp, nothing_yet}
 use Rattle.flat_core.specs.Locks.{one_if}
 pub use Rattle.flat_core.specs.Locks.{IsSole}
 use Rattle.flat_core.specs.Opening.{Opening, Incoming, Agree}
+use Rattle.flat_core.specs.Digests.{digest_bytes, six_words}
 use Rattle.flat_core.specs.Row.{Passes, Succeeds, Row, OperationRow, Move, tries_in}
-use Rattle.flat_core.specs.Conditions.{is_host_in, running_ops, built_here_ops}
+use Rattle.flat_core.specs.Conditions.{is_host_in, running_ops, later_ops}
 use Rattle.flat_core.specs.Tree.{entry_at}
 use Rattle.flat_core.specs.TdRows.{read_td, finalize}
 use Rattle.flat_core.specs.MemRows.{chunk_bytes}
@@ -72,6 +73,11 @@ with_bundles o bundles = record o { bundles = bundles }
 pub record IsKept (holds : Opening → State → Type 0) : Type 0 where
   pub start : (o : Opening) (words_to_tell : Option (List ℕ)) → holds o (start o words_to_tell)
   pub event : (o : Opening) (bundles : ℕ → Option Incoming) (s : State) (p : ℕ) → holds o s → holds o (event (with_bundles o bundles) s p)
+
+-- What goes by the bundles that have come in is kept by the events of one opening.
+pub record IsKeptInRuns (holds : Opening → State → Type 0) : Type 0 where
+  pub start : (o : Opening) (words_to_tell : Option (List ℕ)) → holds o (start o words_to_tell)
+  pub event : (o : Opening) (s : State) (p : ℕ) → holds o s → holds o (event o s p)
 
 -- so every schedule keeps it
 abbrev pub HoldsInRuns : (Opening → State → Type 0) → Type 0
@@ -193,15 +199,21 @@ pub record RefusedCallsStay : Type 0 where
   pub ended : (o : Opening) (s : State) (p : ℕ) (r : Reply)
       → ((event o s p).lps p).replies ≡ (s.lps p).replies ++ r ∷ [] → ((event o s p).lps p).call ≡ nothing_yet
 
--- MNG.RD gives as MRTD of a TD that is in RUNNABLE or is exported the SHA-384 of what the TD has measured.
-abbrev pub AreMrtdsDigests : Machine → World → Type 0
-AreMrtdsDigests m w = (tdr : ℕ) → list_any (λ s. op_number s == op_number (w.tds.ops tdr)) built_here_ops ≡ true → (read_td m tdr Mrtd).value w ≡ Digest (sha384 (w.tds.measured tdr))
+-- What a TD's MRTD is to be: the SHA-384 of what the TD has measured, or what its import gave.
+abbrev pub given_or_measured : Option (ℕ → ℕ) → List ℕ → List ℕ
+given_or_measured None records = sha384 records
+given_or_measured (Some words) records = digest_bytes (six_words words)
+
+-- MNG.RD gives just that of each TD that isn't being built
+abbrev pub AreMrtdsTrue : Machine → World → Type 0
+AreMrtdsTrue m w = (tdr : ℕ) → list_any (λ s. op_number s == op_number (w.tds.ops tdr)) later_ops ≡ true
+    → (read_td m tdr Mrtd).value w ≡ Digest (given_or_measured (w.tds.mrtds_given tdr) (w.tds.measured tdr))
 
 abbrev pub MrtdsAreKept : Type 0
-MrtdsAreKept = IsKept (λ o s. AreMrtdsDigests o.machine s.world)
+MrtdsAreKept = IsKept (λ o s. AreMrtdsTrue o.machine s.world)
 
-abbrev pub EveryMrtdIsTheDigest : Type 0
-EveryMrtdIsTheDigest = HoldsInRuns (λ o s. AreMrtdsDigests o.machine s.world)
+abbrev pub EveryMrtdIsTrue : Type 0
+EveryMrtdIsTrue = HoldsInRuns (λ o s. AreMrtdsTrue o.machine s.world)
 
 -- what TDs have measured after an event of a processor with these lines left: after the act of its call what that call
 -- leaves measured, and after any other event what they had

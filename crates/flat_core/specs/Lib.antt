@@ -30,7 +30,6 @@ pub mod HostText
 pub mod GuestText
 pub mod Lawful
 pub mod Alike
-pub mod ImportLaws
 pub mod Guests
 pub mod Inside
 pub mod Access

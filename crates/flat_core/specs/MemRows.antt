@@ -1,5 +1,5 @@
--- Calls that build a TD's secure EPT, add its pages, block, track and remove them, and measure the first (Base Architecture, "Secure
--- EPT", "TLB Tracking Sequence" and "TD Measurement").
+-- Calls that build a TD's secure EPT, add its pages, block, track and remove them, and measure the first (Base Architecture,
+-- "Secure EPT", "TLB Tracking Sequence" and "TD Measurement").
 use Rattle.std.specs.Prelude.{ℕ, ◌+◌, List, [], ◌∷◌, ◌++◌, map, Option, Some, None}
 use Rattle.std.specs.List.{range_with_len}
 use Rattle.mrtd_measure.specs.Records.{page_record, chunk_records}

@@ -27,9 +27,9 @@ abbrev pub onto : List Held → List (Option LockId) → List (Option LockId)
 onto [] xs = xs
 onto (h ∷ hs) xs = onto hs (but_page h.lock ∷ xs)
 
--- in every world the call tries these first
+-- in every world, whatever bundles have come in, the call tries these first
 abbrev pub AreFirstTries : Call → List Held → Type 0
-AreFirstTries c hs = (w : World) → (rest : List (Option LockId)) × (kinds (tries_of c w) ≡ onto hs rest)
+AreFirstTries c hs = (o : Opening) (w : World) → (rest : List (Option LockId)) × (kinds (tries_of o c w) ≡ onto hs rest)
 
 -- the lock of a shared try that was denied
 abbrev pub undo_of : {R : Type 0} → Phase R → List Held

@@ -7,7 +7,8 @@ use Rattle.td_words.specs.declared.calls.GuestOp.{GuestOp}
 use Rattle.td_words.specs.declared.calls.GuestOp.TheVariants as op
 use Rattle.flat_core.specs.World.{World}
 use Rattle.flat_core.specs.Processor.{Guest}
-use Rattle.flat_core.specs.Opening.{Opening}
+use Rattle.flat_core.specs.Opening.{Opening, Incoming}
+use Rattle.flat_core.specs.Inputs.{input_in}
 use Rattle.flat_core.specs.Row.{Succeeds}
 use Rattle.flat_core.specs.Digests.{digest_bytes, six_words}
 use Rattle.flat_core.specs.Event.{State, Event, OfCall, OfOperation, lines_left, next_event, event, operation_due}
@@ -20,10 +21,15 @@ rtmr_bytes w t i = digest_bytes (six_words (λ k. w.hidden.rtmrs t (6 * i + k)))
 abbrev pub extension_bytes : World → (vp : ℕ) → List ℕ
 extension_bytes w v = digest_bytes (six_words (w.hidden.registers v))
 
--- an RTMR after a call has succeeded: MNG.CREATE begins all four with zeros
-abbrev pub rtmr_after_call : Call → World → (tdr index : ℕ) → List ℕ
-rtmr_after_call (call.MngCreate tdr hkid) w t i = if t == tdr then replicate 48 0 else rtmr_bytes w t i
-rtmr_after_call _ w t i = rtmr_bytes w t i
+-- RTMR i of a bundle with the TD state
+abbrev pub rtmr_given : Option Incoming → (index : ℕ) → List ℕ
+rtmr_given b i = digest_bytes (six_words (λ k. (input_in b).words (6 * i + k)))
+
+-- an RTMR after a call has succeeded: MNG.CREATE begins all four with zeros, and IMPORT.STATE.TD gives those of its bundle
+abbrev pub rtmr_after_call : Opening → Call → World → (tdr index : ℕ) → List ℕ
+rtmr_after_call o (call.MngCreate tdr hkid) w t i = if t == tdr then replicate 48 0 else rtmr_bytes w t i
+rtmr_after_call o (call.ImportStateTd tdr slot) w t i = if t == tdr then rtmr_given (o.bundles slot) i else rtmr_bytes w t i
+rtmr_after_call o _ w t i = rtmr_bytes w t i
 
 -- and after a guest's operation has: `rtmr I` makes RTMR I the SHA-384 of what it was and of the guest's registers
 abbrev pub rtmr_after_operation : Option GuestOp → Guest → World → (tdr index : ℕ) → List ℕ
@@ -32,7 +38,7 @@ rtmr_after_operation _ g w t i = rtmr_bytes w t i
 
 -- after an event of a processor with these lines left and this guest: any other event leaves RTMRs as they are
 abbrev pub rtmr_after_event : Opening → List Call → Option Guest → Option Event → World → (tdr index : ℕ) → List ℕ
-rtmr_after_event o (c ∷ cs) guest (Some (OfCall row Succeeds)) w = rtmr_after_call c w
+rtmr_after_event o (c ∷ cs) guest (Some (OfCall row Succeeds)) w = rtmr_after_call o c w
 rtmr_after_event o cs (Some g) (Some (OfOperation row Succeeds)) w = rtmr_after_operation (operation_due o w g) g w
 rtmr_after_event _ _ _ _ w = rtmr_bytes w
 

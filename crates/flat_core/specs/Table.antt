@@ -11,6 +11,7 @@ use Rattle.flat_core.specs.VpRows.{create_vp, initialize_vp, enter_vp, flush_vp}
 use Rattle.flat_core.specs.MemRows.{add_sept, read_sept, add_page, augment_page, remove_page, remove_sept, block_range, unblock_range, advance_epoch, extend}
 use Rattle.flat_core.specs.ExportRows.{create_stream, block_write, unblock_write, pause, abort_export, restore}
 use Rattle.flat_core.specs.BundleRows.{export_immutable, export_page, export_token, export_td, export_vp}
+use Rattle.flat_core.specs.ImportRows.{import_immutable, import_page, import_token, import_td, import_vp, commit_import, end_import, abort_import, abort_by_token}
 
 abbrev pub row_of : Opening → ℕ → Call → Row
 row_of o me (call.HostRead page word) = host_read o.machine page word
@@ -51,6 +52,15 @@ row_of o me (call.ExportMem tdr gpa stream slot) = export_page o.machine tdr gpa
 row_of o me (call.ExportTrack tdr slot start) = export_token o.machine tdr slot start
 row_of o me (call.ExportStateTd tdr slot) = export_td o.machine tdr slot
 row_of o me (call.ExportStateVp tdr vp slot) = export_vp o.machine tdr vp slot
+row_of o me (call.ExportAbortByToken tdr slot) = abort_by_token o.machine (o.bundles slot) tdr slot
+row_of o me (call.ImportStateImmutable tdr slot) = import_immutable o.machine (o.bundles slot) tdr slot
+row_of o me (call.ImportMem tdr slot page) = import_page o.machine (o.bundles slot) tdr slot page
+row_of o me (call.ImportTrack tdr slot) = import_token o.machine (o.bundles slot) tdr slot
+row_of o me (call.ImportStateTd tdr slot) = import_td o.machine (o.bundles slot) tdr slot
+row_of o me (call.ImportStateVp tdr vp slot) = import_vp o.machine (o.bundles slot) tdr vp slot
+row_of o me (call.ImportCommit tdr) = commit_import o.machine tdr
+row_of o me (call.ImportEnd tdr) = end_import o.machine tdr
+row_of o me (call.ImportAbort tdr slot) = abort_import o.machine tdr slot
 
 -- at most how many locks a call tries
 abbrev pub most_tries : Call → ℕ
@@ -92,6 +102,15 @@ most_tries (call.ExportMem tdr gpa stream slot) = 6
 most_tries (call.ExportTrack tdr slot start) = 3
 most_tries (call.ExportStateTd tdr slot) = 2
 most_tries (call.ExportStateVp tdr vp slot) = 3
+most_tries (call.ExportAbortByToken tdr slot) = 3
+most_tries (call.ImportStateImmutable tdr slot) = 3
+most_tries (call.ImportMem tdr slot page) = 4
+most_tries (call.ImportTrack tdr slot) = 3
+most_tries (call.ImportStateTd tdr slot) = 2
+most_tries (call.ImportStateVp tdr vp slot) = 3
+most_tries (call.ImportCommit tdr) = 3
+most_tries (call.ImportEnd tdr) = 2
+most_tries (call.ImportAbort tdr slot) = 3
 
 -- at most how many events a guest has that a call enters: of each operation its tries, its act and releases, or four loads
 -- of a walk and the access; and the count step at the exit. So many operations may be completed, or one fewer and one not

@@ -14,6 +14,7 @@ use Rattle.flat_core.specs.Opening.{Opening}
 use Rattle.flat_core.specs.Row.{Item, Check, Try, Row}
 use Rattle.flat_core.specs.Tree.{entry_at}
 use Rattle.flat_core.specs.Sessions.{stream_page}
+use Rattle.flat_core.specs.Inputs.{input_in}
 use Rattle.flat_core.specs.Table.{row_of}
 
 -- the tries of a row, whether or not its conditions hold
@@ -78,50 +79,60 @@ filled_page page _ named = named
 abbrev pub page_tries : (tdr gpa page : ℕ) → World → List Held
 page_tries t gpa page w = let e = entry_at w t 0 gpa in td_tries t Shared ++ alone (OfTree t) ∷ alone (OfPage (filled_page page e.state e.page)) ∷ []
 
--- The table of tries, a line a call. A line looks at the world where the page is tried that an entry names, or that of a stream.
-abbrev pub tries_of : Call → World → List Held
-tries_of (call.HostRead page word) w = shared (OfPage page) ∷ []
-tries_of (call.HostWrite page word value) w = shared (OfPage page) ∷ []
-tries_of (call.PhymemPageRdmd page) w = shared (OfPage page) ∷ []
-tries_of call.PhymemCacheWb w = alone OfKeys ∷ []
-tries_of (call.PhymemPageReclaim tdr page) w = alone (OfPage tdr) ∷ (if page == tdr then [] else alone (OfPage page) ∷ [])
-tries_of (call.MngCreate tdr hkid) w = alone (OfPage tdr) ∷ alone OfKeys ∷ []
-tries_of (call.MngKeyConfig tdr) w = alone (OfPage tdr) ∷ []
-tries_of (call.MngAddcx tdr page) w = alone (OfPage tdr) ∷ alone (OfPage page) ∷ []
-tries_of (call.MngInit tdr) w = td_tries tdr Exclusive
-tries_of (call.MngRd tdr field) w = read_tries tdr field
-tries_of (call.MngVpflushdone tdr) w = alone (OfPage tdr) ∷ alone OfKeys ∷ []
-tries_of (call.MngKeyFreeid tdr) w = alone (OfPage tdr) ∷ alone OfKeys ∷ []
-tries_of (call.MrExtend tdr gpa) w = td_tries tdr Exclusive ++ shared (OfTree tdr) ∷ shared (OfPage (entry_at w tdr 0 gpa).page) ∷ []
-tries_of (call.MrFinalize tdr) w = td_tries tdr Exclusive
-tries_of (call.VpCreate tdr page) w = td_tries tdr Exclusive ++ alone (OfPage page) ∷ []
-tries_of (call.VpInit tdr vp value) w = td_tries tdr Shared ++ alone (OfPage vp) ∷ []
-tries_of (call.VpEnter tdr vp max) w = enter_tries tdr vp
-tries_of (call.VpFlush tdr vp) w = shared (OfPage tdr) ∷ alone (OfPage vp) ∷ []
-tries_of (call.MemSeptAdd tdr gpa level page) w = td_tries tdr Shared ++ alone (OfTree tdr) ∷ alone (OfPage page) ∷ []
-tries_of (call.MemSeptRd tdr gpa level) w = td_tries tdr Shared ++ alone (OfTree tdr) ∷ []
-tries_of (call.MemSeptRemove tdr gpa level) w = named_tries w tdr gpa level
-tries_of (call.MemPageAdd tdr gpa page source) w = td_tries tdr Exclusive ++ alone (OfTree tdr) ∷ alone (OfPage source) ∷ alone (OfPage page) ∷ []
-tries_of (call.MemPageAug tdr gpa page) w = td_tries tdr Shared ++ alone (OfTree tdr) ∷ alone (OfPage page) ∷ []
-tries_of (call.MemPageRemove tdr gpa) w = named_tries w tdr gpa 0
-tries_of (call.MemRangeBlock tdr gpa level) w = named_tries w tdr gpa level
-tries_of (call.MemRangeUnblock tdr gpa level) w = named_tries w tdr gpa level
-tries_of (call.MemTrack tdr) w = td_tries tdr Shared ++ alone (OfEpoch tdr) ∷ []
-tries_of (call.MigStreamCreate tdr page) w = td_tries tdr Exclusive ++ alone (OfPage page) ∷ []
-tries_of (call.ExportBlockw tdr gpa) w = td_tries tdr Shared ++ shared (OfTree tdr) ∷ shared (OfEpoch tdr) ∷ alone (OfPage (entry_at w tdr 0 gpa).page) ∷ []
-tries_of (call.ExportUnblockw tdr gpa) w = opened_tries w tdr gpa
-tries_of (call.ExportPause tdr) w = pause_tries tdr
-tries_of (call.ExportAbort tdr) w = td_tries tdr Exclusive ++ alone (OfTree tdr) ∷ []
-tries_of (call.ExportRestore tdr gpa) w = opened_tries w tdr gpa
-tries_of (call.ExportStateImmutable tdr slot) w = td_tries tdr Exclusive ++ alone OfKeys ∷ []
-tries_of (call.ExportMem tdr gpa stream slot) w = export_tries w tdr gpa stream
-tries_of (call.ExportTrack tdr slot start) w = td_tries tdr Exclusive ++ alone (OfTree tdr) ∷ []
-tries_of (call.ExportStateTd tdr slot) w = td_tries tdr Exclusive
-tries_of (call.ExportStateVp tdr vp slot) w = td_tries tdr Exclusive ++ alone (OfPage vp) ∷ []
+-- The table of tries, a line a call. A line looks at the world where the page is tried that an entry names, or that of a stream;
+-- and at the bundle that came in, where it has the entry's GPA.
+abbrev pub tries_of : Opening → Call → World → List Held
+tries_of o (call.HostRead page word) w = shared (OfPage page) ∷ []
+tries_of o (call.HostWrite page word value) w = shared (OfPage page) ∷ []
+tries_of o (call.PhymemPageRdmd page) w = shared (OfPage page) ∷ []
+tries_of o call.PhymemCacheWb w = alone OfKeys ∷ []
+tries_of o (call.PhymemPageReclaim tdr page) w = alone (OfPage tdr) ∷ (if page == tdr then [] else alone (OfPage page) ∷ [])
+tries_of o (call.MngCreate tdr hkid) w = alone (OfPage tdr) ∷ alone OfKeys ∷ []
+tries_of o (call.MngKeyConfig tdr) w = alone (OfPage tdr) ∷ []
+tries_of o (call.MngAddcx tdr page) w = alone (OfPage tdr) ∷ alone (OfPage page) ∷ []
+tries_of o (call.MngInit tdr) w = td_tries tdr Exclusive
+tries_of o (call.MngRd tdr field) w = read_tries tdr field
+tries_of o (call.MngVpflushdone tdr) w = alone (OfPage tdr) ∷ alone OfKeys ∷ []
+tries_of o (call.MngKeyFreeid tdr) w = alone (OfPage tdr) ∷ alone OfKeys ∷ []
+tries_of o (call.MrExtend tdr gpa) w = td_tries tdr Exclusive ++ shared (OfTree tdr) ∷ shared (OfPage (entry_at w tdr 0 gpa).page) ∷ []
+tries_of o (call.MrFinalize tdr) w = td_tries tdr Exclusive
+tries_of o (call.VpCreate tdr page) w = td_tries tdr Exclusive ++ alone (OfPage page) ∷ []
+tries_of o (call.VpInit tdr vp value) w = td_tries tdr Shared ++ alone (OfPage vp) ∷ []
+tries_of o (call.VpEnter tdr vp max) w = enter_tries tdr vp
+tries_of o (call.VpFlush tdr vp) w = shared (OfPage tdr) ∷ alone (OfPage vp) ∷ []
+tries_of o (call.MemSeptAdd tdr gpa level page) w = td_tries tdr Shared ++ alone (OfTree tdr) ∷ alone (OfPage page) ∷ []
+tries_of o (call.MemSeptRd tdr gpa level) w = td_tries tdr Shared ++ alone (OfTree tdr) ∷ []
+tries_of o (call.MemSeptRemove tdr gpa level) w = named_tries w tdr gpa level
+tries_of o (call.MemPageAdd tdr gpa page source) w = td_tries tdr Exclusive ++ alone (OfTree tdr) ∷ alone (OfPage source) ∷ alone (OfPage page) ∷ []
+tries_of o (call.MemPageAug tdr gpa page) w = td_tries tdr Shared ++ alone (OfTree tdr) ∷ alone (OfPage page) ∷ []
+tries_of o (call.MemPageRemove tdr gpa) w = named_tries w tdr gpa 0
+tries_of o (call.MemRangeBlock tdr gpa level) w = named_tries w tdr gpa level
+tries_of o (call.MemRangeUnblock tdr gpa level) w = named_tries w tdr gpa level
+tries_of o (call.MemTrack tdr) w = td_tries tdr Shared ++ alone (OfEpoch tdr) ∷ []
+tries_of o (call.MigStreamCreate tdr page) w = td_tries tdr Exclusive ++ alone (OfPage page) ∷ []
+tries_of o (call.ExportBlockw tdr gpa) w = td_tries tdr Shared ++ shared (OfTree tdr) ∷ shared (OfEpoch tdr) ∷ alone (OfPage (entry_at w tdr 0 gpa).page) ∷ []
+tries_of o (call.ExportUnblockw tdr gpa) w = opened_tries w tdr gpa
+tries_of o (call.ExportPause tdr) w = pause_tries tdr
+tries_of o (call.ExportAbort tdr) w = td_tries tdr Exclusive ++ alone (OfTree tdr) ∷ []
+tries_of o (call.ExportRestore tdr gpa) w = opened_tries w tdr gpa
+tries_of o (call.ExportStateImmutable tdr slot) w = td_tries tdr Exclusive ++ alone OfKeys ∷ []
+tries_of o (call.ExportMem tdr gpa stream slot) w = export_tries w tdr gpa stream
+tries_of o (call.ExportTrack tdr slot start) w = td_tries tdr Exclusive ++ alone (OfTree tdr) ∷ []
+tries_of o (call.ExportStateTd tdr slot) w = td_tries tdr Exclusive
+tries_of o (call.ExportStateVp tdr vp slot) w = vp_tries tdr vp
+tries_of o (call.ExportAbortByToken tdr slot) w = tree_tries tdr
+tries_of o (call.ImportStateImmutable tdr slot) w = begin_tries tdr
+tries_of o (call.ImportMem tdr slot page) w = page_tries tdr (input_in (o.bundles slot)).header.gpa page w
+tries_of o (call.ImportTrack tdr slot) w = tree_tries tdr
+tries_of o (call.ImportStateTd tdr slot) w = op_tries tdr
+tries_of o (call.ImportStateVp tdr vp slot) w = vp_tries tdr vp
+tries_of o (call.ImportCommit tdr) w = tree_tries tdr
+tries_of o (call.ImportEnd tdr) w = op_tries tdr
+tries_of o (call.ImportAbort tdr slot) w = tree_tries tdr
 
 -- a row tries just these; and each row just what its call's line says
 abbrev pub RowTries : Row → (World → List Held) → Type 0
 RowTries row these = (w : World) → tries (row.items w) ≡ these w
 
 abbrev pub RowsTryTheirLists : Type 0
-RowsTryTheirLists = (o : Opening) (me : ℕ) (c : Call) → RowTries (row_of o me c) (tries_of c)
+RowsTryTheirLists = (o : Opening) (me : ℕ) (c : Call) → RowTries (row_of o me c) (tries_of o c)

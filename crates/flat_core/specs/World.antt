@@ -39,6 +39,7 @@ pub record Tds : Type 0 where
   pub streams : ℕ → List ℕ  -- its stream pages, in the order of their indexes
   pub measured : ℕ → List ℕ  -- the bytes that MRTD is the digest of
   pub mrtds : ℕ → ℕ → ℕ  -- MRTD, six words
+  pub mrtds_given : ℕ → Option (ℕ → ℕ)  -- MRTD that an import gave
   pub sessions : ℕ → ℕ
   pub mig_epochs : ℕ → ℕ
   pub td_exported : ℕ → ℕ  -- 1 where the TD state was exported in the session
@@ -150,6 +151,7 @@ no_tds = record {
   streams = λ t. [];
   measured = λ t. [];
   mrtds = λ t i. 0;
+  mrtds_given = λ t. None;
   sessions = λ t. 0;
   mig_epochs = λ t. 0;
   td_exported = λ t. 0;

@@ -7,9 +7,8 @@ ghost use Rattle.flat_core.specs.Entries.{EntriesHaveTheirEvents};
 ghost use Rattle.flat_core.specs.GuestOrder.{OperationsTryTheirLists, GuestOrderIsKept, GuestOrderHolds};
 ghost use Rattle.flat_core.specs.GuestWorked.{GuestExamples};
 ghost use Rattle.flat_core.specs.Guests.{RowsSpare};
-ghost use Rattle.flat_core.specs.ImportLaws.{ImportRowsHaveTheirFacts, ImportRowsDoThis};
 ghost use Rattle.flat_core.specs.ImportWorked.{ImportExamples};
-ghost use Rattle.flat_core.specs.Laws.{RowsKeep, RowsAreBlind, MrtdIsTheDigest, RecordsAreMeasured, TimelinessIsKept, EveryWorldIsLawful, LawfulPagesAreOwned, OwnersAreKept, EveryPageIsOwned, LawfulWorldsAreCounted, CountsAreKept, ExportedAreCounted, OthersStay, QuietEventsStay, NoWordsToTell, ExclusionIsKept, LocksExclude, RefusedCallsStay, QuietCallsKeep, RefusalsLeaveTheirReply, RowsTryTheSame, CallsHaveTheirEvents, EventsKeepLawful, MrtdsAreKept, EveryMrtdIsTheDigest, EventsMeasure, PagesHaveOneUse, GuestsKnowTheirPages, ToldAreMerged, OperationsTellBoth};
+ghost use Rattle.flat_core.specs.Laws.{RowsKeep, RowsAreBlind, MrtdIsTheDigest, RecordsAreMeasured, TimelinessIsKept, EveryWorldIsLawful, LawfulPagesAreOwned, OwnersAreKept, EveryPageIsOwned, LawfulWorldsAreCounted, CountsAreKept, ExportedAreCounted, OthersStay, QuietEventsStay, NoWordsToTell, ExclusionIsKept, LocksExclude, RefusedCallsStay, QuietCallsKeep, RefusalsLeaveTheirReply, RowsTryTheSame, CallsHaveTheirEvents, EventsKeepLawful, MrtdsAreKept, EveryMrtdIsTrue, EventsMeasure, PagesHaveOneUse, GuestsKnowTheirPages, ToldAreMerged, OperationsTellBoth};
 ghost use Rattle.flat_core.specs.Order.{OrderIsKept, TreeIsFreeInOrder, TreeIsNeverBusy};
 ghost use Rattle.flat_core.specs.PageUses.{EventsKeepUses};
 ghost use Rattle.flat_core.specs.Replies.{RepliesComeOneByOne, RepliesAreKept, RepliesAreToLines, EveryLineIsAnswered};
@@ -18,9 +17,11 @@ ghost use Rattle.flat_core.specs.Tries.{RowsTryTheirLists};
 ghost use Rattle.flat_core.specs.TwoWorlds.{OperationsAreBlind, EventsAreBlind, EventsTellTheirWords};
 ghost use Rattle.flat_core.specs.Worked.{Examples};
 
-/// The worked examples: replies of small runs, and how many events they take.
+/// The worked examples: replies of small runs, and how many events they take; and of imports, of
+/// bundles that a worked export makes.
 pub fn worked_examples()
-    ensures { Examples }
+    ensures runs { Examples }
+    ensures imports { ImportExamples }
 {}
 
 /// The worked examples of guests: their exits, notes and told words, and how many events they take.
@@ -39,18 +40,6 @@ pub fn row_laws()
     ensures records { RecordsAreMeasured }
     ensures one_use { PagesHaveOneUse }
     ensures uses { EventsKeepUses }
-{}
-
-/// The same two facts beside each row of an import, and beside that of EXPORT.ABORT with a token,
-/// which the leaf table doesn't have yet: whatever bundle has come in, and where two openings differ in
-/// secret words and private payloads alone; that its act keeps what guests know of their pages, makes
-/// no translation stale, leaves a virtual processor in guest elsewhere as it is, and a page in use to
-/// its use; and which locks it tries, and what it makes of bundles, memories and RTMRs. Worked imports
-/// compute.
-pub fn import_row_laws()
-    ensures facts { ImportRowsHaveTheirFacts }
-    ensures effects { ImportRowsDoThis }
-    ensures examples { ImportExamples }
 {}
 
 /// Every run starts in a lawful world, in which processors stand in their calls and guests as they can
@@ -191,13 +180,14 @@ pub fn alike_laws()
     ensures told { EventsTellTheirWords }
 {}
 
-/// MRTD of a TD that is in RUNNABLE or is exported is read as the digest of what it has measured: at
-/// the start of every run, after each event, whatever bundles have come in, and so after any schedule.
-/// No event but the act of a call changes what TDs have measured, and none but an `rtmr` operation's
-/// act extends an RTMR.
+/// MRTD of a TD that isn't being built is read as the digest of what it has measured, or where it was
+/// imported, as the six words that its import gave: at the start of every run, after each event,
+/// whatever bundles have come in, and so after any schedule. No event but the act of a call changes
+/// what TDs have measured, and none but an `rtmr` operation's act extends an RTMR, which only
+/// MNG.CREATE and IMPORT.STATE.TD give other words.
 pub fn measurement_laws()
     ensures kept { MrtdsAreKept }
-    ensures mrtd { EveryMrtdIsTheDigest }
+    ensures mrtd { EveryMrtdIsTrue }
     ensures events { EventsMeasure }
     ensures rtmrs { EventsExtend }
 {}

@@ -3,6 +3,7 @@ use Rattle.std.proofs.Common.{◌≡◌, refl, sym, ◌∙◌, ap, subst, ℕ, z
 use Rattle.std.proofs.lemmas.Bool.{eqb-true}
 use Rattle.td_words.specs.declared.names.Access.{Access}
 use Rattle.td_words.specs.declared.names.Access.TheVariants.{Read, Write}
+use Rattle.td_words.specs.declared.names.EntryState.{EntryState}
 use Rattle.td_words.specs.declared.names.PageKind.TheVariants as kind
 use Rattle.td_words.specs.declared.calls.Call.{Call}
 use Rattle.td_words.specs.declared.calls.Call.TheVariants as call
@@ -16,11 +17,14 @@ use Rattle.flat_core.specs.Opening.{Opening}
 use Rattle.flat_core.specs.Row.{OperationRow, Move, Attempts, Undoes, Refuses, Succeeds, Releases, Rests, next, next_in}
 use Rattle.flat_core.specs.Table.{row_of}
 use Rattle.flat_core.specs.Conditions.{same_kind}
-use Rattle.flat_core.specs.Tree.{page_of_gpa, word_of_gpa}
-use Rattle.flat_core.specs.Effects.{memory_unless, stored_in, pass_operation, tell_words}
+use Rattle.flat_core.specs.Tree.{page_of_gpa, word_of_gpa, entry_at}
+use Rattle.flat_core.specs.Effects.{put_in, memory_unless, stored_in, pass_operation, tell_words}
+use Rattle.flat_core.specs.Inputs.{Input, input_in}
+use Rattle.flat_core.specs.ImportRows.{fill_page}
 use Rattle.flat_core.specs.Guest.{Operation, ByRow, Private, operation_of, accept_page, is_pending_at, is_private, shared_load, shared_store, reach}
 use Rattle.flat_core.specs.Event.{Event, OfCall, OfOperation, lines_left, next_event, operation_due, nothing_more, world_after, after_event}
 use Rattle.flat_core.proofs.Tests.{by_test}
+use Rattle.flat_core.proofs.ImportFills.{fill_memories}
 use Rattle.flat_core.proofs.Due.{Due, calls, frees, leaves, stops, fills, operates, walks, reaches, undoes, gives_back, due_event_is}
 use Rattle.flat_guests.specs.Memory.{memory_at, memory_after_call, memory_after_operation, memory_after_access, memory_after_event, EventsRemember}
 
@@ -48,13 +52,19 @@ module _ (o : Opening) (w : World) (t n : ℕ) where
   begins tdr true = refl
   begins tdr false = refl
 
-  call_remembers : (me : ℕ) (c : Call) → Becomes (memory_after_call c w t n) ((row_of o me c).act w)
+  -- a page that comes in, where it is taken or is there already
+  comes_in : (tdr gpa page : ℕ) (ws : ℕ → ℕ) (s : EntryState)
+      → put_in (fill_page tdr gpa page ws s w).hidden.memories tdr (page_of_gpa gpa) (Some ws) t n ≡ (if t == tdr && n == page_of_gpa gpa then Some ws else memory_at w t n)
+  comes_in tdr gpa page ws s = ap (λ (f : ℕ → ℕ → Option (ℕ → ℕ)). put_in f tdr (page_of_gpa gpa) (Some ws) t n) (fill_memories tdr gpa page ws s w)
+
+  call_remembers : (me : ℕ) (c : Call) → Becomes (memory_after_call o c w t n) ((row_of o me c).act w)
   call_remembers me (call.MngCreate tdr hkid) = begins tdr (t == tdr)
   call_remembers me (call.PhymemPageReclaim tdr page) = ends tdr (w.pages.numbers page) (same_kind (w.pages.kinds page) kind.Reg)
   call_remembers me (call.MemPageAdd tdr gpa page source) = refl
   call_remembers me (call.MemPageRemove tdr gpa) = refl
   call_remembers me (call.ExportTrack tdr slot zero) = refl
   call_remembers me (call.ExportTrack tdr slot (suc n)) = refl
+  call_remembers me (call.ImportMem tdr slot page) = let x : Input = input_in (o.bundles slot) in comes_in tdr x.header.gpa page x.words (entry_at w tdr 0 x.header.gpa).state
   call_remembers me (call.HostRead page word) = refl
   call_remembers me _ = refl
 

@@ -8,6 +8,7 @@ use Rattle.td_words.specs.declared.calls.GuestOp.TheVariants as op
 use Rattle.flat_core.specs.World.{World, put}
 use Rattle.flat_core.specs.Processor.{Guest}
 use Rattle.flat_core.specs.Opening.{Opening}
+use Rattle.flat_core.specs.Inputs.{input_in}
 use Rattle.flat_core.specs.Row.{Succeeds}
 use Rattle.flat_core.specs.Conditions.{same_kind}
 use Rattle.flat_core.specs.Tree.{page_of_gpa, word_of_gpa}
@@ -18,15 +19,17 @@ use Rattle.flat_core.specs.Event.{State, Event, OfCall, OfOperation, Reaches, li
 abbrev pub memory_at : World → (tdr gpa_page : ℕ) → Option (ℕ → ℕ)
 memory_at w t n = w.hidden.memories t n
 
--- after a call has succeeded: of a TD that begins nothing is known, a page that is added has the source's words, and of a
--- private page that is removed or reclaimed nothing is known
-abbrev pub memory_after_call : Call → World → (tdr gpa_page : ℕ) → Option (ℕ → ℕ)
-memory_after_call (call.MngCreate tdr hkid) w t n = if t == tdr then None else memory_at w t n
-memory_after_call (call.MemPageAdd tdr gpa page source) w t n = if t == tdr && n == page_of_gpa gpa then Some (w.words source) else memory_at w t n
-memory_after_call (call.PhymemPageReclaim tdr page) w t n =
+-- after a call has succeeded: of a TD that begins nothing is known, a page that is added has the source's words, one that is
+-- imported those of its bundle, and of a private page that is removed or reclaimed nothing is known
+abbrev pub memory_after_call : Opening → Call → World → (tdr gpa_page : ℕ) → Option (ℕ → ℕ)
+memory_after_call o (call.MngCreate tdr hkid) w t n = if t == tdr then None else memory_at w t n
+memory_after_call o (call.MemPageAdd tdr gpa page source) w t n = if t == tdr && n == page_of_gpa gpa then Some (w.words source) else memory_at w t n
+memory_after_call o (call.PhymemPageReclaim tdr page) w t n =
     if same_kind (w.pages.kinds page) kind.Reg && (t == tdr && n == w.pages.numbers page) then None else memory_at w t n
-memory_after_call (call.MemPageRemove tdr gpa) w t n = if t == tdr && n == page_of_gpa gpa then None else memory_at w t n
-memory_after_call _ w t n = memory_at w t n
+memory_after_call o (call.MemPageRemove tdr gpa) w t n = if t == tdr && n == page_of_gpa gpa then None else memory_at w t n
+memory_after_call o (call.ImportMem tdr slot page) w t n =
+    let x = input_in (o.bundles slot) in if t == tdr && n == page_of_gpa x.header.gpa then Some x.words else memory_at w t n
+memory_after_call o _ w t n = memory_at w t n
 
 -- after a guest's operation has: a page that was PENDING is accepted with zeros
 abbrev pub memory_after_operation : Option GuestOp → Guest → World → (tdr gpa_page : ℕ) → Option (ℕ → ℕ)
@@ -44,7 +47,7 @@ memory_after_access _ g w t n = memory_at w t n
 
 -- after an event of a processor with these lines left and this guest: any other event leaves it as it is
 abbrev pub memory_after_event : Opening → List Call → Option Guest → Option Event → World → (tdr gpa_page : ℕ) → Option (ℕ → ℕ)
-memory_after_event o (c ∷ cs) guest (Some (OfCall row Succeeds)) w = memory_after_call c w
+memory_after_event o (c ∷ cs) guest (Some (OfCall row Succeeds)) w = memory_after_call o c w
 memory_after_event o cs (Some g) (Some (OfOperation row Succeeds)) w = memory_after_operation (operation_due o w g) g w
 memory_after_event o cs (Some g) (Some (Reaches tdr vp access register gpa page)) w = memory_after_access (operation_due o w g) g w
 memory_after_event _ _ _ _ w = memory_at w

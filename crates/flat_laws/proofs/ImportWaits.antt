@@ -1,7 +1,5 @@
 -- What IMPORT.MEM takes of the host's is a page of a TD that has not run here.
-use Rattle.std.proofs.Common.{◌≡◌, inr, sym, ◌∙◌, ℕ, Option, true, ◌==◌}
-use Rattle.td_words.specs.declared.names.PageKind.{PageKind}
-use Rattle.td_words.specs.declared.names.PageKind.TheVariants as kind
+use Rattle.std.proofs.Common.{◌≡◌, inr, ℕ, Option, true, ◌==◌}
 use Rattle.td_words.specs.declared.names.EntryState.{EntryState}
 use Rattle.td_words.specs.declared.names.EntryState.TheVariants as entry
 use Rattle.td_words.specs.declared.machines.Machine.{Machine}
@@ -15,16 +13,13 @@ use Rattle.flat_core.specs.Access.{has_not_run}
 use Rattle.flat_core.specs.ImportRows.{fill_page, import_page}
 use Rattle.flat_core.proofs.Tests.{by_test, host_kind}
 use Rattle.flat_core.proofs.ImportStates.{filling_not_run}
-use Rattle.flat_laws.proofs.Waits.{WaitsWherePrivate}
-
-never : (k : PageKind) → k ≡ kind.Nda → k ≡ kind.Reg → ⊥
-never k a b = let no : kind.Nda ≡ kind.Reg = sym a ∙ b in cc
+use Rattle.flat_laws.proofs.Waits.{WaitsWherePrivate, host-not-private}
 
 filled-waits : (w : World) (q : ℕ) → is_host_in w.pages q ≡ true → (t gpa page : ℕ) (ws : ℕ → ℕ) → has_not_run (w.tds.ops t) ≡ true → (s : EntryState) → WaitsWherePrivate (fill_page t gpa page ws s w) q
 filled-waits w q host t gpa page ws new entry.Free e = by_test (q == page)
     (λ y. inr (rw y new))
-    (λ n. absurd (never (w.pages.kinds q) (host_kind _ host) (rw n at e)))
-filled-waits w q host t gpa page ws new _ e = absurd (never (w.pages.kinds q) (host_kind _ host) e)
+    (λ n. absurd (host-not-private (w.pages.kinds q) (host_kind _ host) (rw n at e)))
+filled-waits w q host t gpa page ws new _ e = absurd (host-not-private (w.pages.kinds q) (host_kind _ host) e)
 
 pub import_page-waits : (m : Machine) (b : Option Incoming) (t slot page : ℕ) (w : World) (q : ℕ) → is_host_in w.pages q ≡ true → Passes ((import_page m b t slot page).items w) → WaitsWherePrivate ((import_page m b t slot page).act w) q
 import_page-waits m b t slot page w q host ps e =

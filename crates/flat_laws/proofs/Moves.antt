@@ -39,7 +39,8 @@ use Rattle.flat_laws.specs.Unreached.{unreached_in, is_unreached}
 use Rattle.flat_laws.proofs.Usable.{current, alive, node, own, host-unnamed, guarded-names}
 use Rattle.flat_laws.proofs.Unreached.{closed-is-unreached, is-sound}
 use Rattle.flat_laws.proofs.GivenBack.{IsActOf, act-world, act-of, emptied}
-use Rattle.flat_laws.proofs.Waits.{WaitsWherePrivate}
+use Rattle.flat_laws.proofs.Waits.{WaitsWherePrivate, host-not-private}
+use Rattle.flat_laws.proofs.ImportWaits.{import_page-waits}
 
 removed-unreached : (x : EntryState) (over : Bool) → list_any (λ a. same_state a x) removed_states ≡ true → over ≡ true → unreached_in x over ≡ true
 removed-unreached entry.Blocked over h k = k
@@ -102,12 +103,9 @@ module _ (o : Opening) (s : State) (me q : ℕ) (all : IsGuarded o s) where
   -- what a call takes of the host's
 
   module _ (host : is_host_in w.pages q ≡ true) where
-    never : (k : PageKind) → k ≡ kind.Nda → k ≡ kind.Reg → ⊥
-    never k a b = let no : kind.Nda ≡ kind.Reg = sym a ∙ b in cc
-
     -- another kind of page
     other-kind : (page : ℕ) (k : PageKind) → (k ≡ kind.Reg → ⊥) → put w.pages.kinds page k q ≡ kind.Reg → ⊥
-    other-kind page k other e = by_test (q == page) (λ y. other (rw y at e)) (λ n. never (w.pages.kinds q) (host_kind _ host) (rw n at e))
+    other-kind page k other e = by_test (q == page) (λ y. other (rw y at e)) (λ n. host-not-private (w.pages.kinds q) (host_kind _ host) (rw n at e))
 
     taken-waits : (c : Call) → Passes ((row_of o me c).items w) → WaitsWherePrivate ((row_of o me c).act w) q
     taken-waits (call.PhymemPageReclaim t page) ps e = absurd (other-kind page kind.Nda (λ k. cc) e)
@@ -120,13 +118,14 @@ module _ (o : Opening) (s : State) (me q : ℕ) (all : IsGuarded o s) where
     taken-waits (call.MemSeptRemove t gpa level) ps e = absurd (other-kind (entry_at w t level gpa).page kind.Nda (λ k. cc) e)
     taken-waits (call.MemPageAdd t gpa page source) ps e = by_test (q == page)
         (λ y. inr (rw y (is_begun (w.tds.ops t) ps.1.1.1.1.1.1.1.1.1.1.1.0)))
-        (λ n. absurd (never (w.pages.kinds q) (host_kind _ host) (rw n at e)))
+        (λ n. absurd (host-not-private (w.pages.kinds q) (host_kind _ host) (rw n at e)))
     taken-waits (call.MemPageAug t gpa page) ps e = by_test (q == page)
         (λ y. inl (let a = eq-eqb t t refl in let b = eq-eqb (number_at 0 gpa) (number_at 0 gpa) refl in rw (y, a, b) refl))
-        (λ n. absurd (never (w.pages.kinds q) (host_kind _ host) (rw n at e)))
-    taken-waits (call.ExportTrack t slot zero) ps e = absurd (never (w.pages.kinds q) (host_kind _ host) e)
-    taken-waits (call.ExportTrack t slot (suc n)) ps e = absurd (never (w.pages.kinds q) (host_kind _ host) e)
-    taken-waits _ ps e = absurd (never (w.pages.kinds q) (host_kind _ host) e)
+        (λ n. absurd (host-not-private (w.pages.kinds q) (host_kind _ host) (rw n at e)))
+    taken-waits (call.ImportMem t slot page) ps e = import_page-waits o.machine (o.bundles slot) t slot page w q host ps e
+    taken-waits (call.ExportTrack t slot zero) ps e = absurd (host-not-private (w.pages.kinds q) (host_kind _ host) e)
+    taken-waits (call.ExportTrack t slot (suc n)) ps e = absurd (host-not-private (w.pages.kinds q) (host_kind _ host) e)
+    taken-waits _ ps e = absurd (host-not-private (w.pages.kinds q) (host_kind _ host) e)
 
   next-guarded : IsGuarded o (event o s me)
   next-guarded = access_kept.event o o.bundles s me all

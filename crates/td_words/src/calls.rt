@@ -1,12 +1,13 @@
 //! Call lines and guest operations, as far as they are built.
 
 ghost use Rattle.std.specs.Prelude.{◌≡◌};
-ghost use Rattle.td_words.specs.Slots.{output_slot};
+ghost use Rattle.td_words.specs.Slots.{output_slot, input_slot};
 
 use crate::names::ReadField;
 
-/// A host's call, with its arguments in order. Any number may stand as an argument: the call's row
-/// judges it. A slot of an output, 0 to 4,095, is judged when the script is read.
+/// A host's call, with its arguments in order. Any number may stand as an argument, also as the slot of
+/// an input: the call's row judges it. A slot of an output, 0 to 4,095, is judged when the script is
+/// read.
 #[derive(Clone, Copy, Debug, PartialEq, Eq)]
 pub enum Call {
     HostRead {
@@ -165,6 +166,42 @@ pub enum Call {
         vp: u64,
         slot: u16,
     },
+    ExportAbortByToken {
+        tdr: u64,
+        slot: u64,
+    },
+    ImportStateImmutable {
+        tdr: u64,
+        slot: u64,
+    },
+    ImportMem {
+        tdr: u64,
+        slot: u64,
+        page: u64,
+    },
+    ImportTrack {
+        tdr: u64,
+        slot: u64,
+    },
+    ImportStateTd {
+        tdr: u64,
+        slot: u64,
+    },
+    ImportStateVp {
+        tdr: u64,
+        vp: u64,
+        slot: u64,
+    },
+    ImportCommit {
+        tdr: u64,
+    },
+    ImportEnd {
+        tdr: u64,
+    },
+    ImportAbort {
+        tdr: u64,
+        slot: u16,
+    },
 }
 
 impl Call {
@@ -177,7 +214,23 @@ impl Call {
             | Call::ExportMem { slot, .. }
             | Call::ExportTrack { slot, .. }
             | Call::ExportStateTd { slot, .. }
-            | Call::ExportStateVp { slot, .. } => Some(*slot),
+            | Call::ExportStateVp { slot, .. }
+            | Call::ImportAbort { slot, .. } => Some(*slot),
+            _ => None,
+        }
+    }
+
+    /// The slot, any number, of the bundle that the call takes, where it takes one.
+    pub fn input_slot(&self) -> Option<u64>
+        ensures { result ≡ input_slot self.now }
+    {
+        match self {
+            Call::ExportAbortByToken { slot, .. }
+            | Call::ImportStateImmutable { slot, .. }
+            | Call::ImportMem { slot, .. }
+            | Call::ImportTrack { slot, .. }
+            | Call::ImportStateTd { slot, .. }
+            | Call::ImportStateVp { slot, .. } => Some(*slot),
             _ => None,
         }
     }

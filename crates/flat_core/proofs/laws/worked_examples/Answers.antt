@@ -1,5 +1,9 @@
 use Rattle.flat_core.proofs.Worked.{examples}
+use Rattle.flat_core.proofs.ImportWorked.{import_examples}
 use Rattle.flat_core.proofs.laws.worked_examples.Goals as goal
 
-pub returns : goal.returns
-returns c = examples
+pub returns-clause-runs : goal.returns-clause-runs
+returns-clause-runs c = examples
+
+pub returns-clause-imports : goal.returns-clause-imports
+returns-clause-imports c = import_examples
