@@ -1,9 +1,9 @@
 -- A call holds the first of the locks that its row tries, in every state that a run reaches. Which page an entry of a TD names,
--- and which pages its streams have, stays the same for whoever holds P of the TDR page, O and T, in either mode: a call that
--- changes it has one of them alone.
+-- whether it is FREE, and which pages the TD's streams have, stays the same for whoever holds P of the TDR page, O and T, in
+-- either mode: a call that changes it has one of them alone.
 use Rattle.std.proofs.Common.{◌≡◌, ◌⊎◌, inl, inr, ◌≢◌, refl, sym, ◌∙◌, subst, ap, ℕ, zero, suc, ◌+◌, ◌<◌, List, [], ◌∷◌, ◌++◌, length, drop, Option, Some, None, option_map, Bool, true, false, ◌==◌, ◌&&◌, ◌||◌, arith}
-use Rattle.std.specs.Prelude.{slice_index_or}
-use Rattle.std.proofs.lemmas.Bool.{eq-eqb, eqb-true, eqb-false, ne_eqb, and_parts}
+use Rattle.std.specs.Prelude.{slice_index_or, if◌then◌else◌}
+use Rattle.std.proofs.lemmas.Bool.{eq-eqb, eqb-true, eqb-false, ne_eqb}
 use Rattle.td_words.specs.declared.names.EntryState.{EntryState}
 use Rattle.td_words.specs.declared.names.EntryState.TheVariants as entry
 use Rattle.td_words.specs.declared.names.Mode.{Mode}
@@ -16,22 +16,23 @@ use Rattle.td_words.specs.declared.names.Access.TheVariants.{Read, Write}
 use Rattle.td_words.specs.declared.replies.Outcome.{Outcome}
 use Rattle.td_words.specs.declared.replies.Reply.{Reply}
 use Rattle.td_words.specs.Packing.{Entry}
-use Rattle.flat_core.specs.World.{World, Tds, put}
+use Rattle.flat_core.specs.World.{World, Tds}
 use Rattle.flat_core.specs.Processor.{LockId, OfPage, OfOp, OfTree, OfEpoch, Held, Phase, Trying, Undoing, Answered, Guest, Entering, Lp, idle}
 use Rattle.flat_core.specs.Locks.{same_lock, is_alone}
-use Rattle.flat_core.specs.Opening.{Opening, Incoming}
+use Rattle.flat_core.specs.Opening.{Opening}
 use Rattle.flat_core.specs.Row.{Item, Row, OperationRow, Move, Attempts, Undoes, Refuses, Succeeds, Releases, Rests, next, next_in, but_newest, Passes}
 use Rattle.flat_core.specs.Table.{row_of}
-use Rattle.flat_core.specs.Effects.{put_in, restate}
+use Rattle.flat_core.specs.Effects.{restate}
 use Rattle.flat_core.specs.ExportRows.{write_blocked}
 use Rattle.flat_core.specs.Lawful.{is_free}
-use Rattle.flat_core.specs.Tree.{entry_at, number_at}
+use Rattle.flat_core.specs.Tree.{same_state, entry_at, number_at}
 use Rattle.flat_core.specs.Sessions.{stream_page}
-use Rattle.flat_core.specs.Tries.{shared, alone, td_tries, named_tries, opened_tries, tries_of}
+use Rattle.flat_core.specs.Tries.{shared, alone, td_tries, named_tries, opened_tries, filled_page, tries_of}
+use Rattle.flat_core.specs.Inputs.{Input, input_in}
+use Rattle.flat_core.specs.ImportRows.{fill_page}
 use Rattle.flat_core.specs.Guest.{ByRow, operation_of, is_pending_at, reach, walk_step, answered}
 use Rattle.flat_core.specs.Inside.{held_then}
 use Rattle.flat_core.specs.Event.{State, Event, OfCall, OfOperation, Walks, Reaches, start, next_event, event, lines_left, after_event, world_after, call_world, operation_world, lp_after, call_lp, succeeded, settled, settle, settled_guest, operation_guest, nothing_more, is_granted}
-use Rattle.flat_core.specs.Laws.{with_bundles}
 use Rattle.flat_core.proofs.Tests.{by_test}
 use Rattle.flat_core.proofs.EntryStates.{entry_set}
 use Rattle.flat_core.proofs.Induction.{count_stays}
@@ -49,7 +50,7 @@ use Rattle.act_rules.specs.CallLocks.{HoldsFirstOf, LineHolds, PhaseHolds, Calls
 use Rattle.act_rules.proofs.Tried.{drop-then, next-locks, held-before, alone-before, all-turned, all-had, all-pass}
 
 abbrev Holds : Opening → ℕ → World → Lp → Type 0
-Holds o p w lp = PhaseHolds w (lines_left o p lp) lp.guest lp.call.phase lp.call.held
+Holds o p w lp = PhaseHolds o w (lines_left o p lp) lp.guest lp.call.phase lp.call.held
 
 -- The pages that a call tries because an entry names one, and a stream has one
 
@@ -86,91 +87,6 @@ split-at front more (h ∷ hs) rest e = elim (split-at front more hs (h ∷ rest
         let both : held_then hs (r ∷ rs ++ more) ≡ held_then hs (h ∷ rest) = sym (then-behind hs (r ∷ rs) more) ∙ (ap (λ (xs : List Held). xs ++ more) (sym is) ∙ e) in
         inl (rs, is ∙ ap (λ (x : Held). held_then hs (x ∷ rs)) (first-same r h (rs ++ more) rest (then-same hs (r ∷ rs ++ more) (h ∷ rest) both)))
 
--- entries of a TD name the same pages, and its streams have the same
-record NamesSame (before after : World) (t : ℕ) : Type 0 where
-  entry : (l n : ℕ) → (after.tds.entries t l n).page ≡ (before.tds.entries t l n).page
-  streams : after.tds.streams t ≡ before.tds.streams t
-
-same-names : (w v : World) (t : ℕ) → v.tds ≡ w.tds → NamesSame w v t
-same-names w v t e = record { entry = λ l n. ap (λ (x : Tds). (x.entries t l n).page) e; streams = ap (λ (x : Tds). x.streams t) e }
-
--- what is named comes last, with P of the TDR page, O and T before it
-record NamesLast (c : Call) : Type 0 where
-  tdr : ℕ
-  front : List Held
-  named : World → List Held
-  are : (w : World) → tries_of c w ≡ front ++ named w
-  stay : (v w : World) → NamesSame w v tdr → named v ≡ named w
-  page : holds front (OfPage tdr) ≡ true
-  op : holds front (OfOp tdr) ≡ true
-  tree : holds front (OfTree tdr) ≡ true
-
--- one page, which an entry names
-by-entry : (c : Call) (t gpa level : ℕ) (front : List Held) (mode : Mode)
-    → ((w : World) → tries_of c w ≡ front ++ record { lock = OfPage (entry_at w t level gpa).page; mode = mode } ∷ [])
-    → holds front (OfPage t) ≡ true → holds front (OfOp t) ≡ true → holds front (OfTree t) ≡ true → NamesLast c
-by-entry c t gpa level front mode are page op tree = record {
-  tdr = t;
-  front = front;
-  named = λ w. record { lock = OfPage (entry_at w t level gpa).page; mode = mode } ∷ [];
-  are = are;
-  stay = λ v w same. ap (λ (p : ℕ). record { lock = OfPage p; mode = mode } ∷ []) (same.entry level (number_at level gpa));
-  page = page;
-  op = op;
-  tree = tree;
-}
-
-named : (c : Call) (t gpa level : ℕ) → ((w : World) → tries_of c w ≡ named_tries w t gpa level) → NamesLast c
-named c t gpa level are =
-    by-entry c t gpa level (td_tries t Shared ++ alone (OfTree t) ∷ shared (OfEpoch t) ∷ []) Exclusive are (rw (eq-eqb t t refl) refl) (rw (eq-eqb t t refl) refl) (rw (eq-eqb t t refl) refl)
-
-opened : (c : Call) (t gpa : ℕ) → ((w : World) → tries_of c w ≡ opened_tries w t gpa) → NamesLast c
-opened c t gpa are =
-    by-entry c t gpa 0 (td_tries t Shared ++ alone (OfTree t) ∷ []) Exclusive are (rw (eq-eqb t t refl) refl) (rw (eq-eqb t t refl) refl) (rw (eq-eqb t t refl) refl)
-
-names-last : (c : Call) → ((v w : World) → tries_of c v ≡ tries_of c w) ⊎ NamesLast c
-names-last (call.MrExtend t gpa) =
-    inr (by-entry (call.MrExtend t gpa) t gpa 0 (td_tries t Exclusive ++ shared (OfTree t) ∷ []) Shared (λ w. refl) (rw (eq-eqb t t refl) refl) (rw (eq-eqb t t refl) refl) (rw (eq-eqb t t refl) refl))
-names-last (call.MemSeptRemove t gpa level) = inr (named (call.MemSeptRemove t gpa level) t gpa level (λ w. refl))
-names-last (call.MemPageRemove t gpa) = inr (named (call.MemPageRemove t gpa) t gpa 0 (λ w. refl))
-names-last (call.MemRangeBlock t gpa level) = inr (named (call.MemRangeBlock t gpa level) t gpa level (λ w. refl))
-names-last (call.MemRangeUnblock t gpa level) = inr (named (call.MemRangeUnblock t gpa level) t gpa level (λ w. refl))
-names-last (call.ExportBlockw t gpa) =
-    inr (by-entry (call.ExportBlockw t gpa) t gpa 0 (td_tries t Shared ++ shared (OfTree t) ∷ shared (OfEpoch t) ∷ []) Exclusive (λ w. refl)
-    (rw (eq-eqb t t refl) refl) (rw (eq-eqb t t refl) refl) (rw (eq-eqb t t refl) refl))
-names-last (call.ExportUnblockw t gpa) = inr (opened (call.ExportUnblockw t gpa) t gpa (λ w. refl))
-names-last (call.ExportRestore t gpa) = inr (opened (call.ExportRestore t gpa) t gpa (λ w. refl))
-names-last (call.ExportMem t gpa k slot) = inr (record {
-  tdr = t;
-  front = td_tries t Shared ++ shared (OfTree t) ∷ shared (OfEpoch t) ∷ [];
-  named = λ w. alone (OfPage (entry_at w t 0 gpa).page) ∷ alone (OfPage (stream_page w t k)) ∷ [];
-  are = λ w. refl;
-  stay = λ v w same. ap (λ (p : ℕ). alone (OfPage p) ∷ alone (OfPage (stream_page v t k)) ∷ []) (same.entry 0 (number_at 0 gpa))
-      ∙ ap (λ (ps : List ℕ). alone (OfPage (entry_at w t 0 gpa).page) ∷ alone (OfPage (slice_index_or ps k 0)) ∷ []) same.streams;
-  page = rw (eq-eqb t t refl) refl;
-  op = rw (eq-eqb t t refl) refl;
-  tree = rw (eq-eqb t t refl) refl;
-})
-names-last (call.HostRead page word) = inl (λ v w. refl)
-names-last _ = inl (λ v w. refl)
-
--- so what is held is the first of the list in another world too
-first-stays : (c : Call) (hs : List Held) (v w : World) → HoldsFirstOf w c hs
-    → ((t : ℕ) → holds hs (OfPage t) ≡ true → holds hs (OfOp t) ≡ true → holds hs (OfTree t) ≡ true → NamesSame w v t) → HoldsFirstOf v c hs
-first-stays c hs v w f names = elim (names-last c) [ inl same ↦ (f.0, same v w ∙ f.1) | inr x ↦ by x ]
-  where
-    by : NamesLast c → HoldsFirstOf v c hs
-    by x = elim (split-at x.front (x.named w) hs f.0 (sym (x.are w) ∙ f.1)) [
-      | inl among ↦ (among.0 ++ x.named v, x.are v ∙ (ap (λ (xs : List Held). xs ++ x.named v) among.1 ∙ then-behind hs among.0 (x.named v)))
-      | inr has ↦ (let same = names x.tdr (has (OfPage x.tdr) x.page) (has (OfOp x.tdr) x.op) (has (OfTree x.tdr) x.tree) in
-          (f.0, x.are v ∙ (ap (λ (xs : List Held). x.front ++ xs) (x.stay v w same) ∙ (sym (x.are w) ∙ f.1))))
-    ]
-
--- What changes of entries
-
-off : (t u : ℕ) → ((u == t) ≡ true → ⊥) → (t == u) ≡ false
-off t u apart = ne_eqb t u (λ e. apart (eq-eqb u t (sym e)))
-
 -- what an entry names: its page, where it isn't FREE
 pub record NamesAs (after before : Entry) : Type 0 where
   pub page : after.page ≡ before.page
@@ -181,6 +97,114 @@ EntriesStay w v t = (l n : ℕ) → NamesAs (v.tds.entries t l n) (w.tds.entries
 
 as-it-is : (e : Entry) → NamesAs e e
 as-it-is e = record { page = refl; free = refl }
+
+-- entries of a TD name the same pages, where they aren't FREE, and its streams have the same
+record NamesSame (before after : World) (t : ℕ) : Type 0 where
+  entries : EntriesStay before after t
+  streams : after.tds.streams t ≡ before.tds.streams t
+
+same-names : (w v : World) (t : ℕ) → v.tds ≡ w.tds → NamesSame w v t
+same-names w v t e = record {
+  entries = λ l n. record { page = ap (λ (x : Tds). (x.entries t l n).page) e; free = ap (λ (x : Tds). is_free (x.entries t l n).state) e };
+  streams = ap (λ (x : Tds). x.streams t) e;
+}
+
+-- what is named comes last, with P of the TDR page, O and T before it
+record NamesLast (o : Opening) (c : Call) : Type 0 where
+  tdr : ℕ
+  front : List Held
+  named : World → List Held
+  are : (w : World) → tries_of o c w ≡ front ++ named w
+  stay : (v w : World) → NamesSame w v tdr → named v ≡ named w
+  page : holds front (OfPage tdr) ≡ true
+  op : holds front (OfOp tdr) ≡ true
+  tree : holds front (OfTree tdr) ≡ true
+
+-- one page, which an entry names
+by-entry : (o : Opening) (c : Call) (t gpa level : ℕ) (front : List Held) (mode : Mode)
+    → ((w : World) → tries_of o c w ≡ front ++ record { lock = OfPage (entry_at w t level gpa).page; mode = mode } ∷ [])
+    → holds front (OfPage t) ≡ true → holds front (OfOp t) ≡ true → holds front (OfTree t) ≡ true → NamesLast o c
+by-entry o c t gpa level front mode are page op tree = record {
+  tdr = t;
+  front = front;
+  named = λ w. record { lock = OfPage (entry_at w t level gpa).page; mode = mode } ∷ [];
+  are = are;
+  stay = λ v w same. ap (λ (p : ℕ). record { lock = OfPage p; mode = mode } ∷ []) (same.entries level (number_at level gpa)).page;
+  page = page;
+  op = op;
+  tree = tree;
+}
+
+named : (o : Opening) (c : Call) (t gpa level : ℕ) → ((w : World) → tries_of o c w ≡ named_tries w t gpa level) → NamesLast o c
+named o c t gpa level are =
+    by-entry o c t gpa level (td_tries t Shared ++ alone (OfTree t) ∷ shared (OfEpoch t) ∷ []) Exclusive are (rw (eq-eqb t t refl) refl) (rw (eq-eqb t t refl) refl) (rw (eq-eqb t t refl) refl)
+
+opened : (o : Opening) (c : Call) (t gpa : ℕ) → ((w : World) → tries_of o c w ≡ opened_tries w t gpa) → NamesLast o c
+opened o c t gpa are =
+    by-entry o c t gpa 0 (td_tries t Shared ++ alone (OfTree t) ∷ []) Exclusive are (rw (eq-eqb t t refl) refl) (rw (eq-eqb t t refl) refl) (rw (eq-eqb t t refl) refl)
+
+-- IMPORT.MEM tries PAGE where the entry is FREE, and else the page that it names
+filled-as : (p : ℕ) (s : EntryState) (named : ℕ) → filled_page p s named ≡ (if is_free s then p else named)
+filled-as p entry.Free named = refl
+filled-as p _ named = refl
+
+filled-same : (p : ℕ) (r s : EntryState) (m n : ℕ) → is_free r ≡ is_free s → m ≡ n → filled_page p r m ≡ filled_page p s n
+filled-same p r s m n free page =
+    filled-as p r m ∙ (ap (λ (b : Bool). if b then p else m) free ∙ (ap (λ (x : ℕ). if is_free s then p else x) page ∙ sym (filled-as p s n)))
+
+names-last : (o : Opening) (c : Call) → ((v w : World) → tries_of o c v ≡ tries_of o c w) ⊎ NamesLast o c
+names-last o (call.MrExtend t gpa) =
+    inr (by-entry o (call.MrExtend t gpa) t gpa 0 (td_tries t Exclusive ++ shared (OfTree t) ∷ []) Shared (λ w. refl) (rw (eq-eqb t t refl) refl) (rw (eq-eqb t t refl) refl) (rw (eq-eqb t t refl) refl))
+names-last o (call.MemSeptRemove t gpa level) = inr (named o (call.MemSeptRemove t gpa level) t gpa level (λ w. refl))
+names-last o (call.MemPageRemove t gpa) = inr (named o (call.MemPageRemove t gpa) t gpa 0 (λ w. refl))
+names-last o (call.MemRangeBlock t gpa level) = inr (named o (call.MemRangeBlock t gpa level) t gpa level (λ w. refl))
+names-last o (call.MemRangeUnblock t gpa level) = inr (named o (call.MemRangeUnblock t gpa level) t gpa level (λ w. refl))
+names-last o (call.ExportBlockw t gpa) =
+    inr (by-entry o (call.ExportBlockw t gpa) t gpa 0 (td_tries t Shared ++ shared (OfTree t) ∷ shared (OfEpoch t) ∷ []) Exclusive (λ w. refl)
+    (rw (eq-eqb t t refl) refl) (rw (eq-eqb t t refl) refl) (rw (eq-eqb t t refl) refl))
+names-last o (call.ExportUnblockw t gpa) = inr (opened o (call.ExportUnblockw t gpa) t gpa (λ w. refl))
+names-last o (call.ExportRestore t gpa) = inr (opened o (call.ExportRestore t gpa) t gpa (λ w. refl))
+names-last o (call.ExportMem t gpa k slot) = inr (record {
+  tdr = t;
+  front = td_tries t Shared ++ shared (OfTree t) ∷ shared (OfEpoch t) ∷ [];
+  named = λ w. alone (OfPage (entry_at w t 0 gpa).page) ∷ alone (OfPage (stream_page w t k)) ∷ [];
+  are = λ w. refl;
+  stay = λ v w same. ap (λ (p : ℕ). alone (OfPage p) ∷ alone (OfPage (stream_page v t k)) ∷ []) (same.entries 0 (number_at 0 gpa)).page
+      ∙ ap (λ (ps : List ℕ). alone (OfPage (entry_at w t 0 gpa).page) ∷ alone (OfPage (slice_index_or ps k 0)) ∷ []) same.streams;
+  page = rw (eq-eqb t t refl) refl;
+  op = rw (eq-eqb t t refl) refl;
+  tree = rw (eq-eqb t t refl) refl;
+})
+names-last o (call.ImportMem t slot p) = let gpa : ℕ = (input_in (o.bundles slot)).header.gpa in inr (record {
+  tdr = t;
+  front = td_tries t Shared ++ alone (OfTree t) ∷ [];
+  named = λ w. alone (OfPage (filled_page p (entry_at w t 0 gpa).state (entry_at w t 0 gpa).page)) ∷ [];
+  are = λ w. refl;
+  stay = λ v w same. let e = same.entries 0 (number_at 0 gpa) in
+      ap (λ (x : ℕ). alone (OfPage x) ∷ []) (filled-same p (entry_at v t 0 gpa).state (entry_at w t 0 gpa).state (entry_at v t 0 gpa).page (entry_at w t 0 gpa).page e.free e.page);
+  page = rw (eq-eqb t t refl) refl;
+  op = rw (eq-eqb t t refl) refl;
+  tree = rw (eq-eqb t t refl) refl;
+})
+names-last o (call.HostRead page word) = inl (λ v w. refl)
+names-last o _ = inl (λ v w. refl)
+
+-- so what is held is the first of the list in another world too
+first-stays : (o : Opening) (c : Call) (hs : List Held) (v w : World) → HoldsFirstOf o w c hs
+    → ((t : ℕ) → holds hs (OfPage t) ≡ true → holds hs (OfOp t) ≡ true → holds hs (OfTree t) ≡ true → NamesSame w v t) → HoldsFirstOf o v c hs
+first-stays o c hs v w f names = elim (names-last o c) [ inl same ↦ (f.0, same v w ∙ f.1) | inr x ↦ by x ]
+  where
+    by : NamesLast o c → HoldsFirstOf o v c hs
+    by x = elim (split-at x.front (x.named w) hs f.0 (sym (x.are w) ∙ f.1)) [
+      | inl among ↦ (among.0 ++ x.named v, x.are v ∙ (ap (λ (xs : List Held). xs ++ x.named v) among.1 ∙ then-behind hs among.0 (x.named v)))
+      | inr has ↦ (let same = names x.tdr (has (OfPage x.tdr) x.page) (has (OfOp x.tdr) x.op) (has (OfTree x.tdr) x.tree) in
+          (f.0, x.are v ∙ (ap (λ (xs : List Held). x.front ++ xs) (x.stay v w same) ∙ (sym (x.are w) ∙ f.1))))
+    ]
+
+-- What changes of entries
+
+off : (t u : ℕ) → ((u == t) ≡ true → ⊥) → (t == u) ≡ false
+off t u apart = ne_eqb t u (λ e. apart (eq-eqb u t (sym e)))
 
 -- an entry that gets another state
 restated : (w : World) (u number mark : ℕ) (s : EntryState) → is_free s ≡ is_free (w.tds.entries u 0 number).state → (t : ℕ) → EntriesStay w (restate u number s mark w) t
@@ -196,8 +220,17 @@ write-blocked-free entry.Mapped = refl
 write-blocked-free entry.ExportedDirty = refl
 write-blocked-free _ = refl
 
+-- a page whose words come in is taken under T alone, or is the one that its entry names
+filled-stay : (w : World) (u gpa p : ℕ) (ws : ℕ → ℕ) (s : EntryState) (t : ℕ) → (t == u) ≡ false → EntriesStay w (fill_page u gpa p ws s w) t
+filled-stay w u gpa p ws entry.Free t n = λ l k. rw n (as-it-is _)
+filled-stay w u gpa p ws _ t n = λ l k. as-it-is _
+
+filled-streams : (w : World) (u gpa p : ℕ) (ws : ℕ → ℕ) (s : EntryState) (t : ℕ) → (fill_page u gpa p ws s w).tds.streams t ≡ w.tds.streams t
+filled-streams w u gpa p ws entry.Free t = refl
+filled-streams w u gpa p ws _ t = refl
+
 -- a call that passes, and tries neither T of a TD nor P of its TDR page alone, leaves the pages that its entries name
-row-entries : (o : Opening) (me : ℕ) (c : Call) (w : World) (t : ℕ) → Passes ((row_of o me c).items w) → (holds_alone (tries_of c w) (OfTree t) ≡ true → ⊥) → (holds_alone (tries_of c w) (OfPage t) ≡ true → ⊥)
+row-entries : (o : Opening) (me : ℕ) (c : Call) (w : World) (t : ℕ) → Passes ((row_of o me c).items w) → (holds_alone (tries_of o c w) (OfTree t) ≡ true → ⊥) → (holds_alone (tries_of o c w) (OfPage t) ≡ true → ⊥)
     → EntriesStay w ((row_of o me c).act w) t
 row-entries o me (call.MngCreate u h) w t ps tree page = let n = off t u (λ y. page (rw y refl)) in λ l k. rw n (as-it-is _)
 row-entries o me (call.MemSeptAdd u gpa level p) w t ps tree page = let n = off t u (λ y. tree (rw y refl)) in λ l k. rw n (as-it-is _)
@@ -214,30 +247,26 @@ row-entries o me (call.ExportUnblockw u gpa) w t ps tree page = let n = off t u 
 row-entries o me (call.ExportRestore u gpa) w t ps tree page = let n = off t u (λ y. tree (rw y refl)) in λ l k. rw n (as-it-is _)
 row-entries o me (call.ExportTrack u slot zero) w t ps tree page = λ l k. as-it-is _
 row-entries o me (call.ExportTrack u slot (suc n)) w t ps tree page = λ l k. as-it-is _
+row-entries o me (call.ImportMem u slot p) w t ps tree page =
+    let x : Input = input_in (o.bundles slot) in
+    filled-stay w u x.header.gpa p x.words (entry_at w u 0 x.header.gpa).state t (off t u (λ y. tree (rw y refl)))
 row-entries o me (call.HostRead p i) w t ps tree page = λ l k. as-it-is _
 row-entries o me _ w t ps tree page = λ l k. as-it-is _
 
 -- and one that tries neither O nor P of the TDR page alone leaves the pages of its streams
-row-streams : (o : Opening) (me : ℕ) (c : Call) (w : World) (t : ℕ) → (holds_alone (tries_of c w) (OfOp t) ≡ true → ⊥) → (holds_alone (tries_of c w) (OfPage t) ≡ true → ⊥)
+row-streams : (o : Opening) (me : ℕ) (c : Call) (w : World) (t : ℕ) → (holds_alone (tries_of o c w) (OfOp t) ≡ true → ⊥) → (holds_alone (tries_of o c w) (OfPage t) ≡ true → ⊥)
     → ((row_of o me c).act w).tds.streams t ≡ w.tds.streams t
 row-streams o me (call.MngCreate u h) w t op page = let n = off t u (λ y. page (rw y refl)) in rw n refl
 row-streams o me (call.MigStreamCreate u p) w t op page = let n = off t u (λ y. op (rw y refl)) in rw n refl
 row-streams o me (call.ExportTrack u slot zero) w t op page = refl
 row-streams o me (call.ExportTrack u slot (suc n)) w t op page = refl
+row-streams o me (call.ImportMem u slot p) w t op page = let x : Input = input_in (o.bundles slot) in filled-streams w u x.header.gpa p x.words (entry_at w u 0 x.header.gpa).state t
 row-streams o me (call.HostRead p i) w t op page = refl
 row-streams o me _ w t op page = refl
 
--- an entry that gets another state names its page
-same-page : (w : World) (u level number : ℕ) (x : Entry) (t l n : ℕ) → x.page ≡ (w.tds.entries u level number).page
-    → (put w.tds.entries u (put_in (w.tds.entries u) level number x) t l n).page ≡ (w.tds.entries t l n).page
-same-page w u level number x t l n same = by_test (t == u)
-    (λ y. by_test (l == level && n == number)
-    (λ z. let both = and_parts (l == level) (n == number) z in
-    rw (y, z)
-    (same ∙ (ap (λ (q : ℕ). (w.tds.entries q level number).page) (sym (eqb-true t u y))
-    ∙ (ap (λ (q : ℕ). (w.tds.entries t q number).page) (sym (eqb-true l level both.0)) ∙ ap (λ (q : ℕ). (w.tds.entries t l q).page) (sym (eqb-true n number both.1))))))
-    (λ z. rw (y, z) (ap (λ (q : ℕ). (w.tds.entries q l n).page) (sym (eqb-true t u y)))))
-    (λ y. rw y refl)
+pub pending-used : (s : EntryState) → same_state s entry.Pending ≡ true → is_free s ≡ false
+pending-used entry.Free h = cc
+pending-used _ h = refl
 
 -- whatever a guest does, entries name the same pages, and streams have the same
 module _ (o : Opening) (w : World) (t : ℕ) where
@@ -246,7 +275,8 @@ module _ (o : Opening) (w : World) (t : ℕ) where
       operation_row o u v line (λ x. NamesSame w (operation_world x Succeeds w) t)
       (λ r x. same-names w _ t refl) (λ r s. same-names w _ t refl) (λ r gpa. same-names w _ t refl) (λ r gpa. same-names w _ t refl)
       (λ gpa. record {
-        entry = λ l n. accepted (λ x. (x.tds.entries t l n).page ≡ (w.tds.entries t l n).page) (is_pending_at w u gpa) u gpa w (λ y. same-page w u 0 (number_at 0 gpa) _ t l n refl) (λ y. refl);
+        entries = accepted (λ x. EntriesStay w x t) (is_pending_at w u gpa) u gpa w
+            (λ y. restated w u (number_at 0 gpa) 0 entry.Mapped (sym (pending-used (entry_at w u 0 gpa).state y)) t) (λ y l n. as-it-is _);
         streams = accepted (λ x. x.tds.streams t ≡ w.tds.streams t) (is_pending_at w u gpa) u gpa w (λ y. refl) (λ y. refl);
       })
       (λ i. same-names w _ t refl) (λ r. same-names w _ t refl) op row is
@@ -273,32 +303,32 @@ module _ (o : Opening) (w : World) (t : ℕ) where
 
 -- What a call holds
 
-module _ (w : World) where
-  fresh-line : (cs : List Call) → LineHolds w cs []
+module _ (o : Opening) (w : World) where
+  fresh-line : (cs : List Call) → LineHolds o w cs []
   fresh-line [] = tt
-  fresh-line (c ∷ cs) = (tries_of c w, refl)
+  fresh-line (c ∷ cs) = (tries_of o c w, refl)
 
-  fresh : (cs : List Call) (g : Option Guest) → PhaseHolds w cs g Trying []
+  fresh : (cs : List Call) (g : Option Guest) → PhaseHolds o w cs g Trying []
   fresh cs None = fresh-line cs
   fresh cs (Some g) = tt
 
-  undoing : (cs : List Call) (g : Option Guest) (l : LockId) (hs : List Held) → PhaseHolds w cs g (Undoing l) hs
+  undoing : (cs : List Call) (g : Option Guest) (l : LockId) (hs : List Held) → PhaseHolds o w cs g (Undoing l) hs
   undoing cs None l hs = tt
   undoing cs (Some g) l hs = tt
 
-  done : (cs : List Call) (g : Option Guest) (r : Reply) (hs : List Held) → PhaseHolds w cs g (Answered r) hs
+  done : (cs : List Call) (g : Option Guest) (r : Reply) (hs : List Held) → PhaseHolds o w cs g (Answered r) hs
   done cs None r hs = tt
   done cs (Some g) r hs = tt
 
 module _ (o : Opening) (p : ℕ) where
   in-guest : (w : World) (lp : Lp) (g : Guest) → lp.guest ≡ Some g → Holds o p w lp
-  in-guest w lp g is = subst (λ (x : Option Guest). PhaseHolds w (lines_left o p lp) x lp.call.phase lp.call.held) (sym is) tt
+  in-guest w lp g is = subst (λ (x : Option Guest). PhaseHolds o w (lines_left o p lp) x lp.call.phase lp.call.held) (sym is) tt
 
   settled-holds : (w : World) (lp : Lp) → Holds o p w lp → Holds o p w (settled lp)
   settled-holds w lp k = by lp.call.phase lp.call.held
     where
       by : (phase : Phase Reply) (hs : List Held) → Holds o p w (settle phase hs lp)
-      by (Answered r) [] = fresh w (lines_left o p (settle (Answered r) [] lp)) lp.guest
+      by (Answered r) [] = fresh o w (lines_left o p (settle (Answered r) [] lp)) lp.guest
       by (Answered r) (h ∷ hs) = k
       by Trying hs = k
       by (Undoing l) hs = k
@@ -310,14 +340,14 @@ module _ (o : Opening) (p : ℕ) where
     abbrev After : Move Reply → Type 0
     After mv = Holds o p (call_world its_row mv w) (call_lp w b its_row mv lp)
 
-    pub first : lp.call.phase ≡ Trying → HoldsFirstOf w c lp.call.held
+    pub first : lp.call.phase ≡ Trying → HoldsFirstOf o w c lp.call.held
     first t =
-        subst (λ (x : List Call). LineHolds w x lp.call.held) line
-        (subst (λ (x : Option Guest). PhaseHolds w (lines_left o p lp) x Trying lp.call.held) none
-        (subst (λ (x : Phase Reply). PhaseHolds w (lines_left o p lp) lp.guest x lp.call.held) t h))
+        subst (λ (x : List Call). LineHolds o w x lp.call.held) line
+        (subst (λ (x : Option Guest). PhaseHolds o w (lines_left o p lp) x Trying lp.call.held) none
+        (subst (λ (x : Phase Reply). PhaseHolds o w (lines_left o p lp) lp.guest x lp.call.held) t h))
 
     -- the lock of a try that is granted is the next of them
-    one-more : (l : LockId) (m : Mode) → HoldsFirstOf w c lp.call.held → next (its_row.items w) (length lp.call.held) ≡ Attempts l m → HoldsFirstOf w c (record { lock = l; mode = m } ∷ lp.call.held)
+    one-more : (l : LockId) (m : Mode) → HoldsFirstOf o w c lp.call.held → next (its_row.items w) (length lp.call.held) ≡ Attempts l m → HoldsFirstOf o w c (record { lock = l; mode = m } ∷ lp.call.held)
     one-more l m x e =
         let hs : List Held = lp.call.held in
         let y = next-locks (its_row.items w) (length hs) l m e in
@@ -326,28 +356,28 @@ module _ (o : Opening) (p : ℕ) where
         sym (drop-then hs 0 x.0) ∙ (ap (λ (k : ℕ). drop k (held_then hs x.0)) (sym none) ∙ (ap (drop (length hs)) (sym (rows_try_lists o p c w ∙ x.1)) ∙ y.1)) in
         (y.0, x.1 ∙ ap (held_then hs) left)
 
-    tried : (x : Bool) (l : LockId) (m : Mode) → b ≡ x → HoldsFirstOf w c lp.call.held → next (its_row.items w) (length lp.call.held) ≡ Attempts l m → After (Attempts l m)
+    tried : (x : Bool) (l : LockId) (m : Mode) → b ≡ x → HoldsFirstOf o w c lp.call.held → next (its_row.items w) (length lp.call.held) ≡ Attempts l m → After (Attempts l m)
     tried true l m is f e =
         rw is
-        (subst (λ (x : Option Guest). PhaseHolds w (lines_left o p lp) x Trying (record { lock = l; mode = m } ∷ lp.call.held)) (sym none)
-        (subst (λ (x : List Call). LineHolds w x (record { lock = l; mode = m } ∷ lp.call.held)) (sym line) (one-more l m f e)))
-    tried false l Shared is f e = rw is (undoing w (lines_left o p lp) lp.guest l lp.call.held)
-    tried false l Exclusive is f e = rw is (done w (lines_left o p lp) lp.guest _ lp.call.held)
+        (subst (λ (x : Option Guest). PhaseHolds o w (lines_left o p lp) x Trying (record { lock = l; mode = m } ∷ lp.call.held)) (sym none)
+        (subst (λ (x : List Call). LineHolds o w x (record { lock = l; mode = m } ∷ lp.call.held)) (sym line) (one-more l m f e)))
+    tried false l Shared is f e = rw is (undoing o w (lines_left o p lp) lp.guest l lp.call.held)
+    tried false l Exclusive is f e = rw is (done o w (lines_left o p lp) lp.guest _ lp.call.held)
 
     acted : (x : Option Entering) → Holds o p (its_row.act w) (succeeded w its_row x lp)
-    acted None = done (its_row.act w) (lines_left o p lp) lp.guest _ lp.call.held
+    acted None = done o (its_row.act w) (lines_left o p lp) lp.guest _ lp.call.held
     acted (Some e) = tt
 
     on-its-way : lp.call.phase ≡ Trying → After (next (its_row.items w) (length lp.call.held))
     on-its-way t =
         next_is (λ mv. next (its_row.items w) (length lp.call.held) ≡ mv → After mv) (its_row.items w) (length lp.call.held)
-        (λ r e. done w (lines_left o p lp) lp.guest r lp.call.held) (λ e. acted its_row.enters) (λ l m room e. tried b l m refl (first t) e) refl
+        (λ r e. done o w (lines_left o p lp) lp.guest r lp.call.held) (λ e. acted its_row.enters) (λ l m room e. tried b l m refl (first t) e) refl
 
     by-phase : (phase : Phase Reply) (hs : List Held) → lp.call.phase ≡ phase → lp.call.held ≡ hs → After (next_in (its_row.items w) phase hs)
     by-phase Trying hs t e = subst (λ (x : List Held). After (next (its_row.items w) (length x))) e (on-its-way t)
-    by-phase (Undoing l) hs t e = done w (lines_left o p lp) lp.guest _ lp.call.held
+    by-phase (Undoing l) hs t e = done o w (lines_left o p lp) lp.guest _ lp.call.held
     by-phase (Answered r) [] t e = h
-    by-phase (Answered r) (x ∷ hs) t e = subst (λ (y : Phase Reply). PhaseHolds w (lines_left o p lp) lp.guest y (but_newest lp.call.held)) (sym t) (done w (lines_left o p lp) lp.guest r (but_newest lp.call.held))
+    by-phase (Answered r) (x ∷ hs) t e = subst (λ (y : Phase Reply). PhaseHolds o w (lines_left o p lp) lp.guest y (but_newest lp.call.held)) (sym t) (done o w (lines_left o p lp) lp.guest r (but_newest lp.call.held))
 
   -- after an event of its own
   pub own : (w : World) (b : Event → Bool) (lp : Lp) → Holds o p w lp → (e : Event) → Due o w p lp e → Holds o p (world_after e w) (lp_after w (b e) e lp)
@@ -397,13 +427,13 @@ module _ (o : Opening) (s : State) (h : CallsHoldApart o s) where
 
   module _ (p : ℕ) (c : Call) (cs : List Call) (line : lines_left o p (s.lps p) ≡ c ∷ cs) (none : (s.lps p).guest ≡ None) (acts : next_in ((row_of o p c).items w) (s.lps p).call.phase (s.lps p).call.held ≡ Succeeds) where
     -- at its act a call holds alone what it tries alone
-    its : (l : LockId) → holds_alone (tries_of c w) l ≡ true → holds_alone (locks_of (s.lps p)) l ≡ true
+    its : (l : LockId) → holds_alone (tries_of o c w) l ≡ true → holds_alone (locks_of (s.lps p)) l ≡ true
     its l k =
         let lp : Lp = s.lps p in
         let hs : List Held = lp.call.held in
         let at = act-tries ((row_of o p c).items w) lp.call.phase hs acts in
         let f = first o p w true lp (h.each p) c cs line none at.0 in
-        let all : tries_of c w ≡ held_then hs [] = f.1 ∙ ap (held_then hs) (all-had ((row_of o p c).items w) hs f.0 (rows_try_lists o p c w ∙ f.1) at.1) in
+        let all : tries_of o c w ≡ held_then hs [] = f.1 ∙ ap (held_then hs) (all-had ((row_of o p c).items w) hs f.0 (rows_try_lists o p c w ∙ f.1) at.1) in
         alone-before hs (operation_locks lp.guest) l (all-turned (λ x. is_alone x.mode && same_lock x.lock l) hs (subst (λ (xs : List Held). holds_alone xs l ≡ true) all k))
 
     -- so it leaves the pages that entries of a TD name whose T and P another holds, and those of its streams where that one
@@ -412,7 +442,7 @@ module _ (o : Opening) (s : State) (h : CallsHoldApart o s) where
       parts : Apart (grip_of s p) (grip_of s q)
       parts = grips-apart s p q h.exclusive (in-machine p c cs line) below (ne_eqb p q (λ e. apart (sym e)))
 
-      page-shared : holds_alone (tries_of c w) (OfPage t) ≡ true → ⊥
+      page-shared : holds_alone (tries_of o c w) (OfPage t) ≡ true → ⊥
       page-shared y = parts.there.sole (Locked (OfPage t)) (its (OfPage t) y) page
 
       pub entries-stay : holds (locks_of (s.lps q)) (OfTree t) ≡ true → EntriesStay w ((row_of o p c).act w) t
@@ -422,7 +452,7 @@ module _ (o : Opening) (s : State) (h : CallsHoldApart o s) where
 
       names-stay : holds (locks_of (s.lps q)) (OfOp t) ≡ true → holds (locks_of (s.lps q)) (OfTree t) ≡ true → NamesSame w ((row_of o p c).act w) t
       names-stay op tree = record {
-        entry = λ l n. (entries-stay tree l n).page;
+        entries = entries-stay tree;
         streams = row-streams o p c w t (λ y. parts.there.sole (Locked (OfOp t)) (its (OfOp t) y) op) page-shared;
       }
 
@@ -445,12 +475,12 @@ module _ (o : Opening) (s : State) (h : CallsHoldApart o s) where
     others : (q : ℕ) → q ≢ p → Holds o q (world_after e w) (s.lps q)
     others q apart = by (lines_left o q (s.lps q)) refl (s.lps q).guest (s.lps q).call.phase (h.each q)
       where
-        by : (cs : List Call) → lines_left o q (s.lps q) ≡ cs → (g : Option Guest) (phase : Phase Reply) → PhaseHolds w cs g phase (s.lps q).call.held → PhaseHolds (world_after e w) cs g phase (s.lps q).call.held
+        by : (cs : List Call) → lines_left o q (s.lps q) ≡ cs → (g : Option Guest) (phase : Phase Reply) → PhaseHolds o w cs g phase (s.lps q).call.held → PhaseHolds o (world_after e w) cs g phase (s.lps q).call.held
         by [] line None Trying k = tt
         by (c ∷ cs) line None Trying k =
             let hs : List Held = (s.lps q).call.held in
             let more : List Held = operation_locks (s.lps q).guest in
-            first-stays c hs (world_after e w) w k
+            first-stays o c hs (world_after e w) w k
             (λ t page op tree. event-names q apart (in-machine q c cs line) t (held-before hs more (OfPage t) page) (held-before hs more (OfOp t) op) (held-before hs more (OfTree t) tree) e (due_event_is o s p e is))
         by cs line None (Undoing l) k = tt
         by cs line None (Answered r) k = tt
@@ -469,15 +499,8 @@ module _ (o : Opening) (s : State) (h : CallsHoldApart o s) where
       by None is = h.each
       by (Some e) is = step p e is
 
-pub calls-rebundled : (o : Opening) (bundles : ℕ → Option Incoming) (s : State) → CallsHoldApart o s → CallsHoldApart (with_bundles o bundles) s
-calls-rebundled o bundles s h = record { exclusive = h.exclusive; count = h.count; each = h.each }
-
 pub call-locks-kept : CallLocksAreKept
 call-locks-kept = record {
-  start = λ o ws. record { exclusive = exclusion_kept.start o ws; count = refl; each = λ q. fresh-line (start o ws).world (lines_left o q idle) };
-  event = λ o bundles s p h. record {
-    exclusive = exclusion_kept.event o bundles s p h.exclusive;
-    count = count_stays (with_bundles o bundles) s p ∙ h.count;
-    each = after (with_bundles o bundles) s (calls-rebundled o bundles s h) p;
-  };
+  start = λ o ws. record { exclusive = exclusion_kept.start o ws; count = refl; each = λ q. fresh-line o (start o ws).world (lines_left o q idle) };
+  event = λ o s p h. record { exclusive = exclusion_kept.event o o.bundles s p h.exclusive; count = count_stays o s p ∙ h.count; each = after o s h p };
 }

@@ -10,7 +10,7 @@ use Rattle.flat_core.specs.Table.{row_of}
 use Rattle.flat_core.specs.Event.{State, Event, OfCall, next_event, lines_left, world_after, call_world}
 use Rattle.flat_core.specs.AccessLaw.{IsGuarded}
 use Rattle.flat_core.specs.Laws.{reached}
-use Rattle.flat_core.proofs.Induction.{in_runs}
+use Rattle.flat_core.proofs.Induction.{in_runs_of}
 use Rattle.flat_core.proofs.Due.{Due, calls, frees, leaves, stops, fills, operates, walks, reaches, undoes, gives_back, due_event_is}
 use Rattle.flat_core.proofs.Enter.{passed}
 use Rattle.flat_core.proofs.Always.{always_guarded}
@@ -83,7 +83,7 @@ pub guarded-events-respect : GuardedEventsRespect
 guarded-events-respect o s all theirs = each-event o s all theirs
 
 pub every-event-respects : EveryEventRespects
-every-event-respects o ws schedule = guarded-events-respect o (reached o ws schedule) (always_guarded o ws schedule) (in_runs CallsHoldApart call-locks-kept o ws schedule).each
+every-event-respects o ws schedule = guarded-events-respect o (reached o ws schedule) (always_guarded o ws schedule) (in_runs_of CallsHoldApart call-locks-kept o ws schedule).each
 
 pub events-spare-others : GripsStayApart → ActsNeverConflict → EventsSpareOthers
 events-spare-others apart never o ws schedule p q e in-p in-q differ next =

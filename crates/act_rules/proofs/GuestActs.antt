@@ -47,14 +47,11 @@ use Rattle.act_rules.specs.Acts.{SameSpots}
 use Rattle.act_rules.specs.GuestActs.{OperationsKeepSpots, HasGuest, GuestRespects, GuestsRespect, MayStore, NoneReachesPending, GuestStores, GuestsStoreTheirs, MayAccess, GuardedGuestsRespect, EveryGuestEventRespects, HoldsAll, GuardedGuestsStore, EveryGuestEventStores}
 use Rattle.act_rules.specs.GuestLocks.{OperationsHoldTheirs}
 use Rattle.act_rules.proofs.Unreached.{IsCounted, none-reaches-pending}
+use Rattle.act_rules.proofs.CallHolds.{pending-used}
 use Rattle.act_rules.proofs.OperationLocks.{operation-passes, operation-locks-hold}
 use Rattle.act_rules.proofs.Respected.{all-same, entry-same, effects-respect}
 
 -- a page that is accepted
-
-pending-used : (s : EntryState) → same_state s entry.Pending ≡ true → is_free s ≡ false
-pending-used entry.Free h = cc
-pending-used _ h = refl
 
 pending-is : (s : EntryState) → same_state s entry.Pending ≡ true → is_pending s ≡ true
 pending-is entry.Pending h = refl

@@ -18,7 +18,7 @@ use Rattle.td_words.specs.Packing.{Entry}
 use Rattle.flat_core.specs.World.{World}
 use Rattle.flat_core.specs.Processor.{LockId, OfPage, OfOp, OfTree, OfEpoch, Held, Phase, Trying, Undoing, Answered, Guest, Entering, new_guest, Lp}
 use Rattle.flat_core.specs.Locks.{same_lock}
-use Rattle.flat_core.specs.Opening.{Opening, Incoming}
+use Rattle.flat_core.specs.Opening.{Opening}
 use Rattle.flat_core.specs.Row.{Row, OperationRow, Move, Attempts, Undoes, Refuses, Succeeds, Releases, Rests, Passes, next, next_in, after_try, after_move, but_newest}
 use Rattle.flat_core.specs.Tree.{same_state, entry_at, number_at, levels_above, is_passed}
 use Rattle.flat_core.specs.Table.{row_of}
@@ -29,25 +29,20 @@ use Rattle.flat_core.specs.Guests.{SameVp}
 use Rattle.flat_core.specs.Inside.{InGuest, LineAt, StandsAt, held_then}
 use Rattle.flat_core.specs.GuestOrder.{operation_tries, tried_by}
 use Rattle.flat_core.specs.Event.{State, Event, OfCall, OfOperation, Walks, Reaches, next_event, lines_left, event, after_event, world_after, call_world, operation_world, lp_after, call_lp, succeeded, settled, settle, settled_guest, settle_operation, operation_guest, operation_busy, operation_due, nothing_more, is_granted}
-use Rattle.flat_core.specs.Laws.{with_bundles}
 use Rattle.flat_core.proofs.Tests.{by_test}
-use Rattle.flat_core.proofs.Induction.{in_runs}
+use Rattle.flat_core.proofs.Induction.{in_runs_of}
 use Rattle.flat_core.proofs.Operations.{operation_row, accepted}
 use Rattle.flat_core.proofs.Due.{Due, calls, frees, leaves, stops, fills, operates, walks, reaches, undoes, gives_back, due_event_is}
-use Rattle.flat_core.proofs.Ends.{next_is, leave, same_due, timely_step, timeliness_kept, timely_rebundled}
+use Rattle.flat_core.proofs.Ends.{next_is, leave, same_due, timely_step, timeliness_kept}
 use Rattle.flat_core.proofs.AccessActs.{entry-apart}
 use Rattle.flat_core.proofs.GuestOrder.{operations_try_lists}
 use Rattle.word_rules.specs.CallUses.{HoldsTries}
 use Rattle.lock_words.specs.Grips.{holds, operation_locks, locks_of, grip_of}
 use Rattle.act_rules.proofs.Tried.{drop-then, next-locks, held-before, held-behind, alone-behind, IsWithin, all-pass, length-then, nothing-left, all-turned, tries-held}
-use Rattle.act_rules.proofs.CallHolds.{EntriesStay, in-machine, entries-stay, calls-rebundled, call-locks-kept}
+use Rattle.act_rules.proofs.CallHolds.{EntriesStay, in-machine, entries-stay, call-locks-kept}
 use Rattle.act_rules.specs.GuestLocks.{HoldsFirst, NamesTried, IsNamed, HoldsDue, HoldsIn, HoldsTheirs, OperationsHoldTheirs, AllHoldTheirs, OperationLocksAreKept, OperationLocksHold}
 
 -- An entry of level 0 that isn't FREE names the same page after each event, where the act of a call leaves it
-
-pending-used : (s : EntryState) → same_state s entry.Pending ≡ true → is_free s ≡ false
-pending-used entry.Free h = cc
-pending-used _ h = refl
 
 abbrev Renames : World → (tdr number : ℕ) → World → Type 0
 Renames w t n w' = (is_free (w'.tds.entries t 0 n).state ≡ false) × ((w'.tds.entries t 0 n).page ≡ (w.tds.entries t 0 n).page)
@@ -354,22 +349,14 @@ after o s p h = by (next_event o s p) refl
     by None is = h.operations
     by (Some e) is = step o s p e is h
 
-rebundled : (o : Opening) (bundles : ℕ → Option Incoming) (s : State) → OperationsHoldTheirs o s → OperationsHoldTheirs (with_bundles o bundles) s
-rebundled o bundles s h = record { timely = timely_rebundled o bundles s h.timely; each = h.each }
-
 pub operation-locks-kept : OperationLocksAreKept
 operation-locks-kept = record {
   start = λ o ws. record { calls = call-locks-kept.start o ws; operations = record { timely = timeliness_kept.start o ws; each = λ q. tt } };
-  event = λ o bundles s p h.
-      let q = with_bundles o bundles in
-      record {
-        calls = call-locks-kept.event o bundles s p h.calls;
-        operations = rebundled q o.bundles (event q s p) (after q s p (record { calls = calls-rebundled o bundles s h.calls; operations = rebundled o bundles s h.operations }));
-      };
+  event = λ o s p h. record { calls = call-locks-kept.event o s p h.calls; operations = after o s p h };
 }
 
 pub operation-locks-hold : OperationLocksHold
-operation-locks-hold o ws schedule = (in_runs AllHoldTheirs operation-locks-kept o ws schedule).operations
+operation-locks-hold o ws schedule = (in_runs_of AllHoldTheirs operation-locks-kept o ws schedule).operations
 
 -- At its act it holds all that it tries
 

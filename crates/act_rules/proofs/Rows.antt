@@ -8,6 +8,7 @@ use Rattle.td_words.specs.declared.names.PageKind.{PageKind}
 use Rattle.td_words.specs.declared.names.PageKind.TheVariants as kind
 use Rattle.td_words.specs.declared.names.LifeState.{LifeState}
 use Rattle.td_words.specs.declared.names.LifeState.TheVariants as life
+use Rattle.td_words.specs.declared.names.OpState.{OpState}
 use Rattle.td_words.specs.declared.names.OpState.TheVariants as op
 use Rattle.td_words.specs.declared.names.VcpuState.TheVariants as vcpu
 use Rattle.td_words.specs.declared.names.EntryState.{EntryState}
@@ -18,8 +19,9 @@ use Rattle.td_words.specs.declared.refusals.Status.TheVariants.{EptWalkFailed}
 use Rattle.td_words.specs.declared.machines.Machine.{Machine}
 use Rattle.td_words.specs.Packing.{Entry, Key as KeyState, Unassigned, AssignedTo, FlushedOf}
 use Rattle.td_words.specs.Place.{WordPlace, Lock, Pamt, Word, Key}
-use Rattle.flat_core.specs.World.{World, put, free_entry}
+use Rattle.flat_core.specs.World.{World, ClearHeader, put, free_entry}
 use Rattle.flat_core.specs.Processor.{OfPage, OfOp, OfTree, OfKeys}
+use Rattle.flat_core.specs.Opening.{Incoming}
 use Rattle.flat_core.specs.Lawful.{Lawful, ArePagesOf, key_owner, is_free}
 use Rattle.flat_core.specs.Row.{Item, Check, Passes}
 use Rattle.flat_core.specs.Conditions.{same_kind, is_host, is_host_in, is_free_key}
@@ -27,12 +29,14 @@ use Rattle.flat_core.specs.Effects.{set_word, take_node, take_page, set_entry, r
 use Rattle.flat_core.specs.TdRows.{create, add_tdcx}
 use Rattle.flat_core.specs.KeyRows.{reclaim_conditions}
 use Rattle.flat_core.specs.VpRows.{create_vp}
-use Rattle.flat_core.specs.Tree.{is_passed, page_of_gpa, number_at, entry_at, empty_below, levels_above}
+use Rattle.flat_core.specs.Tree.{is_passed, page_of_gpa, number_at, entry_at, state_in, empty_below, levels_above}
 use Rattle.flat_core.specs.Tracking.{tracked_page}
 use Rattle.flat_core.specs.MemRows.{removed_states}
 use Rattle.flat_core.specs.ExportRows.{add_stream, write_blocked, count_dirt, count_restored, note_pause}
 use Rattle.flat_core.specs.Digests.{six_words}
-use Rattle.flat_core.specs.Sessions.{bundles_so_far, payload_words, About, about, make_bundle, begin_session, set_mig_epoch, count_export, note_td_export, note_vp_export}
+use Rattle.flat_core.specs.Sessions.{bundles_so_far, payload_words, About, about, make_bundle, begin_session, set_mig_epoch, count_bundle, count_export, note_td_export, note_vp_export}
+use Rattle.flat_core.specs.Inputs.{Input, input_in, tag_holds}
+use Rattle.flat_core.specs.ImportRows.{begin_import, import_immutable, importable, page_to_fill, fill_page, import_page, is_start, op_then, import_token, give_rtmrs, import_td, give_vp_state, import_vp, note_commit, commit_import, abort_import}
 use Rattle.flat_core.specs.BundleRows.{start_epoch, track_export, token_kind, token_epoch, export_immutable, export_page, export_token, export_td, export_vp}
 use Rattle.flat_core.proofs.Maps.{kind_named, node_named, behind_walk}
 use Rattle.flat_core.proofs.Ranges.{named_passed, named_alive, page_removed, sept_removed, export_passed, can_export}
@@ -382,6 +386,78 @@ module _ (g : Grip) (w : World) where
       bundled t slot (record (about 2 (w.tds.mig_epochs t)) { index = w.vps.indexes v; info = w.vps.positions v % 2 ^ 32 }) (payload_words (w.hidden.registers v) 8) w1
       (noted w1 refl (λ u. same-td w w1 u refl refl refl (λ b. refl) (λ n. refl)) (λ h. refl) refl)
 
+  -- calls of an import: their streams count the bundle that has come in
+  taken-in : (t k : ℕ) (w1 : World) → Respects g w w1 → Respects g w (count_bundle t k w1)
+  taken-in t k w1 before = let w2 : World = count_bundle t k w1 in counted w1 w2 refl (λ u. same-td w1 w2 u refl refl refl (λ b. refl) (λ n. refl)) (λ h. refl) refl before
+
+  -- an operation state behind what leaves words as they are
+  op-then : (t : ℕ) (s : OpState) (w1 : World) → Respects g w w1 → g.has (Locked (OfPage t)) ≡ true → g.sole (Locked (OfOp t)) ≡ true → Respects g w (set_op t s w1)
+  op-then t s w1 before has alone = respects-compose.both g w w1 (set_op t s w1) before ((effects-respect g w1).op t s has alone)
+
+  -- IMPORT.STATE.IMMUTABLE
+  pub immutable-imported : (m : Machine) (b : Option Incoming) (t slot : ℕ) → g.has (Locked (OfPage t)) ≡ true → g.sole (Locked (OfOp t)) ≡ true → Respects g w ((import_immutable m b t slot).act w)
+  immutable-imported m b t slot has alone =
+      let w1 : World = set_op t op.MemoryImport w in
+      let w2 : World = set_epoch t 1 w1 in
+      let w3 : World = begin_import t (input_in b) w in
+      let a : Respects g w w2 = respects-compose.both g w w1 w2 ((effects-respect g w).op t op.MemoryImport has alone) ((effects-respect g w1).epoch_op t 1 has alone) in
+      taken-in t 0 w3 (counted w2 w3 refl (λ u. same-td w2 w3 u refl refl refl (λ c. refl) (λ n. refl)) (λ h. refl) refl a)
+
+  -- IMPORT.MEM: a host page becomes the one that the entry names, or words of a page are stored
+  filled : (t gpa p : ℕ) (ws : ℕ → ℕ) (rest : List (Item Reply)) (s : EntryState) → Passes (page_to_fill w t gpa p s ++ rest) → HoldsTries g (page_to_fill w t gpa p s ++ rest) → HoldsTd g t → g.sole (Locked (OfTree t)) ≡ true
+      → Respects g w (fill_page t gpa p ws s w)
+  filled t gpa p ws rest entry.Free ps h td tree =
+      let w1 : World = map_page p kind.Reg entry.Mapped t 0 (number_at 0 gpa) w in
+      let w2 : World = set_page p ws w1 in
+      counted w1 w2 refl (λ u. same-td w1 w2 u refl refl refl (λ b. refl) (λ n. refl)) (λ k. refl) refl (mapped p kind.Reg entry.Mapped t 0 (number_at 0 gpa) ps.0 h.0.1 td tree)
+  filled t gpa p ws rest _ ps h td tree = let w1 : World = set_page (entry_at w t 0 gpa).page ws w in noted w1 refl (λ u. same-td w w1 u refl refl refl (λ b. refl) (λ n. refl)) (λ k. refl) refl
+
+  pub page-imported : (m : Machine) (b : Option Incoming) (t slot p : ℕ) → let x : Input = input_in b in let s : EntryState = (entry_at w t 0 x.header.gpa).state in
+      Passes (page_to_fill w t x.header.gpa p s ++ tag_holds x ∷ []) → HoldsTries g (page_to_fill w t x.header.gpa p s ++ tag_holds x ∷ []) → HoldsTd g t → g.sole (Locked (OfTree t)) ≡ true
+      → Respects g w ((import_page m b t slot p).act w)
+  page-imported m b t slot p ps h td tree =
+      let x : Input = input_in b in
+      let gpa : ℕ = x.header.gpa in
+      let s : EntryState = (entry_at w t 0 gpa).state in
+      let w1 : World = fill_page t gpa p x.words s w in
+      let w2 : World = begin_memory t (page_of_gpa gpa) x.words w1 in
+      taken-in t x.header.stream w2
+      (counted w1 w2 refl (λ u. same-td w1 w2 u refl refl refl (λ c. refl) (λ n. refl)) (λ k. refl) refl (filled t gpa p x.words (tag_holds x ∷ []) s ps h td tree))
+
+  -- IMPORT.TRACK
+  pub token-imported : (m : Machine) (b : Option Incoming) (t slot : ℕ) → g.has (Locked (OfPage t)) ≡ true → g.sole (Locked (OfOp t)) ≡ true → Respects g w ((import_token m b t slot).act w)
+  token-imported m b t slot has alone =
+      let h : ClearHeader = (input_in b).header in
+      let w1 : World = set_mig_epoch t h.epoch w in
+      let s : OpState = op_then (is_start h) (w.tds.ops t) in
+      taken-in t 0 (set_op t s w1) (op-then t s w1 (epoch-ended t h.epoch) has alone)
+
+  -- IMPORT.STATE.TD
+  pub td-imported : (m : Machine) (b : Option Incoming) (t slot : ℕ) → g.has (Locked (OfPage t)) ≡ true → g.sole (Locked (OfOp t)) ≡ true → Respects g w ((import_td m b t slot).act w)
+  td-imported m b t slot has alone =
+      let w1 : World = give_rtmrs t (input_in b).words w in
+      taken-in t 0 (set_op t op.StateImport w1) (op-then t op.StateImport w1 (noted w1 refl (λ u. same-td w w1 u refl refl refl (λ c. refl) (λ n. refl)) (λ k. refl) refl) has alone)
+
+  -- IMPORT.STATE.VP
+  pub vp-imported : (m : Machine) (b : Option Incoming) (t v slot : ℕ) → Respects g w ((import_vp m b t v slot).act w)
+  vp-imported m b t v slot =
+      let x : Input = input_in b in
+      let w1 : World = give_vp_state v x.header.info x.words w in
+      taken-in t 0 w1 (noted w1 refl (λ u. same-td w w1 u refl refl refl (λ c. refl) (λ n. refl)) (λ k. refl) refl)
+
+  -- IMPORT.COMMIT
+  pub committed : (m : Machine) (t : ℕ) → g.has (Locked (OfPage t)) ≡ true → g.sole (Locked (OfOp t)) ≡ true → Respects g w ((commit_import m t).act w)
+  committed m t has alone =
+      let w1 : World = note_commit t w in
+      op-then t op.LiveImport w1 (noted w1 refl (λ u. same-td w w1 u refl refl refl (λ b. refl) (λ n. refl)) (λ k. refl) refl) has alone
+
+  -- IMPORT.ABORT
+  pub import-aborted : (m : Machine) (t slot : ℕ) → g.has (Locked (OfPage t)) ≡ true → g.sole (Locked (OfOp t)) ≡ true → Respects g w ((abort_import m t slot).act w)
+  import-aborted m t slot has alone =
+      let w1 : World = set_op t op.FailedImport w in
+      let w2 : World = (abort_import m t slot).act w in
+      counted w1 w2 refl (λ u. same-td w1 w2 u refl refl refl (λ b. refl) (λ n. refl)) (λ k. refl) refl ((effects-respect g w).op t op.FailedImport has alone)
+
   -- VP.FLUSH
   flushed : (v : ℕ) → Respects g w (end_association v w)
   flushed v = let w' : World = end_association v w in leaves g w w' (all-same w w' refl (λ u. same-td w w' u refl refl refl (λ b. refl) (λ n. refl))) (λ h. refl) refl
@@ -488,3 +564,16 @@ rows-respect o me (call.ExportMem tdr gpa stream slot) g w la ps h =
 rows-respect o me (call.ExportTrack tdr slot start) g w la ps h = token-exported g w o.machine tdr slot start h.0 h.1.0.1
 rows-respect o me (call.ExportStateTd tdr slot) g w la ps h = td-exported g w o.machine tdr slot
 rows-respect o me (call.ExportStateVp tdr vp slot) g w la ps h = vp-exported g w o.machine tdr vp slot
+rows-respect o me (call.ExportAbortByToken tdr slot) g w la ps h = (effects-respect g w).op tdr op.Runnable h.0 h.1.0.1
+rows-respect o me (call.ImportStateImmutable tdr slot) g w la ps h = immutable-imported g w o.machine (o.bundles slot) tdr slot h.0 h.1.0.1
+rows-respect o me (call.ImportMem tdr slot page) g w la ps h =
+    let x : Input = input_in (o.bundles slot) in
+    let gpa : ℕ = x.header.gpa in
+    let behind = behind_walk w tdr gpa 0 (state_in w tdr gpa 0 importable ∷ (page_to_fill w tdr gpa page (entry_at w tdr 0 gpa).state ++ tag_holds x ∷ [])) ps.1.1.1.1.1.1.1.1.1.1.1.1.1.1 in
+    page-imported g w o.machine (o.bundles slot) tdr slot page behind.1 h.1.1.1 (record { tdr = h.0; op = h.1.0 }) h.1.1.0.1
+rows-respect o me (call.ImportTrack tdr slot) g w la ps h = token-imported g w o.machine (o.bundles slot) tdr slot h.0 h.1.0.1
+rows-respect o me (call.ImportStateTd tdr slot) g w la ps h = td-imported g w o.machine (o.bundles slot) tdr slot h.0 h.1.0.1
+rows-respect o me (call.ImportStateVp tdr vp slot) g w la ps h = vp-imported g w o.machine (o.bundles slot) tdr vp slot
+rows-respect o me (call.ImportCommit tdr) g w la ps h = committed g w o.machine tdr h.0 h.1.0.1
+rows-respect o me (call.ImportEnd tdr) g w la ps h = (effects-respect g w).op tdr op.Runnable h.0 h.1.0.1
+rows-respect o me (call.ImportAbort tdr slot) g w la ps h = import-aborted g w o.machine tdr slot h.0 h.1.0.1

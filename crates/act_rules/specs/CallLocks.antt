@@ -10,26 +10,26 @@ use Rattle.flat_core.specs.Tries.{tries_of}
 use Rattle.flat_core.specs.Inside.{held_then}
 use Rattle.flat_core.specs.Event.{State, Event, lines_left, next_event, world_after}
 use Rattle.flat_core.specs.AccessLaw.{IsGuarded}
-use Rattle.flat_core.specs.Laws.{reached, IsExclusive, IsKept, HoldsInRuns}
+use Rattle.flat_core.specs.Laws.{reached, IsExclusive, IsKeptInRuns, HoldsInRuns}
 use Rattle.word_rules.specs.Permissions.{Respects, NoLaterConflict}
 use Rattle.lock_words.specs.Grips.{grip_of}
 
 -- the first of its list
-abbrev pub HoldsFirstOf : World → Call → List Held → Type 0
-HoldsFirstOf w c hs = (rest : List Held) × (tries_of c w ≡ held_then hs rest)
+abbrev pub HoldsFirstOf : Opening → World → Call → List Held → Type 0
+HoldsFirstOf o w c hs = (rest : List Held) × (tries_of o c w ≡ held_then hs rest)
 
 -- so of the next line, outside guests, while it is on its way
-abbrev pub LineHolds : World → List Call → List Held → Type 0
-LineHolds w [] hs = Unit {0}
-LineHolds w (c ∷ cs) hs = HoldsFirstOf w c hs
+abbrev pub LineHolds : Opening → World → List Call → List Held → Type 0
+LineHolds o w [] hs = Unit {0}
+LineHolds o w (c ∷ cs) hs = HoldsFirstOf o w c hs
 
-abbrev pub PhaseHolds : World → List Call → Option Guest → Phase Reply → List Held → Type 0
-PhaseHolds w cs None Trying hs = LineHolds w cs hs
-PhaseHolds w cs _ _ hs = Unit {0}
+abbrev pub PhaseHolds : Opening → World → List Call → Option Guest → Phase Reply → List Held → Type 0
+PhaseHolds o w cs None Trying hs = LineHolds o w cs hs
+PhaseHolds o w cs _ _ hs = Unit {0}
 
 -- and of each processor
 abbrev pub CallsHoldTheirs : Opening → State → Type 0
-CallsHoldTheirs o s = (q : ℕ) → PhaseHolds s.world (lines_left o q (s.lps q)) (s.lps q).guest (s.lps q).call.phase (s.lps q).call.held
+CallsHoldTheirs o s = (q : ℕ) → PhaseHolds o s.world (lines_left o q (s.lps q)) (s.lps q).guest (s.lps q).call.phase (s.lps q).call.held
 
 -- where locks exclude, and as many processors take part as have calls
 pub record CallsHoldApart (o : Opening) (s : State) : Type 0 where
@@ -38,7 +38,7 @@ pub record CallsHoldApart (o : Opening) (s : State) : Type 0 where
   pub each : CallsHoldTheirs o s
 
 abbrev pub CallLocksAreKept : Type 0
-CallLocksAreKept = IsKept CallsHoldApart
+CallLocksAreKept = IsKeptInRuns CallsHoldApart
 
 -- In a state: every event, a call's and a guest's, changes what words are only as the rules say, under what its processor has.
 abbrev pub EventsRespect : Opening → State → Type 0

@@ -12,7 +12,7 @@ use Rattle.flat_core.specs.Lawful.{is_free}
 use Rattle.flat_core.specs.Inside.{AreTimely, held_then}
 use Rattle.flat_core.specs.GuestOrder.{operation_tries}
 use Rattle.flat_core.specs.Event.{State, operation_due}
-use Rattle.flat_core.specs.Laws.{IsKept, HoldsInRuns}
+use Rattle.flat_core.specs.Laws.{IsKeptInRuns, HoldsInRuns}
 use Rattle.act_rules.specs.CallLocks.{CallsHoldApart}
 
 -- the first of its list
@@ -51,7 +51,7 @@ pub record AllHoldTheirs (o : Opening) (s : State) : Type 0 where
   pub operations : OperationsHoldTheirs o s
 
 abbrev pub OperationLocksAreKept : Type 0
-OperationLocksAreKept = IsKept AllHoldTheirs
+OperationLocksAreKept = IsKeptInRuns AllHoldTheirs
 
 abbrev pub OperationLocksHold : Type 0
 OperationLocksHold = HoldsInRuns OperationsHoldTheirs

@@ -40,8 +40,8 @@ pub fn guests_respect()
 /// it, and a private page's word where a usable translation of the TD may write. An operation holds
 /// the first of the locks that its row tries, of which the page that `accept` has tried is the one
 /// that its entry names, since it shares T and who gives that entry another page holds T alone: at the
-/// start of every run, after each event, whatever bundles have come in, and so after any schedule. So
-/// at its act it holds all of them, and what it stores is allowed.
+/// start of every run, after each event with the bundles of that run, and so after any schedule. So at
+/// its act it holds all of them, and what it stores is allowed.
 pub fn guests_store()
     ensures stores { GuestsStoreTheirs }
     ensures kept { OperationLocksAreKept }
@@ -51,10 +51,11 @@ pub fn guests_store()
 {}
 
 /// A call holds the first of the locks that its row tries, of which a page that it has tried because an
-/// entry names it is the one still named: at the start of every run, after each event, whatever bundles
-/// have come in. So in every state in which no stale translation is used besides, and after any
-/// schedule, every event, a call's and a guest's, changes what words are only as the rules say, under
-/// what its processor has; and what another processor may do at a word stays allowed to it.
+/// entry names it, or is FREE, is the one that its row still tries: at the start of every run, and after
+/// each event with the bundles of that run. So in every state in which no stale translation is used
+/// besides, and after any schedule, every event, a call's and a guest's, changes what words are only as
+/// the rules say, under what its processor has; and what another processor may do at a word stays
+/// allowed to it.
 pub fn events_respect()
     ensures kept { CallLocksAreKept }
     ensures guarded { GuardedEventsRespect }

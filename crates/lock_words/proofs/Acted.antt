@@ -1,19 +1,23 @@
 -- After the act of each row a TD whose locks stood goes on to stand, but where the row holds P of its TDR page alone.
-use Rattle.std.proofs.Common.{◌≡◌, ◌⊎◌, refl, sym, ◌∙◌, ap, inl, inr, ℕ, zero, suc, [], ◌∷◌, Bool, true, false, not, ◌==◌}
+use Rattle.std.proofs.Common.{◌≡◌, ◌⊎◌, refl, sym, ◌∙◌, ap, inl, inr, ℕ, zero, suc, List, [], ◌∷◌, ◌++◌, Bool, true, false, not, ◌==◌}
 use Rattle.std.proofs.lemmas.Bool.{eqb-true, eqb-false, ne_eqb, and_parts}
 use Rattle.td_words.specs.declared.names.Mode.TheVariants.{Exclusive}
 use Rattle.td_words.specs.declared.names.PageKind.TheVariants as kind
+use Rattle.td_words.specs.declared.names.EntryState.{EntryState}
 use Rattle.td_words.specs.declared.names.EntryState.TheVariants as entry
 use Rattle.td_words.specs.declared.calls.Call.{Call}
 use Rattle.td_words.specs.declared.calls.Call.TheVariants as call
+use Rattle.td_words.specs.declared.replies.Reply.{Reply}
 use Rattle.flat_core.specs.World.{World}
 use Rattle.flat_core.specs.Opening.{Opening}
-use Rattle.flat_core.specs.Row.{Passes}
+use Rattle.flat_core.specs.Row.{Item, Passes}
 use Rattle.flat_core.specs.Conditions.{is_host}
 use Rattle.flat_core.specs.KeyRows.{reclaim_conditions}
 use Rattle.flat_core.specs.MemRows.{removed_states}
 use Rattle.flat_core.specs.Tracking.{tracked_page}
-use Rattle.flat_core.specs.Tree.{number_at, entry_at, empty_below}
+use Rattle.flat_core.specs.Tree.{number_at, entry_at, state_in, empty_below}
+use Rattle.flat_core.specs.Inputs.{Input, input_in, tag_holds}
+use Rattle.flat_core.specs.ImportRows.{importable, page_to_fill, fill_page}
 use Rattle.flat_core.specs.Lawful.{Lawful, IsAlive, is_free}
 use Rattle.flat_core.specs.Table.{row_of}
 use Rattle.flat_core.proofs.Maps.{unlisted, node_named, behind_walk}
@@ -43,6 +47,11 @@ apart-named o w t u level n la st alive used =
 
 same-page : (t tdr : ℕ) → (t == tdr) ≡ true → held_as tdr Exclusive ≡ held_as t Exclusive
 same-page t tdr y = ap (λ (x : ℕ). held_as x Exclusive) (sym (eqb-true t tdr y))
+
+-- a page whose words come in was the host's, or is the one that the entry names
+filled-on : (w : World) (t u gpa p : ℕ) (ws : ℕ → ℕ) (rest : List (Item Reply)) → TdStands w t → (s : EntryState) → Passes (page_to_fill w u gpa p s ++ rest) → TdStands (fill_page u gpa p ws s w) t
+filled-on w t u gpa p ws rest st entry.Free ps = let n : (t == p) ≡ false = apart-host w t p st ps.0 in same-td w _ t st (rw n refl) refl refl
+filled-on w t u gpa p ws rest st _ ps = same-td w _ t st refl refl refl
 
 pub acts-go-on : (o : Opening) (me : ℕ) (c : Call) (w : World) (t : ℕ) → let row = row_of o me c in
     Lawful o.machine w → Passes (row.items w) → TdStands w t → TdStands (row.act w) t ⊎ (first_try (row.items w) ≡ held_as t Exclusive)
@@ -75,6 +84,20 @@ acts-go-on o me (call.ExportTrack tdr slot zero) w t la ps st = inl (same-td w _
 acts-go-on o me (call.ExportTrack tdr slot (suc n)) w t la ps st = inl (same-td w _ t st refl refl refl)
 acts-go-on o me (call.ExportStateTd tdr slot) w t la ps st = inl (same-td w _ t st refl refl refl)
 acts-go-on o me (call.ExportStateVp tdr vp slot) w t la ps st = inl (same-td w _ t st refl refl refl)
+acts-go-on o me (call.ExportAbortByToken tdr slot) w t la ps st = inl (same-td w _ t st refl refl refl)
+acts-go-on o me (call.ImportStateImmutable tdr slot) w t la ps st = inl (same-td w _ t st refl refl refl)
+acts-go-on o me (call.ImportTrack tdr slot) w t la ps st = inl (same-td w _ t st refl refl refl)
+acts-go-on o me (call.ImportStateTd tdr slot) w t la ps st = inl (same-td w _ t st refl refl refl)
+acts-go-on o me (call.ImportStateVp tdr vp slot) w t la ps st = inl (same-td w _ t st refl refl refl)
+acts-go-on o me (call.ImportCommit tdr) w t la ps st = inl (same-td w _ t st refl refl refl)
+acts-go-on o me (call.ImportEnd tdr) w t la ps st = inl (same-td w _ t st refl refl refl)
+acts-go-on o me (call.ImportAbort tdr slot) w t la ps st = inl (same-td w _ t st refl refl refl)
+acts-go-on o me (call.ImportMem tdr slot page) w t la ps st =
+    let x : Input = input_in (o.bundles slot) in
+    let gpa : ℕ = x.header.gpa in
+    let s : EntryState = (entry_at w tdr 0 gpa).state in
+    let behind = behind_walk w tdr gpa 0 (state_in w tdr gpa 0 importable ∷ (page_to_fill w tdr gpa page s ++ tag_holds x ∷ [])) ps.1.1.1.1.1.1.1.1.1.1.1.1.1.1 in
+    inl (same-td (fill_page tdr gpa page x.words s w) _ t (filled-on w t tdr gpa page x.words (tag_holds x ∷ []) st s behind.1) refl refl refl)
 acts-go-on o me (call.MemPageRemove tdr gpa) w t la ps st =
     let rest = tracked_page w tdr (entry_at w tdr 0 gpa).page ∷ [] in
     let q = named_passed w tdr gpa 0 removed_states rest ps.1.1.1 in

@@ -133,16 +133,16 @@ call-stands its_calls w row Rests lp k ordered st = st
 
 first-none : (its_calls : List Call) → IsFirstOf its_calls []
 first-none [] = tt
-first-none (c ∷ cs) = λ w. tt
+first-none (c ∷ cs) = λ q w. tt
 
 first-below : (items : List (Item Reply)) (hs : List Held) → IsFirst (first_try items) hs → first_at None (length hs) items ≡ oldest hs
 first-below items [] f = refl
 first-below items (h ∷ hs) f = sym f
 
-first-with : (o : Opening) (p : ℕ) (c : Call) (w v : World) (l : LockId) (m : Mode) (hs : List Held) → next ((row_of o p c).items w) (length hs) ≡ Attempts l m → IsFirst (first_tried (tries_of c v)) hs
-    → IsFirst (first_tried (tries_of c v)) (record { lock = l; mode = m } ∷ hs)
-first-with o p c w v l m [] e f = sym (first-same c v w ∙ (first-listed o p c w ∙ next-first ((row_of o p c).items w) l m e))
-first-with o p c w v l m (h ∷ hs) e f = f
+first-with : (o q : Opening) (p : ℕ) (c : Call) (w v : World) (l : LockId) (m : Mode) (hs : List Held) → next ((row_of o p c).items w) (length hs) ≡ Attempts l m → IsFirst (first_tried (tries_of q c v)) hs
+    → IsFirst (first_tried (tries_of q c v)) (record { lock = l; mode = m } ∷ hs)
+first-with o q p c w v l m [] e f = sym (first-same c q o v w ∙ (first-listed o p c w ∙ next-first ((row_of o p c).items w) l m e))
+first-with o q p c w v l m (h ∷ hs) e f = f
 
 first-is : (items : List (Item Reply)) (hs : List Held) → IsFirst (first_try items) hs → next items (length hs) ≡ Succeeds → oldest hs ≡ first_try items
 first-is items [] f e = sym (none-tried items e)
@@ -199,11 +199,11 @@ module _ (o : Opening) (p : ℕ) (c : Call) (cs : List Call) (w : World) (lawful
     abbrev held : List Held
     held = lp.call.held
 
-    on-first : lp.call.phase ≡ Trying → (v : World) → IsFirst (first_tried (tries_of c v)) held
+    on-first : lp.call.phase ≡ Trying → (q : Opening) (v : World) → IsFirst (first_tried (tries_of q c v)) held
     on-first t = subst (λ (x : List Call). IsFirstOf x held) lines (ordered.first t)
 
     first-here : lp.call.phase ≡ Trying → IsFirst (first_try (row.items w)) held
-    first-here t = subst (λ (x : Option Held). IsFirst x held) (first-listed o p c w) (on-first t w)
+    first-here t = subst (λ (x : Option Held). IsFirst x held) (first-listed o p c w) (on-first t o w)
 
     -- a try
     attempted : (b : Bool) (l : LockId) (m : Mode) → lp.call.phase ≡ Trying → next (row.items w) (length held) ≡ Attempts l m → IsSound its_calls w (settled (call_lp w b row (Attempts l m) lp))
@@ -220,7 +220,7 @@ module _ (o : Opening) (p : ℕ) (c : Call) (cs : List Call) (w : World) (lawful
             over = (fits.0, ordered.over);
             undo = tt;
             first = λ x. subst (λ (y : List Call). IsFirstOf y (record { lock = l; mode = n } ∷ held)) (sym lines)
-                (λ v. subst (λ (y : Mode). IsFirst (first_tried (tries_of c v)) (record { lock = l; mode = y } ∷ held)) same (first-with o p c w v l m held e (on-first t v)));
+                (λ q v. subst (λ (y : Mode). IsFirst (first_tried (tries_of q c v)) (record { lock = l; mode = y } ∷ held)) same (first-with o q p c w v l m held e (on-first t q v)));
           };
           stand = record { held = (fits.1, stand.held); undo = tt };
         }
@@ -497,7 +497,7 @@ module _ (o : Opening) (s : State) (sound : AreSound o s) where
 
     first-less : (xs : List Call) (h : Held) (hs : List Held) → IsFirstOf xs (h ∷ hs) → IsFirstOf xs hs
     first-less [] h hs f = tt
-    first-less (c ∷ cs) h hs f = λ w. less _ h hs (f w)
+    first-less (c ∷ cs) h hs f = λ q w. less _ h hs (f q w)
 
     free-after : (c : Call) (cs : List Call) (g : Guest) (h : Held) (hs : List Held) → lines_left o p lp ≡ c ∷ cs → lp.guest ≡ Some g → lp.call.held ≡ h ∷ hs → p < s.lp_count
         → After (OfCall (row_of o p c) (Releases h))

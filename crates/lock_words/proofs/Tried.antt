@@ -11,22 +11,25 @@ use Rattle.td_words.specs.declared.names.EntryState.{EntryState}
 use Rattle.td_words.specs.declared.names.EntryState.TheVariants as entry
 use Rattle.td_words.specs.declared.names.VcpuState.TheVariants as vcpu
 use Rattle.td_words.specs.declared.names.ReadField.TheVariants as field
+use Rattle.td_words.specs.declared.names.HeaderField.TheVariants as header
 use Rattle.td_words.specs.declared.calls.Call.{Call}
 use Rattle.td_words.specs.declared.calls.Call.TheVariants as call
 use Rattle.td_words.specs.declared.replies.Reply.{Reply}
 use Rattle.td_words.specs.declared.replies.Reply.TheVariants.{Refused}
-use Rattle.td_words.specs.declared.refusals.Status.TheVariants.{EptWalkFailed}
-use Rattle.flat_core.specs.World.{World}
+use Rattle.td_words.specs.declared.refusals.Status.TheVariants.{EptWalkFailed, TokenTotal}
+use Rattle.flat_core.specs.World.{World, ClearHeader}
 use Rattle.flat_core.specs.Processor.{LockId, Held}
 use Rattle.flat_core.specs.Opening.{Opening}
-use Rattle.flat_core.specs.Row.{Item, Check, Try, Attempts, Succeeds, next, Passes}
+use Rattle.flat_core.specs.Row.{Item, Check, Try, Attempts, Succeeds, next, Passes, needs}
 use Rattle.flat_core.specs.Conditions.{all_ops, begun_ops, growing_ops, later_ops, running_ops, not_elsewhere, td_row, page_exclusive, tree_shared, tree_exclusive, epoch_shared, epoch_exclusive, keys_exclusive, host_page, td_page, vps_ready, vp_room, vp_in, augmented_ops, blocking_ops}
 use Rattle.flat_core.specs.Tracking.{tracked_page, epoch_room, previous_epoch_left}
 use Rattle.flat_core.specs.KeyRows.{reclaim_conditions}
 use Rattle.flat_core.specs.MemRows.{named_row, open_states, blocked_states, removed_states}
 use Rattle.flat_core.specs.ExportRows.{stream_ops, live_ops, abortable_ops, restoring_ops, stream_room, writable_states, write_blocked_states, restored_states, opened_row}
-use Rattle.flat_core.specs.Sessions.{stream_page, other_epoch, has_stream, counter_room, session_room, all_restored, td_state_left, vp_state_left}
+use Rattle.flat_core.specs.Sessions.{stream_page, stream_counter, bundles_so_far, other_epoch, has_stream, counter_room, session_room, all_restored, td_state_left, vp_state_left}
 use Rattle.flat_core.specs.BundleRows.{session_ops, paused_ops, exportable, tracked_in, token_ops, token_conditions}
+use Rattle.flat_core.specs.Inputs.{Input, input_in, header_says, stream_there, session_same, epoch_same, counter_due, tag_holds}
+use Rattle.flat_core.specs.ImportRows.{first_ops, filling_ops, td_state_ops, vp_state_ops, commit_ops, late_ops, given_up_ops, sent_ops, importable, page_to_fill, is_start, import_token_ops, epoch_due}
 use Rattle.flat_core.specs.Tree.{entry_at, same_state, walk, state_in, has_page, empty_below, named_page}
 use Rattle.flat_core.specs.Table.{row_of}
 use Rattle.flat_core.specs.Tries.{tries, tries_of}
@@ -160,23 +163,62 @@ rows-fit o me (call.ExportTrack tdr slot start) w = λ a b. head-fits w tdr Excl
 rows-fit o me (call.ExportStateTd tdr slot) w = λ a. head-fits w tdr Exclusive paused_ops (td_state_left w tdr ∷ counter_room w tdr 0 ∷ []) (λ st x y. tt)
 rows-fit o me (call.ExportStateVp tdr vp slot) w =
     λ a b c. head-fits w tdr Exclusive paused_ops (page_exclusive vp ∷ td_page w tdr vp kind.Tdvpr ∷ vp_state_left w tdr vp ∷ counter_room w tdr 0 ∷ []) (λ st. ((tt, tt), λ x y z. tt))
+rows-fit o me (call.ExportAbortByToken tdr slot) w =
+    let x : Input = input_in (o.bundles slot) in
+    λ a b c d. head-fits w tdr Exclusive sent_ops (tree_exclusive tdr ∷ session_same w tdr x.header ∷ counter_due 0 x.header ∷ tag_holds x ∷ []) (λ st. ((refl, st), λ e f g. tt))
+rows-fit o me (call.ImportStateImmutable tdr slot) w =
+    let x : Input = input_in (o.bundles slot) in
+    λ a b c d. head-fits w tdr Exclusive first_ops (keys_exclusive ∷ has_stream w tdr 0 ∷ header_says (nat_lt w.key_table.last_imported x.header.session) header.Session
+    ∷ header_says (x.header.epoch == 1) header.Epoch ∷ counter_due 0 x.header ∷ tag_holds x ∷ [])
+    (λ st. ((tt, tt), λ e f g h i. tt))
+rows-fit o me (call.ImportMem tdr slot page) w =
+    let x : Input = input_in (o.bundles slot) in
+    let h : ClearHeader = x.header in
+    let page_items : List (Item Reply) = page_to_fill w tdr h.gpa page (entry_at w tdr 0 h.gpa).state ++ tag_holds x ∷ [] in
+    let entry_items : List (Item Reply) = state_in w tdr h.gpa 0 importable ∷ page_items in
+    λ a b c d e f. head-fits w tdr Shared filling_ops (tree_exclusive tdr ∷ stream_there w tdr h ∷ session_same w tdr h ∷ epoch_same w tdr h
+    ∷ counter_due (stream_counter w tdr h.stream) h ∷ (walk w tdr h.gpa 0 ++ entry_items))
+    (λ st. ((refl, st), λ g i j k. walk-fits w tdr h.gpa 0 entry_items (λ y. filled x (entry_at w tdr 0 h.gpa).state)))
+  where
+    filled : (x : Input) (s : EntryState) → TriesFit w (held_as tdr Shared) (page_to_fill w tdr x.header.gpa page s ++ tag_holds x ∷ [])
+    filled x entry.Free = ((tt, tt), λ y z. tt)
+    filled x _ = ((tt, tt), λ y. tt)
+rows-fit o me (call.ImportTrack tdr slot) w =
+    let x : Input = input_in (o.bundles slot) in
+    let h : ClearHeader = x.header in
+    λ a b c d. head-fits w tdr Exclusive (import_token_ops (is_start h)) (tree_exclusive tdr ∷ session_same w tdr h ∷ header_says (h.epoch == epoch_due (is_start h) (w.tds.mig_epochs tdr)) header.Epoch
+    ∷ counter_due (stream_counter w tdr 0) h ∷ tag_holds x ∷ needs (bundles_so_far w tdr == h.total) (TokenTotal (bundles_so_far w tdr) h.total) ∷ [])
+    (λ st. ((refl, st), λ e f g i j. tt))
+rows-fit o me (call.ImportStateTd tdr slot) w =
+    let x : Input = input_in (o.bundles slot) in
+    let h : ClearHeader = x.header in
+    λ a b c d. head-fits w tdr Exclusive td_state_ops (session_same w tdr h ∷ epoch_same w tdr h ∷ counter_due (stream_counter w tdr 0) h ∷ tag_holds x ∷ []) (λ st e f g i. tt)
+rows-fit o me (call.ImportStateVp tdr vp slot) w =
+    let x : Input = input_in (o.bundles slot) in
+    let h : ClearHeader = x.header in
+    λ a b c d e f. head-fits w tdr Exclusive vp_state_ops (page_exclusive vp ∷ td_page w tdr vp kind.Tdvpr ∷ vp_in w vp vcpu.Created ∷ session_same w tdr h ∷ epoch_same w tdr h
+    ∷ header_says (h.index == w.vps.indexes vp) header.Index ∷ counter_due (stream_counter w tdr 0) h ∷ tag_holds x ∷ [])
+    (λ st. ((tt, tt), λ g i j k l m n. tt))
+rows-fit o me (call.ImportCommit tdr) w = λ a. head-fits w tdr Exclusive commit_ops (tree_exclusive tdr ∷ []) (λ st. ((refl, st), tt))
+rows-fit o me (call.ImportEnd tdr) w = λ a. head-fits w tdr Exclusive late_ops [] (λ st. tt)
+rows-fit o me (call.ImportAbort tdr slot) w = λ a. head-fits w tdr Exclusive given_up_ops (tree_exclusive tdr ∷ []) (λ st. ((refl, st), tt))
 
--- it is that of the call's list, and the same in every world
+-- it is that of the call's list, and the same in every world, whatever bundles have come in
 
 first-of-tries : (items : List (Item Reply)) → first_try items ≡ first_tried (tries items)
 first-of-tries [] = refl
 first-of-tries (Check b r ∷ items) = first-of-tries items
 first-of-tries (Try l m ∷ items) = refl
 
-pub first-listed : (o : Opening) (me : ℕ) (c : Call) (w : World) → first_tried (tries_of c w) ≡ first_try ((row_of o me c).items w)
+pub first-listed : (o : Opening) (me : ℕ) (c : Call) (w : World) → first_tried (tries_of o c w) ≡ first_try ((row_of o me c).items w)
 first-listed o me c w = sym (first-of-tries ((row_of o me c).items w) ∙ ap first_tried (rows_try_lists o me c w))
 
-pub first-same : (c : Call) (v w : World) → first_tried (tries_of c v) ≡ first_tried (tries_of c w)
-first-same (call.MngRd tdr field.Life) v w = refl
-first-same (call.MngRd tdr field.Op) v w = refl
-first-same (call.MngRd tdr field.Epoch) v w = refl
-first-same (call.MngRd tdr field.Mrtd) v w = refl
-first-same _ v w = refl
+pub first-same : (c : Call) (o q : Opening) (v w : World) → first_tried (tries_of o c v) ≡ first_tried (tries_of q c w)
+first-same (call.MngRd tdr field.Life) o q v w = refl
+first-same (call.MngRd tdr field.Op) o q v w = refl
+first-same (call.MngRd tdr field.Epoch) o q v w = refl
+first-same (call.MngRd tdr field.Mrtd) o q v w = refl
+first-same _ o q v w = refl
 
 -- what the items say of the next try
 

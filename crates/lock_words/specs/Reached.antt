@@ -54,10 +54,10 @@ abbrev pub IsFirst : Option Held → List Held → Type 0
 IsFirst below [] = Unit {0}
 IsFirst below (h ∷ hs) = oldest (h ∷ hs) ≡ below
 
--- over what the call tries first, in every world
+-- over what the call tries first, in every world, whatever bundles have come in
 abbrev pub IsFirstOf : List Call → List Held → Type 0
 IsFirstOf [] hs = Unit {0}
-IsFirstOf (c ∷ cs) hs = (w : World) → IsFirst (first_tried (tries_of c w)) hs
+IsFirstOf (c ∷ cs) hs = (o : Opening) (w : World) → IsFirst (first_tried (tries_of o c w)) hs
 
 -- a processor with these calls: the locks of a TD that its call holds, and the one that it is being refused, are over P of
 -- the TDR page; and on its way a call holds its locks over the one that it tries first, also while its guest is in

@@ -2,6 +2,8 @@
 use Rattle.std.proofs.Common.{◌≡◌, ◌≢◌, ℕ, zero, suc, ◌+◌, ◌<◌, Bool, true, false, ◌==◌, List, [], ◌∷◌, length, Option, Some, None, refl, ap, sym, ◌∙◌, arith}
 use Rattle.std.proofs.lemmas.Bool.{eqb-true, ltb-true}
 use Rattle.td_words.specs.declared.names.PageKind.TheVariants as kind
+use Rattle.td_words.specs.declared.names.EntryState.{EntryState}
+use Rattle.td_words.specs.declared.names.EntryState.TheVariants as entry
 use Rattle.td_words.specs.declared.names.OpState.{OpState}
 use Rattle.td_words.specs.declared.names.OpState.TheVariants as ops
 use Rattle.td_words.specs.declared.names.Access.{Access}
@@ -15,6 +17,9 @@ use Rattle.flat_core.specs.World.{World}
 use Rattle.flat_core.specs.Processor.{Phase, Trying, Undoing, Answered, Held, Guest}
 use Rattle.flat_core.specs.Opening.{Opening}
 use Rattle.flat_core.specs.Row.{Item, Check, Try, OperationRow, Move, Attempts, Undoes, Refuses, Succeeds, Releases, Rests, next, next_in, Passes}
+use Rattle.flat_core.specs.Tree.{entry_at}
+use Rattle.flat_core.specs.Inputs.{Input, input_in}
+use Rattle.flat_core.specs.ImportRows.{fill_page}
 use Rattle.flat_core.specs.Table.{row_of}
 use Rattle.flat_core.specs.Effects.{tell_words, pass_operation}
 use Rattle.flat_core.specs.Guest.{ByRow, operation_of, is_pending_at}
@@ -69,6 +74,11 @@ apart a b n = by (a == b) refl
     by true e = absurd (n (eqb-true a b e))
     by false e = e
 
+-- a page whose words come in is none of them
+filled-controls : (u gpa page : ℕ) (ws : ℕ → ℕ) (s : EntryState) (w : World) (t : ℕ) → (fill_page u gpa page ws s w).tds.controls t ≡ w.tds.controls t
+filled-controls u gpa page ws entry.Free w t = refl
+filled-controls u gpa page ws _ w t = refl
+
 -- no call changes the control pages of a TD that runs
 row-controls : (o : Opening) (me : ℕ) (c : Call) (w : World) (p t v : ℕ) → Lawful o.machine w → Passes ((row_of o me c).items w) → IsOccupied w p t v → ((row_of o me c).act w).tds.controls t ≡ w.tds.controls t
 row-controls o me (call.MngCreate u h) w p t v la ps x =
@@ -83,6 +93,7 @@ row-controls o me (call.MngAddcx u page) w p t v la ps x =
     rw off refl
 row-controls o me (call.ExportTrack u slot zero) w p t v la ps x = refl
 row-controls o me (call.ExportTrack u slot (suc start)) w p t v la ps x = refl
+row-controls o me (call.ImportMem u slot page) w p t v la ps x = let y : Input = input_in (o.bundles slot) in filled-controls u y.header.gpa page y.words (entry_at w u 0 y.header.gpa).state w t
 row-controls o me _ w p t v la ps x = refl
 
 -- nor does a guest's operation

@@ -23,10 +23,11 @@ pub fn views_are_kept()
 
 /// The uses of words, which are written by hand for each call and guest operation of the profile,
 /// fit the locks that are written beside them. Three of these, for the words of RELOCATE and
-/// EXPORT.MEM and of `accept`, have *no change* or *no reach* besides, as the law of accesses has it
-/// (flat_laws). A rule that is met by a list of wants is met by each grip that meets them.
-/// Of each call that has a row, whoever holds what the row tries has the locks that are written of
-/// the call's uses (`rows`).
+/// EXPORT.MEM and of `accept`, have *no change* or *no reach* besides, which no lock gives: that they
+/// are so where these calls need it is proved of every run, as `reach_law` of flat_laws and
+/// `clear_law` of closed_pages. A rule that is met by a list of wants is met by each grip that meets
+/// them. Of each call that has a row, whoever holds what the row tries has the locks that are written
+/// of the call's uses (`rows`).
 pub fn leaf_table_fits()
     ensures lists { LeafTableFits }
     ensures rows { ListsAreRows }
