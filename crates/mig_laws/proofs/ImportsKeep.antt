@@ -13,28 +13,28 @@ use Rattle.td_words.specs.declared.names.EntryState.TheVariants as entry
 use Rattle.td_words.specs.declared.names.VcpuState.TheVariants as vcpu
 use Rattle.td_words.specs.declared.machines.Machine.{Machine}
 use Rattle.td_words.specs.NameNumber.{op_number}
-use Rattle.flat_core.specs.World.{World, Pages, Tds, Streams, Hidden, Image, ClearHeader, Made, put}
+use Rattle.flat_core.specs.World.{World, Image, ClearHeader, Made, put}
 use Rattle.flat_core.specs.Opening.{Opening}
-use Rattle.flat_core.specs.Row.{Passes}
+use Rattle.flat_core.specs.Row.{Row, Passes}
 use Rattle.flat_core.specs.Conditions.{same_kind}
 use Rattle.flat_core.specs.Tree.{page_of_gpa, number_at, entry_at, state_in}
 use Rattle.flat_core.specs.Effects.{set_op, begin_memory}
 use Rattle.flat_core.specs.Sessions.{stream_page, stream_counter, bundles_so_far, count_bundle, set_mig_epoch, payload_words}
 use Rattle.flat_core.specs.Inputs.{Input, input_in, tag_holds}
-use Rattle.flat_core.specs.ImportRows.{filling_ops, begin_import, import_immutable, importable, page_to_fill, fill_page, import_page, is_start, import_token_ops, epoch_due, op_then, import_token, give_rtmrs, import_td, give_vp_state, import_vp, note_commit, commit_import, abort_import}
+use Rattle.flat_core.specs.ImportRows.{filling_ops, begin_import, import_immutable, importable, page_to_fill, fill_page, import_page, is_start, import_token_ops, epoch_due, op_then, import_token, give_rtmrs, import_td, give_vp_state, import_vp, note_commit, commit_import}
 use Rattle.flat_core.specs.ExportRows.{image_of}
-use Rattle.flat_core.specs.Lawful.{IsAlive, Lawful, most_vps, is_importing}
+use Rattle.flat_core.specs.Lawful.{IsAlive, Lawful, most_vps}
 use Rattle.flat_core.proofs.Tests.{by_test, same_self}
 use Rattle.flat_core.proofs.ImportKeeps.{td_state_importing, vp_state_importing}
 use Rattle.flat_core.proofs.Maps.{walk_passed}
-use Rattle.flat_core.proofs.Parts.{IsLive}
 use Rattle.flat_core.proofs.Ranges.{begun_of}
 use Rattle.flat_core.proofs.Streams.{page_among, stream_among}
+use Rattle.mig_laws.specs.Ivs.{is_filling, IsImporting}
 use Rattle.mig_laws.specs.Source.{is_page_at, known_words}
 use Rattle.mig_laws.specs.WellMade.{is_of, is_token, AreWellMade}
 use Rattle.mig_laws.specs.Imported.{is_imported, last_imported, one_more, counted_on, AreImported, IsNext, TokenFits, AreAllBefore, LatestIsLast}
 use Rattle.mig_laws.specs.Image.{Unforged, StartsFromPause, IsSource}
-use Rattle.mig_laws.specs.Imports.{is_filling, IsImporting, counts_of, given_words, IsVpGiven, HasState, IsComplete, begins_epoch, ImportHolds, DestinationHolds, KeepsDestination, ImportsKeepTheImage}
+use Rattle.mig_laws.specs.Imports.{counts_of, given_words, IsVpGiven, HasState, IsComplete, begins_epoch, ImportHolds, DestinationHolds}
 use Rattle.mig_laws.proofs.Places.{by_places, last_none}
 use Rattle.mig_laws.proofs.Joined.{token-brings-all, not_imported}
 use Rattle.mig_laws.proofs.Latest.{imports-stay-in-order, imports-keep-last}
@@ -45,8 +45,12 @@ use Rattle.mig_laws.proofs.States.{place_in, is_vp_kind}
 use Rattle.mig_laws.proofs.Counts.{counts_more, count_at, counts_zero, still_front, all_more, last_stays}
 use Rattle.mig_laws.proofs.Rest.{vp_state, ImportStays, IsAtRest, same_import, destination_rests, import_stays, Rest, rest, at_rest}
 use Rattle.mig_laws.proofs.RestRows.{apart_pages, Aside, aside, aside_stays, counted_apart, quiet}
-use Rattle.mig_laws.proofs.OneMore.{IsTaken, taken, only_kind, token_kind, no_token, other_kind, off_kind, is_created, first_op, filling_fills, td_state_fills, vp_state_fills, commit_fills, any_at, now_imported, one_more_holds, same_epoch, same_pages, start_later}
+use Rattle.mig_laws.proofs.OneMore.{IsTaken, taken, only_kind, token_kind, no_token, other_kind, off_kind, is_created, first_op, filling_fills, td_state_fills, vp_state_fills, commit_fills, token_fills, fills_importing, any_at, now_imported, one_more_holds, same_epoch, same_pages, start_later}
 use Rattle.mig_laws.proofs.Given.{starts_from_pause}
+
+-- a row whose act keeps it, where its conditions held
+abbrev pub KeepsDestination : (source : World) → Opening → Row → Type 0
+KeepsDestination source o row = (w : World) → Lawful o.machine w → DestinationHolds source w → Passes (row.items w) → DestinationHolds source (row.act w)
 
 -- an import that stands isn't UNINITIALIZED
 fills_begun : (s : OpState) → is_filling s ≡ true → s ≡ op.Uninitialized → ⊥
@@ -404,8 +408,8 @@ start_is h e = eqb-true h.kind 5 e
 
 token_op : (b : Bool) (s : OpState) → list_any (λ a. op_number a == op_number s) (import_token_ops b) ≡ true
     → (is_filling s ≡ true) × (op_then b s ≢ op.Uninitialized) × (s ≢ op.MemoryImport → op_then b s ≢ op.MemoryImport) × (op_then b s ≡ op.PostImport → b ≡ true)
-token_op true s h = ((vp_state_fills s h).0, λ e. cc, λ n e. cc, λ e. refl)
-token_op false s h = ((filling_fills s h).0, begun_of filling_ops s refl h, λ n. n, λ e. absurd ((filling_fills s h).1 e))
+token_op true s h = (token_fills true s h, λ e. cc, λ n e. cc, λ e. refl)
+token_op false s h = (token_fills false s h, begun_of filling_ops s refl h, λ n. n, λ e. absurd ((filling_fills s h).1 e))
 
 module _ (source : World) (o : Opening) (src : IsSource source) (unforged : Unforged o source.outgoing.bundles) where
   abbrev made_there : List Made
@@ -508,12 +512,6 @@ module _ (source : World) (o : Opening) (src : IsSource source) (unforged : Unfo
       let less = start_later tk.before tk.after tk.bundle (made source src o.machine w l h t alive 0 few x tk six on due) w t have next five high (omega (arith, le, b_epoch)) in omega (arith, less, b_epoch)) in
       token_holds source src o.machine w l h t alive 0 few x tk six on due ops.0 same_session st b_token later ops.1 ops.2 (λ e. start_is x.header (ops.3 e)) (sym (eqb-true _ _ head.1.1.1.1.1.1.1.1.0))
     where
-      fills_importing : (s : OpState) → is_filling s ≡ true → is_importing s ≡ true
-      fills_importing op.MemoryImport e = refl
-      fills_importing op.StateImport e = refl
-      fills_importing op.PostImport e = refl
-      fills_importing _ e = cc
-
       start_high : (b : Bool) (own epoch made_epoch : ℕ) → b ≡ true → epoch ≡ epoch_due b own → made_epoch ≡ epoch → 1 < made_epoch
       start_high true own epoch made_epoch e is same = omega (arith, is, same)
       start_high false own epoch made_epoch e is same = cc
@@ -545,30 +543,3 @@ module _ (source : World) (o : Opening) (src : IsSource source) (unforged : Unfo
       noted : (u v : World) (x : ℕ) → record (rest u) { given = v.hidden.given } ≡ rest v → IsImporting u x → ImportStays u v x
       noted u v x same a = same_import u v x a (ap (λ (z : Rest). z.ops x) (sym same)) (ap (λ (z : Rest). z.fills x) (sym same)) (λ j. map ((sym same j).counters) ((sym same j).fills x).streams) (λ n. ap (λ (z : Rest). z.memories x n) (sym same))
           (ap (λ (z : Rest). z.vps x) (sym same)) (λ p e. ap (λ (z : Rest). z.vp_states p) (sym same))
-
-  -- IMPORT.END, IMPORT.ABORT, and EXPORT.ABORT by a token
-  ended : (w v : World) (t : ℕ) (s : OpState) → s ≢ op.Uninitialized → is_filling s ≡ false → v.tds ≡ (set_op t s w).tds → v.pages ≡ w.pages → v.hidden ≡ w.hidden → v.streams ≡ w.streams → v.vps ≡ w.vps → IsAtRest w v
-  ended w v t s begun off tds pages hidden streams vps =
-      let self = same_self t in
-      quiet w v t
-      (λ a. let now : is_filling s ≡ true = (let at : v.tds.ops t ≡ s = ap (λ (z : Tds). z.ops t) tds ∙ rw self refl in ap is_filling (sym at) ∙ a.standing) in let no : true ≡ false = sym now ∙ off in cc)
-      (λ a e. absurd (begun (let at : v.tds.ops t ≡ s = ap (λ (z : Tds). z.ops t) tds ∙ rw self refl in sym at ∙ e)))
-      (ap (λ (z : Hidden). z.given) hidden)
-      (λ x y a. record { kind = ap (λ (z : Pages). z.kinds x) (sym pages) ∙ a.kind; life = subst (λ (z : Tds). IsLive (z.lives x)) tds a.life })
-      (λ x y. (let op : v.tds.ops x ≡ w.tds.ops x = ap (λ (z : Tds). z.ops x) tds ∙ rw y refl in
-      λ j. record { state = op j; fill = record { session = (tds j).sessions x; epoch = (tds j).mig_epochs x; streams = (tds j).streams x; mrtd = (tds j).mrtds x; expected = (tds j).vps_expected x; rtmrs = (hidden j).rtmrs x }; vps = (tds j).vps x }))
-      (λ x n y. ap (λ (z : Hidden). z.memories x n) hidden)
-      (ap (λ (z : Streams). z.counters) streams) (λ q j. record { state = (vps j).states q; registers = (hidden j).registers q; position = (vps j).positions q })
-
-pub imports_keep_the_image : ImportsKeepTheImage
-imports_keep_the_image source o src unforged = record {
-  immutable = λ t slot. keeps_immutable source o src unforged t slot;
-  page = λ t slot page. keeps_page source o src unforged t slot page;
-  token = λ t slot. keeps_token source o src unforged t slot;
-  td = λ t slot. keeps_td source o src unforged t slot;
-  vp = λ t p slot. keeps_vp source o src unforged t p slot;
-  commit = λ t. keeps_commit source o src unforged t;
-  finish = λ t w l h ps. destination_rests source w _ (ended source o src unforged w (set_op t op.Runnable w) t op.Runnable (λ e. cc) refl refl refl refl refl refl) h;
-  abort = λ t slot w l h ps. destination_rests source w ((abort_import o.machine t slot).act w) (ended source o src unforged w ((abort_import o.machine t slot).act w) t op.FailedImport (λ e. cc) refl refl refl refl refl refl) h;
-  export_abort = λ t slot w l h ps. destination_rests source w _ (ended source o src unforged w (set_op t op.Runnable w) t op.Runnable (λ e. cc) refl refl refl refl refl refl) h;
-}

@@ -6,28 +6,30 @@ use Rattle.std.proofs.lemmas.List.Elements.{All-push, All-weaker}
 use Rattle.std.proofs.lemmas.List.Quantifiers.{all_pairs_push}
 use Rattle.td_words.specs.declared.names.PageKind.TheVariants as kind
 use Rattle.td_words.specs.declared.names.LifeState.TheVariants as life
+use Rattle.td_words.specs.declared.names.OpState.{OpState}
 use Rattle.td_words.specs.declared.names.OpState.TheVariants as op
 use Rattle.td_words.specs.declared.names.EntryState.TheVariants as entry
 use Rattle.td_words.specs.declared.calls.Call.{Call}
 use Rattle.td_words.specs.declared.calls.Call.TheVariants as call
-use Rattle.td_words.specs.NameNumber.{life_number}
+use Rattle.td_words.specs.NameNumber.{op_number, life_number}
 use Rattle.flat_core.specs.World.{World, Made}
 use Rattle.flat_core.specs.Opening.{Opening}
 use Rattle.flat_core.specs.Row.{Passes}
 use Rattle.flat_core.specs.Conditions.{same_kind}
 use Rattle.flat_core.specs.Digests.{six_words}
 use Rattle.flat_core.specs.Tree.{number_at, entry_at}
-use Rattle.flat_core.specs.Effects.{set_op, restate}
+use Rattle.flat_core.specs.Effects.{set_op, restate, add_bundle}
 use Rattle.flat_core.specs.Sessions.{About, about, header_of, stream_page, stream_counter, bundles_so_far, payload_words, count_bundle, make_bundle, begin_session, set_mig_epoch, count_export, note_td_export, note_vp_export}
 use Rattle.flat_core.specs.BundleRows.{start_epoch}
+use Rattle.flat_core.specs.ImportRows.{given_up_ops, abort_header}
 use Rattle.flat_core.specs.Table.{row_of}
 use Rattle.flat_core.specs.Lawful.{IsAlive, Lawful, is_exporting}
 use Rattle.flat_core.proofs.Tests.{by_test, tdr_kind, same_self}
 use Rattle.flat_core.proofs.Ranges.{living, paused_exporting, abortable_exporting}
 use Rattle.flat_core.proofs.Streams.{stream_owned}
-use Rattle.mig_laws.specs.Ivs.{is_forward, SealedWith, sealed_with, FitsIv, AreSealedOnce, IsExporting, IsCounted, IvsHold}
+use Rattle.mig_laws.specs.Ivs.{is_forward, SealedWith, sealed_with, FitsIv, AreSealedOnce, IsExporting, IsCounted, IvsHold, is_filling, IsImporting, AbortsHold}
 use Rattle.mig_laws.proofs.Stays.{SessionStays, IsBeside}
-use Rattle.mig_laws.proofs.Rows.{not_among, row-beside}
+use Rattle.mig_laws.proofs.Rows.{not_among, over_beside, row-beside}
 
 -- what is said of one bundle
 abbrev pub IsGiven : World → Made → Type 0
@@ -122,6 +124,32 @@ module _ (t slot : ℕ) (a : About) (payload : List ℕ) (w : World) (h : IvsHol
         (All-weaker (IsOwnCounted counted x) (IsOwnCounted made x) (λ c k f n. (let r = k f n in record { stream = r.stream; iv = r.iv })) w.outgoing.bundles (held.counted x (counted_before x e))) (new_counted x (before x e));
   }
 
+-- the token back to a source: its session has none yet
+module _ (w : World) (token : Made) (back : is_forward token ≡ false) (h : IvsHold w) where
+  abbrev added : World
+  added = add_bundle token w
+
+  was : (x : ℕ) → IsExporting added x → IsExporting w x
+  was x a = record { alive = a.alive; standing = a.standing }
+
+  never : {A : Type 0} → is_forward token ≡ true → A
+  never f = absurd (let no : true ≡ false = sym f ∙ back in cc)
+
+  pub back_ivs : FitsIv token → All (λ b. is_forward b ≡ false → b.header.session ≢ token.header.session) w.outgoing.bundles → IvsHold added
+  back_ivs small left = record {
+    sealed = record {
+      apart = all_pairs_push (λ c d. sealed_with c ≢ sealed_with d) w.outgoing.bundles token h.sealed.apart
+          (All-weaker (λ b. is_forward b ≡ false → b.header.session ≢ token.header.session) (λ c. sealed_with c ≢ sealed_with token)
+          (λ c k e. k (ap (λ (s : SealedWith). s.forward) e ∙ back) (ap (λ (s : SealedWith). s.session) e)) w.outgoing.bundles left);
+      fit = All-push FitsIv w.outgoing.bundles token h.sealed.fit small;
+    };
+    given = All-push (IsGiven w) w.outgoing.bundles token h.given (λ f. never f);
+    session = λ x a. h.session x (was x a);
+    one = λ x u a b same. h.one x u (was x a) (was u b) same;
+    counted = λ x a. All-push (IsOwnCounted added x) w.outgoing.bundles token
+        (All-weaker (IsOwnCounted w x) (IsOwnCounted added x) (λ c k f n. (let r = k f n in record { stream = r.stream; iv = r.iv })) w.outgoing.bundles (h.counted x (was x a))) (λ f. never f);
+  }
+
 -- a session begins: it has a number that none had
 module _ (o : Opening) (w : World) (l : Lawful o.machine w) (h : IvsHold w) (t : ℕ) (alive : IsAlive w.pages w.tds t) where
   abbrev begun : World
@@ -167,6 +195,16 @@ module _ (o : Opening) (w : World) (l : Lawful o.machine w) (h : IvsHold w) (t :
 pub alive_of : (w : World) (t : ℕ) → same_kind (w.pages.kinds t) kind.Tdr ≡ true
     → list_any (λ b. life_number b == life_number (w.tds.lives t)) (life.KeysConfigured ∷ []) ≡ true → IsAlive w.pages w.tds t
 alive_of w t root live = record { kind = tdr_kind _ root; life = living (w.tds.lives t) live }
+
+-- the token that says so, and whose import stood
+abbrev pub back_token : World → (t slot : ℕ) → Made
+back_token w t slot = record { slot = slot; header = abort_header w t; payload = [] }
+
+pub given_up_fills : (s : OpState) → list_any (λ a. op_number a == op_number s) given_up_ops ≡ true → is_filling s ≡ true
+given_up_fills op.MemoryImport h = refl
+given_up_fills op.StateImport h = refl
+given_up_fills op.PostImport h = refl
+given_up_fills _ h = cc
 
 module _ (o : Opening) (me : ℕ) (w : World) (l : Lawful o.machine w) (h : IvsHold w) where
   abbrev After : Call → World
@@ -246,10 +284,18 @@ module _ (o : Opening) (me : ℕ) (w : World) (l : Lawful o.machine w) (h : IvsH
   pub beside_ivs : (v : World) → IsBeside w v → IvsHold v
   beside_ivs v b = ivs_stay w v b.bundles b.last (λ x a. (b.each x a).session) h
 
-  pub row-ivs : (c : Call) → Passes ((row_of o me c).items w) → IvsHold (After c)
-  row-ivs (call.ExportStateImmutable t slot) ps = immutable_ivs t slot ps
-  row-ivs (call.ExportMem t gpa k slot) ps = page_ivs t gpa k slot ps
-  row-ivs (call.ExportTrack t slot start) ps = token_ivs t slot start ps
-  row-ivs (call.ExportStateTd t slot) ps = td_ivs t slot ps
-  row-ivs (call.ExportStateVp t p slot) ps = vp_ivs t p slot ps
-  row-ivs c ps = beside_ivs (After c) (row-beside o me w l c ps refl)
+  abort_ivs : (t slot : ℕ) → AbortsHold w → Passes ((row_of o me (call.ImportAbort t slot)).items w) → IvsHold (After (call.ImportAbort t slot))
+  abort_ivs t slot a ps =
+      let head = ps.1 in
+      let importing : IsImporting w t = record { alive = alive_of w t head.0 head.1.0; standing = given_up_fills (w.tds.ops t) head.1.1.1.0 } in
+      back_ivs (set_op t op.FailedImport w) (back_token w t slot) refl (beside_ivs (set_op t op.FailedImport w) (over_beside o me w l t op.FailedImport refl))
+      (record { stream = omega arith; session = l.sessions.session t; iv = omega arith }) (a.left t importing)
+
+  pub row-ivs : AbortsHold w → (c : Call) → Passes ((row_of o me c).items w) → IvsHold (After c)
+  row-ivs a (call.ExportStateImmutable t slot) ps = immutable_ivs t slot ps
+  row-ivs a (call.ExportMem t gpa k slot) ps = page_ivs t gpa k slot ps
+  row-ivs a (call.ExportTrack t slot start) ps = token_ivs t slot start ps
+  row-ivs a (call.ExportStateTd t slot) ps = td_ivs t slot ps
+  row-ivs a (call.ExportStateVp t p slot) ps = vp_ivs t p slot ps
+  row-ivs a (call.ImportAbort t slot) ps = abort_ivs t slot a ps
+  row-ivs a c ps = beside_ivs (After c) (row-beside o me w l c ps refl)

@@ -16,13 +16,15 @@ use Rattle.flat_core.specs.World.{World, ClearHeader, Made}
 use Rattle.flat_core.specs.Opening.{Opening, Incoming}
 use Rattle.flat_core.specs.Conditions.{same_vp_state}
 use Rattle.flat_core.specs.Inputs.{Input, input_in, has_no_fault, fault_of_input, header_of_input, word_given}
-use Rattle.flat_core.specs.ImportRows.{first_ops, filling_ops, td_state_ops, vp_state_ops, commit_ops}
+use Rattle.flat_core.specs.ImportRows.{first_ops, filling_ops, td_state_ops, vp_state_ops, import_token_ops, commit_ops}
+use Rattle.flat_core.specs.Lawful.{is_importing}
 use Rattle.flat_core.proofs.Tests.{by_test}
+use Rattle.mig_laws.specs.Ivs.{is_filling}
 use Rattle.mig_laws.specs.Source.{known_words}
 use Rattle.mig_laws.specs.WellMade.{is_of, is_token, IsBehind, AreWellMade}
 use Rattle.mig_laws.specs.Imported.{is_imported, last_imported, one_more, counted_on, AreImported, IsNext}
 use Rattle.mig_laws.specs.Image.{IsMade, Unforged}
-use Rattle.mig_laws.specs.Imports.{is_filling, counts_of, given_words, HasState, IsComplete, begins_epoch, ImportHolds}
+use Rattle.mig_laws.specs.Imports.{counts_of, given_words, HasState, IsComplete, begins_epoch, ImportHolds}
 use Rattle.mig_laws.proofs.Places.{by_places, at_place}
 use Rattle.mig_laws.proofs.Joined.{IsPlaced, imported_of, not_imported, own_place, next_counter, behind_own}
 use Rattle.mig_laws.proofs.Latest.{imports-stay-in-order}
@@ -101,6 +103,16 @@ vp_state_fills _ h = cc
 pub commit_fills : (s : OpState) → list_any (λ a. op_number a == op_number s) commit_ops ≡ true → (is_filling s ≡ true) × (s ≡ op.PostImport)
 commit_fills op.PostImport h = (refl, refl)
 commit_fills _ h = cc
+
+pub token_fills : (b : Bool) (s : OpState) → list_any (λ a. op_number a == op_number s) (import_token_ops b) ≡ true → is_filling s ≡ true
+token_fills true s h = (vp_state_fills s h).0
+token_fills false s h = (filling_fills s h).0
+
+pub fills_importing : (s : OpState) → is_filling s ≡ true → is_importing s ≡ true
+fills_importing op.MemoryImport e = refl
+fills_importing op.StateImport e = refl
+fills_importing op.PostImport e = refl
+fills_importing _ e = cc
 
 -- whether one passes
 pub any_at : (p : Made → Bool) (front back : List Made) (x : Made) → p x ≡ true → list_any p (front ++ x ∷ back) ≡ true

@@ -20,7 +20,7 @@ use Rattle.flat_core.specs.Row.{OperationRow, Passes}
 use Rattle.flat_core.specs.Conditions.{running_ops}
 use Rattle.flat_core.specs.Digests.{six_words}
 use Rattle.flat_core.specs.Tree.{page_of_gpa, number_at, entry_at}
-use Rattle.flat_core.specs.Effects.{set_op, restate, pass_operation, tell_words}
+use Rattle.flat_core.specs.Effects.{set_op, restate, pass_operation, tell_words, add_bundle}
 use Rattle.flat_core.specs.Translations.{look_up}
 use Rattle.flat_core.specs.Guest.{ByRow, operation_of, is_pending_at, reach}
 use Rattle.flat_core.specs.Sessions.{About, about, header_of, dirty_count, bundles_so_far, payload_words, make_bundle, begin_session, set_mig_epoch, count_export, note_td_export, note_vp_export}
@@ -43,10 +43,10 @@ use Rattle.mig_laws.specs.Ivs.{is_forward, IsExporting, IvsHold}
 use Rattle.mig_laws.specs.Source.{is_page_at, last_payload, ArePagesSent, SourceHolds}
 use Rattle.mig_laws.specs.Paused.{is_start, has_start, IsSentAsPaused, StartedAreSentAsPaused, is_paused, IsAsPaused, PausesHold, PausesAreKept}
 use Rattle.mig_laws.proofs.Stays.{IsBeside, unmoved}
-use Rattle.mig_laws.proofs.Rows.{row-beside}
-use Rattle.mig_laws.proofs.Ivs.{IsGiven, alive_of}
+use Rattle.mig_laws.proofs.Rows.{over_beside, row-beside}
+use Rattle.mig_laws.proofs.Ivs.{IsGiven, alive_of, back_token}
 use Rattle.mig_laws.proofs.Sent.{last_beside}
-use Rattle.mig_laws.proofs.Calm.{IsCalm, row-calm}
+use Rattle.mig_laws.proofs.Calm.{IsCalm, calm_over, row-calm}
 use Rattle.mig_laws.proofs.Guests.{operation_beside, left_beside, reached_beside, never_stored}
 use Rattle.mig_laws.proofs.Source.{source_kept}
 
@@ -110,6 +110,18 @@ module _ (t slot : ℕ) (a : About) (payload : List ℕ) (w : World) (other : (a
     sent = λ s e. (let old = h.sent s (sym (same_starts s) ∙ e) in
         record { image = old.image; noted = old.noted; pages = λ n p is. old.pages n p (sym (last_beside (is_page_at s n) w.outgoing.bundles new (rw other refl)) ∙ is) });
   }
+
+-- the token back to a source neither starts nor has a page
+pauses_back : (w : World) (token : Made) → token.header.kind ≡ 6 → PausesHold w → PausesHold (add_bundle token w)
+pauses_back w token six h = record {
+  paused = λ x b p. (let old = h.paused x (record { alive = b.alive; standing = b.standing }) p in record { image = old.image; noted = old.noted; pages = old.pages });
+  started = λ x b e. h.started x (record { alive = b.alive; standing = b.standing }) (sym (no_starts (w.tds.sessions x)) ∙ e);
+  sent = λ s e. (let old = h.sent s (sym (no_starts s) ∙ e) in
+      record { image = old.image; noted = old.noted; pages = λ n p is. old.pages n p (sym (last_beside (is_page_at s n) w.outgoing.bundles token (rw six refl)) ∙ is) });
+}
+  where
+    no_starts : (s : ℕ) → has_start s (w.outgoing.bundles ++ token ∷ []) ≡ has_start s w.outgoing.bundles
+    no_starts s = start_end (is_start s) w.outgoing.bundles token (rw six refl)
 
 -- a session begins
 begun_pauses : (t : ℕ) (w : World) → IvsHold w → PausesHold w → PausesHold (begin_session t w)
@@ -307,6 +319,9 @@ module _ (o : Opening) (me : ℕ) (w : World) (l : Lawful o.machine w) (src : So
   row-pauses (call.ExportStateVp t p slot) ps =
       pauses_made t slot (record (about 2 (w.tds.mig_epochs t)) { index = w.vps.indexes p; info = w.vps.positions p % 2 ^ 32 }) (payload_words (w.hidden.registers p) 8) (note_vp_export t p w) refl refl
       (before_pauses _ (unmoved w _ refl refl (λ x n. refl) refl refl) refl refl refl)
+  row-pauses (call.ImportAbort t slot) ps =
+      let u : World = set_op t op.FailedImport w in
+      pauses_back u (back_token w t slot) refl (pauses_stay w u (over_beside o me w l t op.FailedImport refl) (calm_over t op.FailedImport w refl) h)
   row-pauses c ps = pauses_stay w (After c) (row-beside o me w l c ps refl) (row-calm o me w c ps refl refl) h
 
 -- Guests: the TD of one runs, and so isn't paused

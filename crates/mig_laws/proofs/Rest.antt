@@ -12,10 +12,11 @@ use Rattle.td_words.specs.NameNumber.{op_number}
 use Rattle.flat_core.specs.World.{World, Image, Made}
 use Rattle.flat_core.specs.Lawful.{IsAlive}
 use Rattle.flat_core.proofs.Tests.{by_test, same_self}
+use Rattle.mig_laws.specs.Ivs.{is_filling, IsImporting}
 use Rattle.mig_laws.specs.Source.{known_words}
 use Rattle.mig_laws.specs.WellMade.{is_of}
 use Rattle.mig_laws.specs.Imported.{is_imported, last_imported, AreImported}
-use Rattle.mig_laws.specs.Imports.{is_filling, IsImporting, counts_of, given_words, IsVpGiven, HasState, IsComplete, begins_epoch, ImportHolds, DestinationHolds}
+use Rattle.mig_laws.specs.Imports.{counts_of, given_words, IsVpGiven, HasState, IsComplete, begins_epoch, ImportHolds, DestinationHolds}
 
 -- what is said of one TD besides its virtual processors and its guest's memory
 pub record Filled : Type 0 where

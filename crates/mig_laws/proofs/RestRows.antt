@@ -1,5 +1,5 @@
--- Each act of the leaf table, and each event of a guest, leaves the TDs that are being imported as they are.
-use Rattle.std.proofs.Common.{◌≡◌, ◌≢◌, refl, sym, ◌∙◌, ap, subst, ℕ, zero, suc, ◌+◌, ◌<◌, ◌≤◌, List, [], ◌∷◌, ◌++◌, length, length-append, map, get_or, Some, true, false, ◌==◌, arith}
+-- Each act that imports nothing, and each event of a guest, leaves the TDs that are being imported as they are.
+use Rattle.std.proofs.Common.{◌≡◌, ◌≢◌, refl, sym, ◌∙◌, ap, subst, ℕ, zero, suc, ◌+◌, ◌<◌, ◌≤◌, List, [], ◌∷◌, ◌++◌, length, length-append, map, get_or, Some, Bool, true, false, ◌==◌, arith}
 use Rattle.std.specs.Prelude.{slice_get}
 use Rattle.std.specs.List.{list_any}
 use Rattle.std.proofs.lemmas.Bool.{eqb-true, eq-eqb, and_parts, ltb-true}
@@ -13,13 +13,13 @@ use Rattle.td_words.specs.declared.calls.Call.{Call}
 use Rattle.td_words.specs.declared.calls.Call.TheVariants as call
 use Rattle.td_words.specs.declared.calls.GuestOp.{GuestOp}
 use Rattle.td_words.specs.NameNumber.{op_number}
-use Rattle.flat_core.specs.World.{World, put}
+use Rattle.flat_core.specs.World.{World, Pages, Tds, Streams, Hidden, put}
 use Rattle.flat_core.specs.Opening.{Opening}
 use Rattle.flat_core.specs.Row.{OperationRow, Passes}
 use Rattle.flat_core.specs.Conditions.{same_kind, vp_limit, blocking_ops, running_ops}
 use Rattle.flat_core.specs.Tree.{entry_at, number_at}
 use Rattle.flat_core.specs.Tracking.{tracked_page}
-use Rattle.flat_core.specs.Effects.{pass_operation, tell_words, leave_guest}
+use Rattle.flat_core.specs.Effects.{set_op, pass_operation, tell_words, leave_guest}
 use Rattle.flat_core.specs.Guest.{ByRow, operation_of, is_pending_at, reach}
 use Rattle.flat_core.specs.MemRows.{removed_states}
 use Rattle.flat_core.specs.ExportRows.{stream_ops}
@@ -28,14 +28,26 @@ use Rattle.flat_core.specs.Table.{row_of}
 use Rattle.flat_core.specs.Lawful.{IsAlive, IsPageOf, ArePagesOf, Lawful, is_exporting}
 use Rattle.flat_core.proofs.Tests.{by_test, host_kind, same_self}
 use Rattle.flat_core.proofs.Keeps.{live_of, ended_of}
+use Rattle.flat_core.proofs.Parts.{IsLive}
 use Rattle.flat_core.proofs.Operations.{operation_row, accepted}
 use Rattle.flat_core.proofs.Ranges.{begun_of, named_passed, abortable_exporting, paused_exporting}
 use Rattle.flat_core.proofs.Streams.{page_among, stream_among}
-use Rattle.mig_laws.specs.Imports.{is_filling, IsImporting, counts_of}
+use Rattle.mig_laws.specs.Ivs.{is_filling, IsImporting}
+use Rattle.mig_laws.specs.Imports.{counts_of}
 use Rattle.mig_laws.proofs.Rows.{taken_back, lived_back}
 use Rattle.mig_laws.proofs.Ivs.{alive_of}
 use Rattle.mig_laws.proofs.Counts.{counts_same}
 use Rattle.mig_laws.proofs.Rest.{Filled, filled, vp_state, ImportStays, EmptyStays, new, old, IsAtRest, same_import, rest, at_rest, rest_apart, never_filling}
+
+-- the calls that give a TD what its source has made, and the one that notes what it starts with
+abbrev pub is_import : Call → Bool
+is_import (call.ImportStateImmutable t slot) = true
+is_import (call.ImportMem t slot page) = true
+is_import (call.ImportTrack t slot) = true
+is_import (call.ImportStateTd t slot) = true
+is_import (call.ImportStateVp t p slot) = true
+is_import (call.ImportCommit t) = true
+is_import _ = false
 
 -- pages of one TD aren't another's
 pub apart_pages : (w : World) (t x p q : ℕ) → w.pages.owners p ≡ t → w.pages.owners q ≡ x → (x == t) ≡ false → (q == p) ≡ false
@@ -76,6 +88,20 @@ pub quiet : (w v : World) (t : ℕ) → (IsImporting v t → ⊥) → (IsAlive v
     → v.streams.counters ≡ w.streams.counters → ((q : ℕ) → vp_state v q ≡ vp_state w q) → IsAtRest w v
 quiet w v t none own given back same memories counters vp = changed w v t none own given back same memories
     (λ x y a. (let streams = ap (λ (z : Aside). z.fill) (same x y) in λ j. map (counters j) (streams j).streams)) (λ x y a q e. vp q)
+
+-- where an op state comes in which nothing is imported
+pub ended : (w v : World) (t : ℕ) (s : OpState) → s ≢ op.Uninitialized → is_filling s ≡ false → v.tds ≡ (set_op t s w).tds → v.pages ≡ w.pages → v.hidden ≡ w.hidden → v.streams ≡ w.streams → v.vps ≡ w.vps → IsAtRest w v
+ended w v t s begun off tds pages hidden streams vps =
+    let self = same_self t in
+    quiet w v t
+    (λ a. let now : is_filling s ≡ true = (let at : v.tds.ops t ≡ s = ap (λ (z : Tds). z.ops t) tds ∙ rw self refl in ap is_filling (sym at) ∙ a.standing) in let no : true ≡ false = sym now ∙ off in cc)
+    (λ a e. absurd (begun (let at : v.tds.ops t ≡ s = ap (λ (z : Tds). z.ops t) tds ∙ rw self refl in sym at ∙ e)))
+    (ap (λ (z : Hidden). z.given) hidden)
+    (λ x y a. record { kind = ap (λ (z : Pages). z.kinds x) (sym pages) ∙ a.kind; life = subst (λ (z : Tds). IsLive (z.lives x)) tds a.life })
+    (λ x y. (let op : v.tds.ops x ≡ w.tds.ops x = ap (λ (z : Tds). z.ops x) tds ∙ rw y refl in
+    λ j. record { state = op j; fill = record { session = (tds j).sessions x; epoch = (tds j).mig_epochs x; streams = (tds j).streams x; mrtd = (tds j).mrtds x; expected = (tds j).vps_expected x; rtmrs = (hidden j).rtmrs x }; vps = (tds j).vps x }))
+    (λ x n y. ap (λ (z : Hidden). z.memories x n) hidden)
+    (ap (λ (z : Streams). z.counters) streams) (λ q j. record { state = (vps j).states q; registers = (hidden j).registers q; position = (vps j).positions q })
 
 -- counters of another TD's streams, where those of one TD's change alone
 off_stream : (ps : List ℕ) (k q : ℕ) → k < length ps → list_any (λ p. p == q) ps ≡ false → (q == get_or ps k 0) ≡ false
@@ -190,102 +216,107 @@ module _ (o : Opening) (me : ℕ) (w : World) (l : Lawful o.machine w) where
       (λ x y a. ap (λ (z : Aside). map v.streams.counters z.fill.streams) (same x y) ∙ counts_apart w l.tds.streams t x alive a y v.streams.counters counters)
       (λ x y a q e j. record { state = states j q; registers = (hidden j).registers q; position = positions j q })
 
-  pub row-rests : (c : Call) → Passes ((row_of o me c).items w) → IsAtRest w (After c)
-  row-rests (call.PhymemPageReclaim t page) ps =
+  pub row-rests : (c : Call) → Passes ((row_of o me c).items w) → is_import c ≡ false → IsAtRest w (After c)
+  row-rests (call.PhymemPageReclaim t page) ps none =
       let v : World = After (call.PhymemPageReclaim t page) in
       let dead = ended_of (w.tds.lives t) ps.1.1.1.0 in
       quiet w v t (λ a. let no : true ≡ false = sym dead ∙ a.alive.life in cc) (λ a e. absurd (let no : true ≡ false = sym dead ∙ a.life in cc)) refl
       (λ x y a. taken_back w page kind.Nda 0 0 0 (λ e. cc) v.tds refl x (record { kind = a.kind; life = a.life })) (λ x y. refl) (λ x n y. rw y refl) refl (λ q. refl)
-  row-rests (call.MngCreate t k) ps =
+  row-rests (call.MngCreate t k) ps none =
       let v : World = After (call.MngCreate t k) in
       quiet w v t (λ a. let no : false ≡ true = rw (same_self t) at a.standing in cc) (λ a e. new (λ n. (let self = same_self t in rw self refl))) refl
       (λ x y a. record { kind = rw y at a.kind; life = rw y at a.life }) (λ x y. rw y refl) (λ x n y. rw y refl) refl (λ q. refl)
-  row-rests (call.MngKeyConfig t) ps = at_rest w (After (call.MngKeyConfig t)) refl (λ x a. lived_back w t life.KeysConfigured (live_of (life.HkidAssigned ∷ []) (w.tds.lives t) refl ps.1.1.0) x (record { kind = a.kind; life = a.life }))
-  row-rests (call.MngVpflushdone t) ps =
+  row-rests (call.MngKeyConfig t) ps none = at_rest w (After (call.MngKeyConfig t)) refl (λ x a. lived_back w t life.KeysConfigured (live_of (life.HkidAssigned ∷ []) (w.tds.lives t) refl ps.1.1.0) x (record { kind = a.kind; life = a.life }))
+  row-rests (call.MngVpflushdone t) ps none =
       at_rest w (After (call.MngVpflushdone t)) refl (λ x a. lived_back w t life.Blocked (live_of (life.HkidAssigned ∷ life.KeysConfigured ∷ []) (w.tds.lives t) refl ps.1.1.0) x (record { kind = a.kind; life = a.life }))
-  row-rests (call.MngKeyFreeid t) ps = at_rest w (After (call.MngKeyFreeid t)) refl (λ x a. lived_back w t life.Teardown (live_of (life.Blocked ∷ []) (w.tds.lives t) refl ps.1.1.0) x (record { kind = a.kind; life = a.life }))
-  row-rests (call.MngAddcx t page) ps =
+  row-rests (call.MngKeyFreeid t) ps none = at_rest w (After (call.MngKeyFreeid t)) refl (λ x a. lived_back w t life.Teardown (live_of (life.Blocked ∷ []) (w.tds.lives t) refl ps.1.1.0) x (record { kind = a.kind; life = a.life }))
+  row-rests (call.MngAddcx t page) ps none =
       at_rest w (After (call.MngAddcx t page)) refl (λ x a. taken_back w page kind.Tdcx t 0 0 (λ e. cc) (After (call.MngAddcx t page)).tds refl x (record { kind = a.kind; life = a.life }))
-  row-rests (call.MngInit t) ps =
+  row-rests (call.MngInit t) ps none =
       let v : World = After (call.MngInit t) in
       let self = same_self t in
       quiet w v t (λ a. let no : false ≡ true = rw self at a.standing in cc) (λ a e. absurd (let no : op.Initialized ≡ op.Uninitialized = rw self at e in cc)) refl
       (λ x y a. record { kind = a.kind; life = a.life }) (λ x y. rw y refl) (λ x n y. refl) refl (λ q. refl)
-  row-rests (call.MrFinalize t) ps =
+  row-rests (call.MrFinalize t) ps none =
       let v : World = After (call.MrFinalize t) in
       let self = same_self t in
       quiet w v t (λ a. let no : false ≡ true = rw self at a.standing in cc) (λ a e. absurd (let no : op.Runnable ≡ op.Uninitialized = rw self at e in cc)) refl
       (λ x y a. record { kind = a.kind; life = a.life }) (λ x y. rw y refl) (λ x n y. refl) refl (λ q. refl)
-  row-rests (call.VpCreate t page) ps =
+  row-rests (call.VpCreate t page) ps none =
       created_rests t page (host_kind _ ps.1.1.1.1.1.1.1.1.0) ps.1.1.1.1.1.1.0 (ltb-true _ _ ps.1.1.1.1.1.1.1.0)
-  row-rests (call.VpInit t p value) ps =
+  row-rests (call.VpInit t p value) ps none =
       initialized_rests t p value (eqb-true (w.pages.owners p) t (and_parts (same_kind (w.pages.kinds p) kind.Tdvpr) (w.pages.owners p == t) ps.1.1.1.1.1.1.1.0).1) ps.1.1.1.1.1.1.0
-  row-rests (call.MemSeptAdd t gpa level page) ps =
+  row-rests (call.MemSeptAdd t gpa level page) ps none =
       at_rest w (After (call.MemSeptAdd t gpa level page)) refl
       (λ x a. taken_back w page kind.Ept t level (number_at level gpa) (λ e. cc) (After (call.MemSeptAdd t gpa level page)).tds refl x (record { kind = a.kind; life = a.life }))
-  row-rests (call.MemSeptRemove t gpa level) ps =
+  row-rests (call.MemSeptRemove t gpa level) ps none =
       at_rest w (After (call.MemSeptRemove t gpa level)) refl
       (λ x a. taken_back w (entry_at w t level gpa).page kind.Nda 0 0 0 (λ e. cc) (After (call.MemSeptRemove t gpa level)).tds refl x (record { kind = a.kind; life = a.life }))
-  row-rests (call.MemPageAdd t gpa page source) ps =
+  row-rests (call.MemPageAdd t gpa page source) ps none =
       let v : World = After (call.MemPageAdd t gpa page source) in
       let ops = ps.1.1.1.1.1.1.1.1.1.1.1.0 in
       quiet w v t (λ a. never_filling (op.Initialized ∷ []) (w.tds.ops t) (refl, refl, refl) ops a.standing) (λ a e. absurd (begun_of (op.Initialized ∷ []) (w.tds.ops t) refl ops e)) refl
       (λ x y a. taken_back w page kind.Reg t 0 (number_at 0 gpa) (λ e. cc) v.tds refl x (record { kind = a.kind; life = a.life })) (λ x y. refl) (λ x n y. rw y refl) refl (λ q. refl)
-  row-rests (call.MemPageAug t gpa page) ps =
+  row-rests (call.MemPageAug t gpa page) ps none =
       at_rest w (After (call.MemPageAug t gpa page)) refl
       (λ x a. taken_back w page kind.Reg t 0 (number_at 0 gpa) (λ e. cc) (After (call.MemPageAug t gpa page)).tds refl x (record { kind = a.kind; life = a.life }))
-  row-rests (call.MemPageRemove t gpa) ps =
+  row-rests (call.MemPageRemove t gpa) ps none =
       let v : World = After (call.MemPageRemove t gpa) in
       let page = (entry_at w t 0 gpa).page in
       let q = named_passed w t gpa 0 removed_states (tracked_page w t page ∷ []) ps.1.1.1 in
       quiet w v t (λ a. never_filling blocking_ops (w.tds.ops t) (refl, refl, refl) q.op a.standing) (λ a e. absurd (begun_of blocking_ops (w.tds.ops t) refl q.op e)) refl
       (λ x y a. taken_back w page kind.Nda 0 0 0 (λ e. cc) v.tds refl x (record { kind = a.kind; life = a.life })) (λ x y. refl) (λ x n y. rw y refl) refl (λ q. refl)
-  row-rests (call.MigStreamCreate t page) ps =
+  row-rests (call.MigStreamCreate t page) ps none =
       let head = ps.1.1.1 in
       stream_rests t page (host_kind _ head.1.1.1.1.1.0) head.1.1.1.0
-  row-rests (call.ExportPause t) ps =
+  row-rests (call.ExportPause t) ps none =
       let v : World = After (call.ExportPause t) in
       let self = same_self t in
       quiet w v t (λ a. let no : false ≡ true = rw self at a.standing in cc) (λ a e. absurd (let no : op.PausedExport ≡ op.Uninitialized = rw self at e in cc)) refl
       (λ x y a. record { kind = a.kind; life = a.life }) (λ x y. rw y refl) (λ x n y. refl) refl (λ q. refl)
-  row-rests (call.ExportAbort t) ps =
-      let v : World = After (call.ExportAbort t) in
-      let self = same_self t in
-      quiet w v t (λ a. let no : false ≡ true = rw self at a.standing in cc) (λ a e. absurd (let no : op.Runnable ≡ op.Uninitialized = rw self at e in cc)) refl
-      (λ x y a. record { kind = a.kind; life = a.life }) (λ x y. rw y refl) (λ x n y. refl) refl (λ q. refl)
-  row-rests (call.ExportStateImmutable t slot) ps =
+  row-rests (call.ExportAbort t) ps none = ended w (After (call.ExportAbort t)) t op.Runnable (λ e. cc) refl refl refl refl refl refl
+  row-rests (call.ExportAbortByToken t slot) ps none = ended w (After (call.ExportAbortByToken t slot)) t op.Runnable (λ e. cc) refl refl refl refl refl refl
+  row-rests (call.ImportEnd t) ps none = ended w (After (call.ImportEnd t)) t op.Runnable (λ e. cc) refl refl refl refl refl refl
+  row-rests (call.ImportAbort t slot) ps none = ended w (After (call.ImportAbort t slot)) t op.FailedImport (λ e. cc) refl refl refl refl refl refl
+  row-rests (call.ImportStateImmutable t slot) ps none = cc
+  row-rests (call.ImportMem t slot page) ps none = cc
+  row-rests (call.ImportTrack t slot) ps none = cc
+  row-rests (call.ImportStateTd t slot) ps none = cc
+  row-rests (call.ImportStateVp t p slot) ps none = cc
+  row-rests (call.ImportCommit t) ps none = cc
+  row-rests (call.ExportStateImmutable t slot) ps none =
       let head = ps.1 in
       let few : 0 < length (w.tds.streams t) = ltb-true _ _ head.1.1.1.1.0 in
       let self = same_self t in
       bundle_rests (After (call.ExportStateImmutable t slot)) t (alive_of w t head.0 head.1.0) (rw self refl) refl (λ x a. record { kind = a.kind; life = a.life }) (λ x y. rw y refl)
       (λ q none. (let away = off_stream (w.tds.streams t) 0 q few none in rw (away, none) refl)) refl refl
-  row-rests (call.ExportMem t gpa k slot) ps =
+  row-rests (call.ExportMem t gpa k slot) ps none =
       let head = ps.1.1.1.1 in
       let few : k < length (w.tds.streams t) = ltb-true _ _ head.1.1.1.1.0 in
       bundle_rests (After (call.ExportMem t gpa k slot)) t (alive_of w t head.0 head.1.0) (abortable_exporting (w.tds.ops t) head.1.1.1.0) refl (λ x a. record { kind = a.kind; life = a.life }) (λ x y. refl)
       (λ q none. (let away = off_stream (w.tds.streams t) k q few none in rw away refl)) refl refl
-  row-rests (call.ExportTrack t slot zero) ps =
+  row-rests (call.ExportTrack t slot zero) ps none =
       let head = ps.1.1 in
       let exporting = abortable_exporting (w.tds.ops t) head.1.1.1.0 in
       bundle_rests (After (call.ExportTrack t slot zero)) t (alive_of w t head.0 head.1.0) exporting refl (λ x a. record { kind = a.kind; life = a.life }) (λ x y. rw y refl)
       (λ q none. (let away = off_stream (w.tds.streams t) 0 q (l.sessions.first_stream t exporting) none in rw away refl)) refl refl
-  row-rests (call.ExportTrack t slot (suc n)) ps =
+  row-rests (call.ExportTrack t slot (suc n)) ps none =
       let head = ps.1.1 in
       let exporting = paused_exporting (w.tds.ops t) head.1.1.1.0 in
       let self = same_self t in
       bundle_rests (After (call.ExportTrack t slot (suc n))) t (alive_of w t head.0 head.1.0) (rw self refl) refl (λ x a. record { kind = a.kind; life = a.life }) (λ x y. rw y refl)
       (λ q none. (let away = off_stream (w.tds.streams t) 0 q (l.sessions.first_stream t exporting) none in rw away refl)) refl refl
-  row-rests (call.ExportStateTd t slot) ps =
+  row-rests (call.ExportStateTd t slot) ps none =
       let head = ps.1 in
       let exporting = paused_exporting (w.tds.ops t) head.1.1.1.0 in
       bundle_rests (After (call.ExportStateTd t slot)) t (alive_of w t head.0 head.1.0) exporting refl (λ x a. record { kind = a.kind; life = a.life }) (λ x y. refl)
       (λ q none. (let away = off_stream (w.tds.streams t) 0 q (l.sessions.first_stream t exporting) none in rw away refl)) refl refl
-  row-rests (call.ExportStateVp t p slot) ps =
+  row-rests (call.ExportStateVp t p slot) ps none =
       let head = ps.1.1.1 in
       let exporting = paused_exporting (w.tds.ops t) head.1.1.1.0 in
       bundle_rests (After (call.ExportStateVp t p slot)) t (alive_of w t head.0 head.1.0) exporting refl (λ x a. record { kind = a.kind; life = a.life }) (λ x y. refl)
       (λ q none. (let away = off_stream (w.tds.streams t) 0 q (l.sessions.first_stream t exporting) none in rw away refl)) refl refl
-  row-rests c ps = at_rest w (After c) refl (λ x a. record { kind = a.kind; life = a.life })
+  row-rests c ps none = at_rest w (After c) refl (λ x a. record { kind = a.kind; life = a.life })
 
 -- a guest's event changes RTMRs and memory of its own TD, and registers and position of its own virtual processor, and the TD runs
 module _ (o : Opening) (w : World) (l : Lawful o.machine w) (t v : ℕ) (runs : list_any (λ a. op_number a == op_number (w.tds.ops t)) running_ops ≡ true) (page : IsPageOf w.pages t v kind.Tdvpr) where

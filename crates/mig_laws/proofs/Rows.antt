@@ -1,5 +1,5 @@
 -- Each act that makes no bundle leaves the TDs that are exported as this crate asks.
-use Rattle.std.proofs.Common.{◌≡◌, refl, sym, ◌∙◌, ap, subst, ℕ, ◌<◌, ◌≤◌, List, [], ◌∷◌, length, Some, None, true, false, ◌==◌, arith}
+use Rattle.std.proofs.Common.{◌≡◌, refl, sym, ◌∙◌, ap, subst, ℕ, ◌+◌, ◌<◌, ◌≤◌, List, [], ◌∷◌, length, Some, None, Bool, true, false, ◌==◌, arith}
 use Rattle.std.specs.List.{list_any}
 use Rattle.std.proofs.lemmas.Bool.{eqb-true, eq-eqb, ne_eqb, and_parts, lt-ltb}
 use Rattle.td_words.specs.declared.names.PageKind.{PageKind}
@@ -19,12 +19,14 @@ use Rattle.flat_core.specs.World.{World, Tds, put}
 use Rattle.flat_core.specs.Opening.{Opening}
 use Rattle.flat_core.specs.Row.{Passes}
 use Rattle.flat_core.specs.Conditions.{same_kind, page_exclusive, host_page, blocking_ops}
-use Rattle.flat_core.specs.Tree.{number_at, entry_at, state_in, empty_below}
+use Rattle.flat_core.specs.Tree.{page_of_gpa, number_at, entry_at, state_in, empty_below}
 use Rattle.flat_core.specs.Tracking.{entry_epochs, tracked_page}
-use Rattle.flat_core.specs.Effects.{put_in, take_node, set_life}
-use Rattle.flat_core.specs.Sessions.{stream_page, stream_counter}
+use Rattle.flat_core.specs.Effects.{put_in, set_page, take_node, map_page, set_life, set_op, begin_memory}
+use Rattle.flat_core.specs.Sessions.{stream_page, stream_counter, count_bundle}
+use Rattle.flat_core.specs.Inputs.{Input, input_in}
 use Rattle.flat_core.specs.MemRows.{open_states, blocked_states, removed_states}
 use Rattle.flat_core.specs.ExportRows.{stream_ops, live_ops, restoring_ops, restored_states, writable_states, write_blocked, write_blocked_states, write_unblocked}
+use Rattle.flat_core.specs.ImportRows.{filling_ops, vp_state_ops, fill_page, is_start, import_token_ops, op_then}
 use Rattle.flat_core.specs.Table.{row_of}
 use Rattle.flat_core.specs.Lawful.{IsAlive, Lawful, ArePagesOf, is_exporting, is_free}
 use Rattle.flat_core.proofs.Tests.{by_test, host_kind, range_of, same_self}
@@ -34,8 +36,9 @@ use Rattle.flat_core.proofs.Maps.{behind_walk, node_named}
 use Rattle.flat_core.proofs.Exports.{free_unmarked}
 use Rattle.flat_core.proofs.Ranges.{live_exporting, named_passed, named_alive, opened_passed, write_passed, entry_alive, write_remarks, block_restates}
 use Rattle.flat_core.proofs.Streams.{stream_owned}
+use Rattle.flat_bundles.proofs.Fills.{fill_either}
 use Rattle.mig_laws.specs.Ivs.{IsExporting}
-use Rattle.mig_laws.proofs.Stays.{tracked_still, entered_now, left_now, entered_elsewhere, Stays, IsBeside, own, same_page, session_stays, same_entered, same_counters, all_stays, shape, beside, goes_same, apart}
+use Rattle.mig_laws.proofs.Stays.{counted_more, tracked_still, entered_now, left_now, entered_elsewhere, Stays, IsBeside, own, same_page, session_stays, same_entered, same_counters, all_stays, shape, beside, goes_same, apart}
 use Rattle.mig_laws.proofs.Entries.{Place, blocked_goes, unblocked_goes, fresh_goes, restated}
 
 pub le_same : (n : ℕ) → n ≤ n
@@ -52,6 +55,11 @@ never_exporting allowed op.LiveExport none e x = let no : true ≡ false = sym e
 never_exporting allowed op.PausedExport none e x = let no : true ≡ false = sym e ∙ none.1 in cc
 never_exporting allowed op.PostExport none e x = let no : true ≡ false = sym e ∙ none.2 in cc
 never_exporting allowed _ none e x = cc
+
+-- so it is once a token was imported
+pub never_then : (b : Bool) (s : OpState) → list_any (λ a. op_number a == op_number s) (import_token_ops b) ≡ true → is_exporting (op_then b s) ≡ true → ⊥
+never_then true s e x = cc
+never_then false s e x = never_exporting filling_ops s (refl, refl, refl) e x
 
 -- who is alive was so before: where a page was taken or given back, and where a life went on
 pub taken_back : (w : World) (q : ℕ) (k : PageKind) (t level number : ℕ) → (k ≡ kind.Tdr → ⊥) → (tds : Tds) → tds.lives ≡ w.tds.lives → (x : ℕ) → IsAlive (take_node q k t level number w).pages tds x → IsAlive w.pages w.tds x
@@ -179,6 +187,35 @@ module _ (o : Opening) (me : ℕ) (w : World) (l : Lawful o.machine w) where
           (λ z. absurd (let no : kind.Migsc ≡ kind.Nda = sym (stream_owned o.machine w l x k a m).kind ∙ (ap w.pages.kinds (eqb-true _ page z) ∙ host) in cc))
           (λ z. rw z (omega arith))
 
+  -- an op state comes that is none of an export
+  goes_over : (t : ℕ) (s : OpState) → is_exporting s ≡ false → (x : ℕ) → is_exporting (put w.tds.ops t s x) ≡ true → (is_exporting (w.tds.ops x) ≡ true) × (put w.tds.ops t s x ≡ op.LiveExport → w.tds.ops x ≡ op.LiveExport)
+  goes_over t s off x e = by_test (x == t)
+      (λ y. absurd (let now : is_exporting s ≡ true = rw y at e in let no : true ≡ false = sym now ∙ off in cc))
+      (λ y. (rw y at e, λ k. rw y at k))
+
+  pub over_beside : (t : ℕ) (s : OpState) → is_exporting s ≡ false → IsBeside w (set_op t s w)
+  over_beside t s off = beside w (set_op t s w) refl (goes_over t s off) (λ x n. refl) (λ q. le_same _) (λ x a. record { kind = a.kind; life = a.life })
+
+  -- a TD is imported, whose stream counts a bundle
+  import_beside : (v : World) (t k : ℕ) → (IsExporting v t → ⊥) → v.outgoing.bundles ≡ w.outgoing.bundles → v.key_table.last_exported ≡ w.key_table.last_exported → ((x : ℕ) → IsAlive v.pages v.tds x → IsAlive w.pages w.tds x)
+      → ((x : ℕ) → (x == t) ≡ false → v.tds.ops x ≡ w.tds.ops x) → ((x : ℕ) → (x == t) ≡ false → own v x ≡ own w x) → v.streams.counters ≡ put w.streams.counters (stream_page w t k) (stream_counter w t k + 1) → v.vps.entered ≡ w.vps.entered
+      → ((q : ℕ) → v.pages.blocked q ≤ w.pages.blocked q) → ((x n : ℕ) → (x == t) ≡ false → v.tds.entries x 0 n ≡ w.tds.entries x 0 n) → ((x n : ℕ) → (x == t) ≡ false → v.hidden.memories x n ≡ w.hidden.memories x n) → IsBeside w v
+  import_beside v t k none bundles last back ops same counters entered blocked entries memories = apart w v t none bundles last
+      (λ x y a. all_stays w v x
+      (session_stays w v x (record { alive = back x a.alive; standing = ap is_exporting (sym (ops x y)) ∙ a.standing }) (λ live. sym (ops x y) ∙ live) (same x y)
+      (λ j m. subst (λ (f : ℕ → ℕ). stream_counter w x j ≤ f (stream_page w x j)) (sym counters) (counted_more w t k x j)))
+      (same x y) (same_entered w v x entered) (λ n s. blocked _) (λ n. entries x n y) (λ n. memories x n y))
+
+  -- IMPORT.MEM
+  page_beside : (t k gpa page : ℕ) (ws : ℕ → ℕ) → (is_exporting (w.tds.ops t) ≡ true → ⊥) → IsBeside w (count_bundle t k (begin_memory t (page_of_gpa gpa) ws (fill_page t gpa page ws (entry_at w t 0 gpa).state w)))
+  page_beside t k gpa page ws none =
+      let taken : World = count_bundle t k (begin_memory t (page_of_gpa gpa) ws (set_page page ws (map_page page kind.Reg entry.Mapped t 0 (number_at 0 gpa) w))) in
+      let there : World = count_bundle t k (begin_memory t (page_of_gpa gpa) ws (set_page (entry_at w t 0 gpa).page ws w)) in
+      fill_either (λ u. IsBeside w (count_bundle t k (begin_memory t (page_of_gpa gpa) ws u))) t gpa page ws (entry_at w t 0 gpa).state w
+      (import_beside taken t k (λ a. none a.standing) refl refl (λ x a. taken_back w page kind.Reg t 0 (number_at 0 gpa) (λ e. cc) taken.tds refl x (record { kind = a.kind; life = a.life })) (λ x y. refl) (λ x y. refl) refl refl
+      (λ q. lower w.pages.blocked page q) (λ x n y. rw y refl) (λ x n y. rw y refl))
+      (import_beside there t k (λ a. none a.standing) refl refl (λ x a. record { kind = a.kind; life = a.life }) (λ x y. refl) (λ x y. refl) refl refl (λ q. le_same _) (λ x n y. refl) (λ x n y. rw y refl))
+
   pub row-beside : (c : Call) → Passes ((row_of o me c).items w) → output_slot c ≡ None → Beside c
   row-beside (call.PhymemPageReclaim t page) ps none =
       let v : World = After (call.PhymemPageReclaim t page) in
@@ -281,15 +318,33 @@ module _ (o : Opening) (me : ℕ) (w : World) (l : Lawful o.machine w) where
       (λ y. (subst (λ (z : ℕ). is_exporting (w.tds.ops z) ≡ true) (sym (eqb-true x t y)) (live_exporting (w.tds.ops t) ps.1.1.1.1.0), λ k. absurd (let no : op.PausedExport ≡ op.LiveExport = rw y at k in cc)))
       (λ y. (rw y at e, λ k. rw y at k)))
       (λ x n. refl) (λ q. le_same _) (λ x a. record { kind = a.kind; life = a.life })
-  row-beside (call.ExportAbort t) ps none =
-      beside w (After (call.ExportAbort t)) refl
-      (λ x e. by_test (x == t) (λ y. absurd (let no : false ≡ true = rw y at e in cc)) (λ y. (rw y at e, λ k. rw y at k)))
-      (λ x n. refl) (λ q. le_same _) (λ x a. record { kind = a.kind; life = a.life })
+  row-beside (call.ExportAbort t) ps none = over_beside t op.Runnable refl
+  row-beside (call.ExportAbortByToken t slot) ps none = over_beside t op.Runnable refl
   row-beside (call.ExportRestore t gpa) ps none =
       let v : World = After (call.ExportRestore t gpa) in
       let p = opened_passed w t gpa restoring_ops restored_states ps.1.1.1 in
       apart w v t (λ a. never_exporting restoring_ops (w.tds.ops t) (refl, refl, refl) p.op a.standing) refl refl
       (λ x y a. other_stays w v x (record { kind = a.alive.kind; life = a.alive.life }) a refl refl refl refl (λ n s. le_same _) (λ n. rw y refl) (λ n. refl))
+  row-beside (call.ImportStateImmutable t slot) ps none =
+      import_beside (After (call.ImportStateImmutable t slot)) t 0 (λ a. let no : false ≡ true = rw (same_self t) at a.standing in cc) refl refl (λ x a. record { kind = a.kind; life = a.life })
+      (λ x y. rw y refl) (λ x y. rw y refl) refl refl (λ q. le_same _) (λ x n y. refl) (λ x n y. refl)
+  row-beside (call.ImportMem t slot page) ps none =
+      let x : Input = input_in (o.bundles slot) in
+      page_beside t x.header.stream x.header.gpa page x.words (never_exporting filling_ops (w.tds.ops t) (refl, refl, refl) ps.1.1.1.1.1.1.1.1.1.0)
+  row-beside (call.ImportTrack t slot) ps none =
+      let x : Input = input_in (o.bundles slot) in
+      import_beside (After (call.ImportTrack t slot)) t 0 (λ a. never_then (is_start x.header) (w.tds.ops t) ps.1.1.1.1.1.1.1.0 (rw (same_self t) at a.standing)) refl refl (λ x a. record { kind = a.kind; life = a.life })
+      (λ x y. rw y refl) (λ x y. refl) refl refl (λ q. le_same _) (λ x n y. refl) (λ x n y. refl)
+  row-beside (call.ImportStateTd t slot) ps none =
+      import_beside (After (call.ImportStateTd t slot)) t 0 (λ a. let no : false ≡ true = rw (same_self t) at a.standing in cc) refl refl (λ x a. record { kind = a.kind; life = a.life })
+      (λ x y. rw y refl) (λ x y. refl) refl refl (λ q. le_same _) (λ x n y. refl) (λ x n y. refl)
+  row-beside (call.ImportStateVp t p slot) ps none =
+      import_beside (After (call.ImportStateVp t p slot)) t 0 (λ a. never_exporting vp_state_ops (w.tds.ops t) (refl, refl, refl) ps.1.1.1.1.1.1.1.1.1.0 a.standing) refl refl (λ x a. record { kind = a.kind; life = a.life })
+      (λ x y. refl) (λ x y. refl) refl refl (λ q. le_same _) (λ x n y. refl) (λ x n y. refl)
+  row-beside (call.ImportCommit t) ps none =
+      beside w (After (call.ImportCommit t)) refl (goes_over t op.LiveImport refl) (λ x n. refl) (λ q. le_same _) (λ x a. record { kind = a.kind; life = a.life })
+  row-beside (call.ImportEnd t) ps none = over_beside t op.Runnable refl
+  row-beside (call.ImportAbort t slot) ps none = cc
   row-beside (call.ExportStateImmutable t slot) ps none = cc
   row-beside (call.ExportMem t gpa k slot) ps none = cc
   row-beside (call.ExportTrack t slot start) ps none = cc

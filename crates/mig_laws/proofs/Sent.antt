@@ -19,7 +19,7 @@ use Rattle.flat_core.specs.Digests.{six_words}
 use Rattle.flat_core.specs.Tree.{page_of_gpa, number_at, entry_at, same_state, state_in, has_page, named_page}
 use Rattle.td_words.specs.declared.names.Mode.TheVariants.{Exclusive}
 use Rattle.flat_core.specs.Tracking.{is_tracked}
-use Rattle.flat_core.specs.Effects.{set_op, restate}
+use Rattle.flat_core.specs.Effects.{set_op, restate, add_bundle}
 use Rattle.flat_core.specs.Sessions.{About, about, header_of, stream_page, bundles_so_far, unrestored_count, other_epoch, counter_room, payload_words, make_bundle, begin_session, set_mig_epoch, count_export, note_td_export, note_vp_export}
 use Rattle.flat_core.specs.BundleRows.{start_epoch, exportable, tracked_in}
 use Rattle.flat_core.specs.Exports.{is_dirty}
@@ -30,11 +30,12 @@ use Rattle.flat_core.proofs.Tests.{by_test, same_self}
 use Rattle.flat_core.proofs.Counted.{are_counted}
 use Rattle.flat_core.proofs.Maps.{behind_walk}
 use Rattle.flat_core.proofs.Ranges.{paused_exporting, abortable_exporting}
-use Rattle.mig_laws.specs.Ivs.{is_forward, IsExporting, IvsHold}
+use Rattle.mig_laws.specs.Ivs.{is_forward, IsExporting, IvsHold, AbortsHold}
 use Rattle.mig_laws.specs.Source.{is_page_at, later_of, last_of, last_payload, IsSent, ArePagesSent, AreSentTracked, SourceHolds}
 use Rattle.mig_laws.proofs.Stays.{PageStays, IsBeside, beside, unmoved}
-use Rattle.mig_laws.proofs.Rows.{le_same, row-beside}
-use Rattle.mig_laws.proofs.Ivs.{IsGiven, alive_of, beside_ivs, row-ivs}
+use Rattle.mig_laws.proofs.Rows.{le_same, over_beside, row-beside}
+use Rattle.mig_laws.proofs.Ivs.{IsGiven, alive_of, back_token, beside_ivs, row-ivs}
+use Rattle.mig_laws.proofs.Aborts.{row-aborts}
 
 -- the last payload after one more bundle
 
@@ -109,6 +110,15 @@ module _ (t slot : ℕ) (a : About) (payload : List ℕ) (w : World) (other : (a
 
   pub tracked_made : AreSentTracked w → AreSentTracked made
   tracked_made h x n b live s = h x n (record { kind = b.kind; life = b.life }) live s
+
+-- nor has the token back to a source
+sent_back : (w : World) (token : Made) → token.header.kind ≡ 6 → ArePagesSent w → ArePagesSent (add_bundle token w)
+sent_back w token six h x n p b e =
+    let s = h x n p (record { alive = b.alive; standing = b.standing }) (sym (last_beside (is_page_at (w.tds.sessions x) n) w.outgoing.bundles token (rw six refl)) ∙ e) in
+    record { exported = s.exported; known = s.known }
+
+tracked_back : (w : World) (token : Made) → AreSentTracked w → AreSentTracked (add_bundle token w)
+tracked_back w token h x n b live s = h x n b live s
 
 -- a session begins: none of its pages was sent, and none of its entries is exported
 module _ (m : Machine) (w : World) (l : Lawful m w) (i : IvsHold w) (t : ℕ) (alive : IsAlive w.pages w.tds t) (restored : (unrestored_count w t == 0) ≡ true) where
@@ -221,8 +231,8 @@ module _ (o : Opening) (me : ℕ) (w : World) (l : Lawful o.machine w) (known : 
   abbrev After : Call → World
   After c = (row_of o me c).act w
 
-  pub beside_source : (v : World) → IsBeside w v → SourceHolds v
-  beside_source v b = record { ivs = beside_ivs o me w l h.ivs v b; sent = sent_stay w v b h.sent; tracked = tracked_stay w v b h.tracked }
+  pub beside_source : (v : World) → IsBeside w v → AbortsHold v → SourceHolds v
+  beside_source v b aborts = record { ivs = beside_ivs o me w l h.ivs v b; aborts = aborts; sent = sent_stay w v b h.sent; tracked = tracked_stay w v b h.tracked }
 
   immutable_source : (t slot : ℕ) → Passes ((row_of o me (call.ExportStateImmutable t slot)).items w) → SourceHolds (After (call.ExportStateImmutable t slot))
   immutable_source t slot ps =
@@ -230,7 +240,8 @@ module _ (o : Opening) (me : ℕ) (w : World) (l : Lawful o.machine w) (known : 
       let alive = alive_of w t head.0 head.1.0 in
       let a : About = record (about 0 1) { info = length (w.tds.vps t) } in
       record {
-        ivs = row-ivs o me w l h.ivs (call.ExportStateImmutable t slot) ps;
+        ivs = row-ivs o me w l h.ivs h.aborts (call.ExportStateImmutable t slot) ps;
+        aborts = row-aborts o me w l h.aborts (call.ExportStateImmutable t slot) ps;
         sent = sent_made t slot a (six_words (w.tds.mrtds t)) (begin_session t w) refl (sent_begun o.machine w l h.ivs t alive head.1.1.1.1.1.0 h.sent);
         tracked = tracked_made t slot a (six_words (w.tds.mrtds t)) (begin_session t w) refl (tracked_begun o.machine w l h.ivs t alive head.1.1.1.1.1.0 h.tracked);
       }
@@ -247,18 +258,19 @@ module _ (o : Opening) (me : ℕ) (w : World) (l : Lawful o.machine w) (known : 
       let holds = exportable_holds (w.tds.ops t) e.state rest.1.0 in
       let has : memory_of (w.tds.entries t 0 (page_of_gpa gpa)) w.words ≡ Some (w.words e.page) = rw holds refl in
       record {
-        ivs = row-ivs o me w l h.ivs (call.ExportMem t gpa k slot) ps;
+        ivs = row-ivs o me w l h.ivs h.aborts (call.ExportMem t gpa k slot) ps;
+        aborts = row-aborts o me w l h.aborts (call.ExportMem t gpa k slot) ps;
         sent = page_sent t gpa k slot w h.ivs exporting (known t (page_of_gpa gpa) alive ∙ has) h.sent;
         tracked = page_tracked t gpa k slot w h.ivs exporting (tracked_then (w.tds.ops t) w t e.page rest.1.1.1.1) h.tracked;
       }
 
   -- a bundle without a page, where the world before it differs in what isn't asked
-  bundle_source : (t slot : ℕ) (a : About) (payload : List ℕ) (v : World) → (a.kind == 3) ≡ false → IsBeside w v → IvsHold (make_bundle t slot a payload v) → SourceHolds (make_bundle t slot a payload v)
-  bundle_source t slot a payload v other b ivs = record { ivs = ivs; sent = sent_made t slot a payload v other (sent_stay w v b h.sent); tracked = tracked_made t slot a payload v other (tracked_stay w v b h.tracked) }
+  bundle_source : (t slot : ℕ) (a : About) (payload : List ℕ) (v : World) → (a.kind == 3) ≡ false → IsBeside w v → IvsHold (make_bundle t slot a payload v) → AbortsHold (make_bundle t slot a payload v) → SourceHolds (make_bundle t slot a payload v)
+  bundle_source t slot a payload v other b ivs aborts = record { ivs = ivs; aborts = aborts; sent = sent_made t slot a payload v other (sent_stay w v b h.sent); tracked = tracked_made t slot a payload v other (tracked_stay w v b h.tracked) }
 
   token_source : (t slot start : ℕ) → Passes ((row_of o me (call.ExportTrack t slot start)).items w) → SourceHolds (After (call.ExportTrack t slot start))
   token_source t slot zero ps =
-      bundle_source t slot (record (about 4 (w.tds.mig_epochs t + 1)) { total = bundles_so_far w t }) [] (set_mig_epoch t (w.tds.mig_epochs t + 1) w) refl (unmoved w _ refl refl (λ x n. refl) refl refl) (row-ivs o me w l h.ivs (call.ExportTrack t slot 0) ps)
+      bundle_source t slot (record (about 4 (w.tds.mig_epochs t + 1)) { total = bundles_so_far w t }) [] (set_mig_epoch t (w.tds.mig_epochs t + 1) w) refl (unmoved w _ refl refl (λ x n. refl) refl refl) (row-ivs o me w l h.ivs h.aborts (call.ExportTrack t slot 0) ps) (row-aborts o me w l h.aborts (call.ExportTrack t slot 0) ps)
   token_source t slot (suc n) ps =
       let v : World = set_op t op.PostExport (set_mig_epoch t start_epoch w) in
       let standing = paused_exporting (w.tds.ops t) ps.1.1.1.1.1.0 in
@@ -268,15 +280,24 @@ module _ (o : Opening) (me : ℕ) (w : World) (l : Lawful o.machine w) (known : 
       (λ y. (subst (λ (z : ℕ). is_exporting (w.tds.ops z) ≡ true) (sym (eqb-true x t y)) standing, λ k. absurd (let no : op.PostExport ≡ op.LiveExport = rw y at k in cc)))
       (λ y. (rw y at e, λ k. rw y at k)))
       (λ x n. refl) (λ q. le_same _) (λ x a. record { kind = a.kind; life = a.life }))
-      (row-ivs o me w l h.ivs (call.ExportTrack t slot (suc n)) ps)
+      (row-ivs o me w l h.ivs h.aborts (call.ExportTrack t slot (suc n)) ps) (row-aborts o me w l h.aborts (call.ExportTrack t slot (suc n)) ps)
 
   pub row-source : (c : Call) → Passes ((row_of o me c).items w) → SourceHolds (After c)
   row-source (call.ExportStateImmutable t slot) ps = immutable_source t slot ps
   row-source (call.ExportMem t gpa k slot) ps = page_source t gpa k slot ps
   row-source (call.ExportTrack t slot start) ps = token_source t slot start ps
   row-source (call.ExportStateTd t slot) ps =
-      bundle_source t slot (about 1 (w.tds.mig_epochs t)) (payload_words (w.hidden.rtmrs t) 24) (note_td_export t w) refl (unmoved w _ refl refl (λ x n. refl) refl refl) (row-ivs o me w l h.ivs (call.ExportStateTd t slot) ps)
+      bundle_source t slot (about 1 (w.tds.mig_epochs t)) (payload_words (w.hidden.rtmrs t) 24) (note_td_export t w) refl (unmoved w _ refl refl (λ x n. refl) refl refl) (row-ivs o me w l h.ivs h.aborts (call.ExportStateTd t slot) ps) (row-aborts o me w l h.aborts (call.ExportStateTd t slot) ps)
   row-source (call.ExportStateVp t p slot) ps =
       bundle_source t slot (record (about 2 (w.tds.mig_epochs t)) { index = w.vps.indexes p; info = w.vps.positions p % 2 ^ 32 }) (payload_words (w.hidden.registers p) 8) (note_vp_export t p w) refl
-      (unmoved w _ refl refl (λ x n. refl) refl refl) (row-ivs o me w l h.ivs (call.ExportStateVp t p slot) ps)
-  row-source c ps = beside_source (After c) (row-beside o me w l c ps refl)
+      (unmoved w _ refl refl (λ x n. refl) refl refl) (row-ivs o me w l h.ivs h.aborts (call.ExportStateVp t p slot) ps) (row-aborts o me w l h.aborts (call.ExportStateVp t p slot) ps)
+  row-source (call.ImportAbort t slot) ps =
+      let u : World = set_op t op.FailedImport w in
+      let b = over_beside o me w l t op.FailedImport refl in
+      record {
+        ivs = row-ivs o me w l h.ivs h.aborts (call.ImportAbort t slot) ps;
+        aborts = row-aborts o me w l h.aborts (call.ImportAbort t slot) ps;
+        sent = sent_back u (back_token w t slot) refl (sent_stay w u b h.sent);
+        tracked = tracked_back u (back_token w t slot) (tracked_stay w u b h.tracked);
+      }
+  row-source c ps = beside_source (After c) (row-beside o me w l c ps refl) (row-aborts o me w l h.aborts c ps)

@@ -22,6 +22,7 @@ use Rattle.flat_core.specs.Run.{bundles_in}
 use Rattle.mig_laws.specs.Ivs.{is_forward, sealed_with, iv_of, HaveOwnIvs, AreSealedOnce, FitsIv, NoIvComesTwice}
 use Rattle.mig_laws.specs.Source.{IsSent, SourceHolds, SourceIsKept, HoldsPayload, EveryPageHoldsItsPayload, EverySentIsTracked, NoStoreReachesSent}
 use Rattle.mig_laws.proofs.Ivs.{IsGiven, IsOwnCounted}
+use Rattle.mig_laws.proofs.Aborts.{operation_aborts, reach_aborts, left_aborts, start_aborts}
 use Rattle.mig_laws.proofs.Sent.{beside_source, row-source}
 use Rattle.mig_laws.proofs.Guests.{operation_beside, left_beside, reached_beside, unchanged_sent, never_stored}
 
@@ -37,10 +38,12 @@ module _ (o : Opening) (bundles : ℕ → Option Incoming) (s : State) (p : ℕ)
       let l : Lawful q.machine w = all.timely.lawful in
       event_world q s p SourceHolds h
       (λ c cs line none ps. row-source q p w l known h c ps)
-      (λ c cs g op row i is ps. beside_source q p w l known h _ (operation_beside q g.tdr g.vp (length (s.lps p).replies + 1) op row w is))
+      (λ c cs g op row i is ps. beside_source q p w l known h _ (operation_beside q g.tdr g.vp (length (s.lps p).replies + 1) op row w is)
+      (operation_aborts q g.tdr g.vp (length (s.lps p).replies + 1) op row w is h.aborts))
       (λ c cs g op access r gpa page i is found. beside_source q p w l known h _
-      (reached_beside g.tdr g.vp access r gpa page w (λ writes. never_stored o s p all h.tracked g gpa page i.guest (ap (λ (a : Access). look_up (s.lps p).cached g.tdr (page_of_gpa gpa) a) (sym writes) ∙ found))))
-      (λ c cs g i. beside_source q p w l known h _ (left_beside g.vp w))
+      (reached_beside g.tdr g.vp access r gpa page w (λ writes. never_stored o s p all h.tracked g gpa page i.guest (ap (λ (a : Access). look_up (s.lps p).cached g.tdr (page_of_gpa gpa) a) (sym writes) ∙ found)))
+      (reach_aborts g.tdr g.vp access r gpa page w h.aborts))
+      (λ c cs g i. beside_source q p w l known h _ (left_beside g.vp w) (left_aborts g.vp w h.aborts))
 
 start_source : (o : Opening) (ws : Option (List ℕ)) → SourceHolds (start o ws).world
 start_source o ws = record {
@@ -51,6 +54,7 @@ start_source o ws = record {
     one = λ t u a b same. absurd (let no : false ≡ true = a.standing in cc);
     counted = λ t a. All-nil (IsOwnCounted (start o ws).world t);
   };
+  aborts = start_aborts o ws;
   sent = λ t n payload a e. cc;
   tracked = λ t n a live s. cc;
 }

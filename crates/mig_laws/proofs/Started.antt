@@ -19,13 +19,14 @@ use Rattle.td_words.specs.Slots.{output_slot}
 use Rattle.flat_core.specs.World.{World, Hidden, Image, Made, put}
 use Rattle.flat_core.specs.Opening.{Opening, Incoming}
 use Rattle.flat_core.specs.Row.{OperationRow, Passes}
-use Rattle.flat_core.specs.Effects.{pass_operation, tell_words}
+use Rattle.flat_core.specs.Effects.{set_op, begin_memory, pass_operation, tell_words, add_bundle}
 use Rattle.flat_core.specs.Guest.{ByRow, operation_of, is_pending_at, reach}
 use Rattle.flat_core.proofs.Operations.{operation_row, accepted}
 use Rattle.flat_core.specs.Conditions.{same_kind}
-use Rattle.flat_core.specs.Tree.{page_of_gpa}
+use Rattle.flat_core.specs.Tree.{page_of_gpa, entry_at}
 use Rattle.flat_core.specs.Translations.{look_up}
-use Rattle.flat_core.specs.Sessions.{missing_states}
+use Rattle.flat_core.specs.Sessions.{missing_states, count_bundle}
+use Rattle.flat_core.specs.Inputs.{Input, input_in}
 use Rattle.flat_core.specs.ExportRows.{vp_image, image_of}
 use Rattle.flat_core.specs.Table.{row_of}
 use Rattle.flat_core.specs.Lawful.{IsAlive, Lawful, is_exporting, all_differ}
@@ -37,6 +38,7 @@ use Rattle.flat_core.proofs.Acts.{event_world}
 use Rattle.flat_core.proofs.Induction.{in_runs}
 use Rattle.flat_core.proofs.Ranges.{live_exporting, paused_exporting, abortable_exporting}
 use Rattle.flat_core.proofs.Streams.{page_among}
+use Rattle.flat_bundles.proofs.Fills.{fill_either}
 use Rattle.mig_laws.specs.Ivs.{IsExporting}
 use Rattle.mig_laws.specs.Source.{SourceHolds, last_payload, is_page_at}
 use Rattle.mig_laws.specs.Paused.{is_start, has_start, image_words, PausesHold, IsSentAsPaused}
@@ -45,10 +47,11 @@ use Rattle.mig_laws.specs.States.{StatesHold, IsStateOf}
 use Rattle.mig_laws.specs.Image.{IsStarted}
 use Rattle.mig_laws.specs.Started.{is_td_state, is_vp_state, IsWhole, AreNoted, StartsHold, StartsAreKept, EveryRunIsASource}
 use Rattle.mig_laws.proofs.Stays.{IsBeside}
-use Rattle.mig_laws.proofs.Rows.{row-beside, never_exporting, taken_back}
-use Rattle.mig_laws.proofs.Ivs.{alive_of}
+use Rattle.mig_laws.proofs.Rows.{over_beside, row-beside, never_exporting, taken_back}
+use Rattle.mig_laws.proofs.Ivs.{alive_of, back_token}
 use Rattle.mig_laws.proofs.Places.{by_places, at_place, IsPlaceOf, within, last, place_of_more, last-append, last_none}
 use Rattle.mig_laws.proofs.Joined.{page_of_session}
+use Rattle.mig_laws.proofs.Calm.{row-calm}
 use Rattle.mig_laws.proofs.Guests.{operation_beside, left_beside, reached_beside, never_stored}
 use Rattle.mig_laws.proofs.Paused.{no_start_yet, not_post, only_live, abortable_stands, is_pausing}
 use Rattle.mig_laws.proofs.States.{states_kept, paused_stands, is_vp_kind}
@@ -128,15 +131,14 @@ some_last f bs new e = list_any-append f bs (new ∷ []) ∙ rw e (or_true (list
     or_true true = refl
     or_true false = refl
 
-module _ (w v : World) (new : Made) (more : v.outgoing.bundles ≡ w.outgoing.bundles ++ new ∷ []) (paused : v.hidden.paused ≡ w.hidden.paused) (over : has_start new.header.session w.outgoing.bundles ≡ false)
-    (starts : (s : ℕ) → is_start s new ≡ true → IsWhole v s w.outgoing.bundles []) (h : StartsHold w) where
-  off_session : (s : ℕ) (before after : List Made) (b : Made) → w.outgoing.bundles ≡ before ++ b ∷ after → is_start s b ≡ true → is_of s new ≡ false
-  off_session s before after b place start = and_right _ (new.header.session == s) (by_test (new.header.session == s)
-      (λ y. absurd (let some : has_start s w.outgoing.bundles ≡ true = subst (λ (bs : List Made). has_start s bs ≡ true) (sym place) (any_at (is_start s) before after b start) in
-      let own : has_start new.header.session w.outgoing.bundles ≡ true = subst (λ (z : ℕ). has_start z w.outgoing.bundles ≡ true) (sym (eqb-true new.header.session s y)) some in
-      let no : true ≡ false = sym own ∙ over in cc))
-      (λ y. y))
+off_session : (bundles : List Made) (new : Made) → has_start new.header.session bundles ≡ false → (s : ℕ) → has_start s bundles ≡ true → is_of s new ≡ false
+off_session bundles new over s some = and_right _ (new.header.session == s) (by_test (new.header.session == s)
+    (λ y. absurd (let own : has_start new.header.session bundles ≡ true = subst (λ (z : ℕ). has_start z bundles ≡ true) (sym (eqb-true new.header.session s y)) some in
+    let no : true ≡ false = sym own ∙ over in cc))
+    (λ y. y))
 
+module _ (w v : World) (new : Made) (more : v.outgoing.bundles ≡ w.outgoing.bundles ++ new ∷ []) (paused : v.hidden.paused ≡ w.hidden.paused) (off : (s : ℕ) → has_start s w.outgoing.bundles ≡ true → is_of s new ≡ false)
+    (starts : (s : ℕ) → is_start s new ≡ true → IsWhole v s w.outgoing.bundles []) (h : StartsHold w) where
   started_more : (s : ℕ) (before after : List Made) (b : Made) → v.outgoing.bundles ≡ before ++ b ∷ after → is_start s b ≡ true → IsWhole v s before after
   started_more s before after b place start = by (place_of_more w.outgoing.bundles before after new b (sym more ∙ place))
     where
@@ -150,13 +152,22 @@ module _ (w v : World) (new : Made) (more : v.outgoing.bundles ≡ w.outgoing.bu
             noted = ap (λ (f : ℕ → Option Image). f s) paused ∙ old.noted;
             td = old.td;
             vps = old.vps;
-            last = subst (All (λ y. is_of s y ≡ false)) rest (All-push (λ y. is_of s y ≡ false) front new old.last (off_session s before front b e start));
+            last = subst (All (λ y. is_of s y ≡ false)) rest (All-push (λ y. is_of s y ≡ false) front new old.last
+                (off s (subst (λ (bs : List Made). has_start s bs ≡ true) (sym e) (any_at (is_start s) before front b start))));
           }
       by (last e f) =
           let same : before ++ b ∷ [] ≡ before ++ b ∷ after = ap (λ (bs : List Made). bs ++ b ∷ []) e ∙ (ap (λ (z : Made). w.outgoing.bundles ++ z ∷ []) f ∙ (sym more ∙ place)) in
           let rest : [] ≡ after = drop_front before [] after b same in
           let whole = starts s (subst (λ (z : Made). is_start s z ≡ true) f start) in
           subst (λ (z : List Made). IsWhole v s before z) rest (subst (λ (z : List Made). IsWhole v s z []) (sym e) whole)
+
+-- the token back to a source says nothing of one
+starts_back : (w : World) (token : Made) → token.header.kind ≡ 6 → StartsHold w → StartsHold (add_bundle token w)
+starts_back w token six h = record {
+  given = h.given;
+  noted = λ x a. noted_stays w (add_bundle token w) x refl refl (λ p e. refl) (λ f e. some_more f w.outgoing.bundles token e) (h.noted x (record { alive = a.alive; standing = a.standing }));
+  started = started_more w (add_bundle token w) token refl refl (λ s e. rw six refl) (λ s e. absurd (let no : false ≡ true = rw six at e in cc)) h;
+}
 
 -- where nothing is noted
 notes_same : (w v : World) → v.tds.td_exported ≡ w.tds.td_exported → v.tds.vps_exported ≡ w.tds.vps_exported → v.tds.vps ≡ w.tds.vps → v.vps.exported ≡ w.vps.exported → v.vps.indexes ≡ w.vps.indexes → KeepsNotes w v
@@ -196,6 +207,11 @@ module _ (o : Opening) (me : ℕ) (w : World) (l : Lawful o.machine w) where
             rw off refl;
         low = λ p. by_test (p == page) (λ y. rw y (omega arith)) (λ y. rw y (omega arith));
       }
+  row-notes (call.ImportMem t slot page) ps none =
+      let x : Input = input_in (o.bundles slot) in
+      fill_either (λ u. KeepsNotes w (count_bundle t x.header.stream (begin_memory t (page_of_gpa x.header.gpa) x.words u))) t x.header.gpa page x.words (entry_at w t 0 x.header.gpa).state w
+      (notes_same w _ refl refl refl refl refl) (notes_same w _ refl refl refl refl refl)
+  row-notes (call.ImportAbort t slot) ps none = cc
   row-notes (call.ExportStateImmutable t slot) ps none = cc
   row-notes (call.ExportMem t gpa k slot) ps none = cc
   row-notes (call.ExportTrack t slot start) ps none = cc
@@ -251,7 +267,7 @@ module _ (o : Opening) (me : ℕ) (w : World) (l : Lawful o.machine w) (src : So
   one_more_starts v new more hidden over starts given noted = record {
     given = given;
     noted = noted;
-    started = started_more w v new more (ap (λ (z : Hidden). z.paused) hidden) over starts h;
+    started = started_more w v new more (ap (λ (z : Hidden). z.paused) hidden) (off_session w.outgoing.bundles new over) starts h;
   }
 
   immutable_starts : (t slot : ℕ) → Passes ((row_of o me (call.ExportStateImmutable t slot)).items w) → StartsHold (Then (call.ExportStateImmutable t slot))
@@ -389,7 +405,9 @@ module _ (o : Opening) (me : ℕ) (w : World) (l : Lawful o.machine w) (src : So
   row-starts (call.ExportTrack t slot start) ps = track_starts t slot start ps
   row-starts (call.ExportStateTd t slot) ps = td_starts t slot ps
   row-starts (call.ExportStateVp t p slot) ps = vp_starts t p slot ps
-  row-starts c ps = starts_stay w (Then c) (row-beside o me w l c ps refl) refl (row-notes o me w l c ps refl) h
+  row-starts (call.ImportAbort t slot) ps =
+      starts_back (set_op t op.FailedImport w) (back_token w t slot) refl (starts_stay w (set_op t op.FailedImport w) (over_beside o me w l t op.FailedImport refl) refl (notes_same w _ refl refl refl refl refl) h)
+  row-starts c ps = starts_stay w (Then c) (row-beside o me w l c ps refl) (row-calm o me w c ps refl refl).noted (row-notes o me w l c ps refl) h
 
 -- a guest's event notes nothing, and pauses nothing
 abbrev IsPlain : World → World → Type 0

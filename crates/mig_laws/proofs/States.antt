@@ -21,7 +21,7 @@ use Rattle.flat_core.specs.Row.{Passes}
 use Rattle.flat_core.specs.Conditions.{same_kind}
 use Rattle.flat_core.specs.Digests.{six_words}
 use Rattle.flat_core.specs.Tree.{page_of_gpa, number_at, entry_at}
-use Rattle.flat_core.specs.Effects.{set_op, restate}
+use Rattle.flat_core.specs.Effects.{set_op, restate, add_bundle}
 use Rattle.flat_core.specs.Translations.{look_up}
 use Rattle.flat_core.specs.Sessions.{About, about, header_of, stream_page, stream_counter, bundles_so_far, payload_words, make_bundle, begin_session, set_mig_epoch, count_export, note_td_export, note_vp_export}
 use Rattle.flat_core.specs.ExportRows.{vp_image, image_of, note_pause}
@@ -41,11 +41,11 @@ use Rattle.mig_laws.specs.Ivs.{is_forward, IsExporting, IvsHold}
 use Rattle.mig_laws.specs.Source.{SourceHolds}
 use Rattle.mig_laws.specs.Paused.{is_start, has_start, is_paused, PausesHold}
 use Rattle.mig_laws.specs.WellMade.{is_of}
-use Rattle.mig_laws.specs.States.{IsVpState, IsStateOf, AreStatesAsPaused, StartedHaveTheirStates, IsOwnState, StatesHold, StatesAreKept}
+use Rattle.mig_laws.specs.States.{IsVpState, IsStateOf, AreStatesAsPaused, StatesSentAreAsPaused, IsOwnState, StatesHold, StatesAreKept}
 use Rattle.mig_laws.proofs.Stays.{IsBeside}
-use Rattle.mig_laws.proofs.Rows.{row-beside}
-use Rattle.mig_laws.proofs.Ivs.{IsGiven, alive_of, ivs_stay, session_same, begun_ivs}
-use Rattle.mig_laws.proofs.Calm.{IsCalm, row-calm}
+use Rattle.mig_laws.proofs.Rows.{over_beside, row-beside}
+use Rattle.mig_laws.proofs.Ivs.{IsGiven, alive_of, back_token, ivs_stay, session_same, begun_ivs}
+use Rattle.mig_laws.proofs.Calm.{IsCalm, calm_over, row-calm}
 use Rattle.mig_laws.proofs.Guests.{operation_beside, left_beside, reached_beside, never_stored}
 use Rattle.mig_laws.proofs.Paused.{start_end, no_start_yet, not_post, only_live, abortable_stands, is_pausing, calm_of, operation_calm, reach_calm, pauses_kept}
 use Rattle.mig_laws.proofs.Still.{IsStill, image_stays, still_same, row-still, operation_still, reach_still}
@@ -127,6 +127,29 @@ module _ (t slot : ℕ) (a : About) (payload : List ℕ) (w : World) (i : IvsHol
           states = All-push (λ c. is_of s c ≡ true → IsStateOf old.image c) w.outgoing.bundles new old.states (λ k. absurd (let no : true ≡ false = sym k ∙ elsewhere s began in cc));
         });
   }
+
+-- the token back to a source is of no session of one
+states_back : (w : World) (token : Made) → token.header.kind ≡ 6 → StatesHold w → StatesHold (add_bundle token w)
+states_back w token six h = record {
+  images = λ x b p. h.images x (stands x b) p;
+  states = λ x b. All-push (OwnIn after x) w.outgoing.bundles token
+      (All-weaker (OwnIn w x) (OwnIn after x) (λ c o e. (let old = o e in record { first = old.first; td = old.td; vp = old.vp })) w.outgoing.bundles (h.states x (stands x b))) (λ e. none (w.tds.sessions x) e);
+  sent = λ s e. (let old = h.sent s (sym (start_end (is_start s) w.outgoing.bundles token (rw six refl)) ∙ e) in
+      record {
+        image = old.image;
+        noted = old.noted;
+        states = All-push (λ c. is_of s c ≡ true → IsStateOf old.image c) w.outgoing.bundles token old.states (λ k. none s k);
+      });
+}
+  where
+    after : World
+    after = add_bundle token w
+
+    stands : (x : ℕ) → IsExporting after x → IsExporting w x
+    stands x b = record { alive = b.alive; standing = b.standing }
+
+    none : {A : Type 0} (s : ℕ) → is_of s token ≡ true → A
+    none s e = absurd (let no : false ≡ true = rw six at e in cc)
 
 -- where what isn't asked changes, and nothing of states
 states_as : (w v : World) → v.outgoing.bundles ≡ w.outgoing.bundles → ((x : ℕ) → IsExporting v x → IsExporting w x) → v.tds.sessions ≡ w.tds.sessions → v.tds.ops ≡ w.tds.ops → v.hidden ≡ w.hidden → v.vps.positions ≡ w.vps.positions
@@ -395,6 +418,9 @@ module _ (o : Opening) (me : ℕ) (w : World) (l : Lawful o.machine w) (src : So
   row-states (call.ExportTrack t slot start) ps = token_states t slot start ps
   row-states (call.ExportStateTd t slot) ps = td_states t slot ps
   row-states (call.ExportStateVp t p slot) ps = vp_states t p slot ps
+  row-states (call.ImportAbort t slot) ps =
+      let u : World = set_op t op.FailedImport w in
+      states_back u (back_token w t slot) refl (states_stay w u (over_beside o me w l t op.FailedImport refl) (calm_over t op.FailedImport w refl) (still_same w u refl refl refl refl refl) h)
   row-states c ps = states_stay w (After c) (row-beside o me w l c ps refl) (row-calm o me w c ps refl refl) (row-still o me w l c ps refl) h
 
 module _ (o : Opening) (bundles : ℕ → Option Incoming) (s : State) (p : ℕ) (all : IsGuarded o s) (src : SourceHolds s.world) (pauses : PausesHold s.world) (h : StatesHold s.world) where
@@ -431,5 +457,5 @@ states_kept = record {
   event = λ o bundles s p h. (pauses_kept.event o bundles s p h.0, event_states o bundles s p h.0.0.0.0 h.0.0.1 h.0.1 h.1);
 }
 
-pub started_have_states : StartedHaveTheirStates
+pub started_have_states : StatesSentAreAsPaused
 started_have_states o ws schedule = (in_runs (λ o s. (((IsGuarded o s × ArePagesKnown s.world) × SourceHolds s.world) × PausesHold s.world) × StatesHold s.world) states_kept o ws schedule).1.sent

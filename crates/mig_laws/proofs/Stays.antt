@@ -1,5 +1,5 @@
 -- What stays of the TDs that are exported, where an act makes no bundle: as much as the laws of this crate ask.
-use Rattle.std.proofs.Common.{◌≡◌, refl, sym, ◌∙◌, ap, subst, ℕ, ◌<◌, ◌≤◌, List, [], ◌∷◌, length, Option, Some, None, Bool, true, false, ◌==◌, nat_lt, arith}
+use Rattle.std.proofs.Common.{◌≡◌, refl, sym, ◌∙◌, ap, subst, ℕ, ◌+◌, ◌<◌, ◌≤◌, List, [], ◌∷◌, length, Option, Some, None, Bool, true, false, ◌==◌, nat_lt, arith}
 use Rattle.std.specs.List.{list_any, list_all}
 use Rattle.std.proofs.lemmas.Bool.{eqb-true, and_parts, ltb-true, lt-ltb}
 use Rattle.td_words.specs.declared.names.LifeState.{LifeState}
@@ -72,6 +72,12 @@ entered_elsewhere entered b v x (u ∷ us) off h = by_test (u == v)
     by : (u == v) ≡ false → (all_later b (entry_epochs entered us) ≡ true → all_later b (entry_epochs (put entered v x) us) ≡ true) → (y : Option ℕ) → entered u ≡ y → all_later b (entry_epochs (put entered v x) (u ∷ us)) ≡ true
     by n later None at = rw (n, at) (later (rw at at h))
     by n later (Some d) at = (let both = and_parts (nat_lt b d) (all_later b (entry_epochs entered us)) (rw at at h) in rw (n, at, both.0) (later both.1))
+
+-- where one stream counts one more, none has counted less
+pub counted_more : (w : World) (t k x j : ℕ) → stream_counter w x j ≤ put w.streams.counters (stream_page w t k) (stream_counter w t k + 1) (stream_page w x j)
+counted_more w t k x j = by_test (stream_page w x j == stream_page w t k)
+    (λ y. rw y (let same = ap w.streams.counters (eqb-true _ _ y) in omega (arith, same)))
+    (λ y. rw y (omega arith))
 
 -- of a session that stands: it stood before, with the same streams, whose counters haven't fallen
 pub record SessionStays (w v : World) (x : ℕ) : Type 0 where

@@ -17,15 +17,20 @@ use Rattle.flat_core.specs.World.{World, VpImage, Pages}
 use Rattle.flat_core.specs.Opening.{Opening}
 use Rattle.flat_core.specs.Row.{OperationRow, Passes}
 use Rattle.flat_core.specs.Conditions.{same_kind, running_ops}
-use Rattle.flat_core.specs.Effects.{pass_operation, tell_words}
+use Rattle.flat_core.specs.Tree.{page_of_gpa, entry_at}
+use Rattle.flat_core.specs.Effects.{begin_memory, pass_operation, tell_words}
+use Rattle.flat_core.specs.Sessions.{count_bundle}
+use Rattle.flat_core.specs.Inputs.{Input, input_in}
 use Rattle.flat_core.specs.Guest.{ByRow, operation_of, is_pending_at, reach}
 use Rattle.flat_core.specs.ExportRows.{vp_image, image_of}
+use Rattle.flat_core.specs.ImportRows.{vp_state_ops}
 use Rattle.flat_core.specs.Table.{row_of}
 use Rattle.flat_core.specs.Lawful.{IsAlive, IsPageOf, ArePagesOf, Lawful}
 use Rattle.flat_core.proofs.Tests.{by_test, host_kind, same_self}
 use Rattle.flat_core.proofs.Parts.{IsLive}
 use Rattle.flat_core.proofs.Operations.{operation_row, accepted}
 use Rattle.flat_core.proofs.Streams.{page_among}
+use Rattle.flat_bundles.proofs.Fills.{fill_either}
 use Rattle.mig_laws.specs.Ivs.{IsExporting}
 use Rattle.mig_laws.specs.Paused.{is_paused}
 use Rattle.mig_laws.proofs.Rows.{never_exporting, taken_back}
@@ -101,6 +106,15 @@ module _ (o : Opening) (me : ℕ) (w : World) (l : Lawful o.machine w) where
             λ j. record { registers = λ r. registers r j; position = w.vps.positions q };
       }
 
+  imported_still : (t p slot : ℕ) → w.pages.owners p ≡ t → (IsExporting (After (call.ImportStateVp t p slot)) t → ⊥) → IsStill w (After (call.ImportStateVp t p slot))
+  imported_still t p slot own none =
+      let v : World = After (call.ImportStateVp t p slot) in
+      record {
+        build = λ x a. (refl, refl);
+        rtmrs = λ x a e. refl;
+        vp = λ x a e q h. (let off = other_vp w t x p q (record { kind = a.alive.kind; life = a.alive.life }) l.tds.vps own (not_t v t none x a) h in rw off refl);
+      }
+
   pub row-still : (c : Call) → Passes ((row_of o me c).items w) → output_slot c ≡ None → IsStill w (After c)
   row-still (call.MngCreate t k) ps none =
       let v : World = After (call.MngCreate t k) in
@@ -115,6 +129,22 @@ module _ (o : Opening) (me : ℕ) (w : World) (l : Lawful o.machine w) where
   row-still (call.VpInit t p value) ps none =
       initialized_still t p value (eqb-true (w.pages.owners p) t (and_parts (same_kind (w.pages.kinds p) kind.Tdvpr) (w.pages.owners p == t) ps.1.1.1.1.1.1.1.0).1)
       (λ a. never_exporting (op.Initialized ∷ []) (w.tds.ops t) (refl, refl, refl) ps.1.1.1.1.1.1.0 a.standing)
+  row-still (call.ImportStateImmutable t slot) ps none =
+      let v : World = After (call.ImportStateImmutable t slot) in
+      let other = not_t v t (λ a. let no : false ≡ true = rw (same_self t) at a.standing in cc) in
+      record { build = λ x a. (let y = other x a in (rw y refl, refl)); rtmrs = λ x a p. refl; vp = λ x a p q h. refl }
+  row-still (call.ImportMem t slot page) ps none =
+      let x : Input = input_in (o.bundles slot) in
+      fill_either (λ u. IsStill w (count_bundle t x.header.stream (begin_memory t (page_of_gpa x.header.gpa) x.words u))) t x.header.gpa page x.words (entry_at w t 0 x.header.gpa).state w
+      (still_same w _ refl refl refl refl refl) (still_same w _ refl refl refl refl refl)
+  row-still (call.ImportStateTd t slot) ps none =
+      let v : World = After (call.ImportStateTd t slot) in
+      let other = not_t v t (λ a. let no : false ≡ true = rw (same_self t) at a.standing in cc) in
+      record { build = λ x a. (refl, refl); rtmrs = λ x a p. (let y = other x a in rw y refl); vp = λ x a p q h. refl }
+  row-still (call.ImportStateVp t p slot) ps none =
+      imported_still t p slot (eqb-true (w.pages.owners p) t (and_parts (same_kind (w.pages.kinds p) kind.Tdvpr) (w.pages.owners p == t) ps.1.1.1.1.1.1.1.1.1.1.0).1)
+      (λ a. never_exporting vp_state_ops (w.tds.ops t) (refl, refl, refl) ps.1.1.1.1.1.1.1.1.1.0 a.standing)
+  row-still (call.ImportAbort t slot) ps none = cc
   row-still (call.ExportStateImmutable t slot) ps none = cc
   row-still (call.ExportMem t gpa k slot) ps none = cc
   row-still (call.ExportTrack t slot start) ps none = cc

@@ -4,6 +4,7 @@ use Rattle.std.specs.List.{All, count_by}
 use Rattle.std.proofs.lemmas.Bool.{eqb-true, ne_eqb, and_left, and_right, lt-ltb, eqb-false}
 use Rattle.std.proofs.lemmas.List.Elements.{All-push, All-weaker}
 use Rattle.flat_core.specs.World.{World, Made}
+use Rattle.flat_core.specs.Effects.{add_bundle}
 use Rattle.flat_core.specs.Sessions.{About, header_of, make_bundle, stream_page, stream_counter, bundles_so_far}
 use Rattle.flat_core.proofs.Tests.{by_test, same_self}
 use Rattle.mig_laws.specs.Ivs.{is_forward, IsExporting, IsCounted, IvsHold}
@@ -40,6 +41,26 @@ session_total w t i exporting h =
     on b h = by_test (is_of (w.tds.sessions t) b)
         (λ e. let m = (h (forward_of (w.tds.sessions t) b e) (session_of (w.tds.sessions t) b e)).stream in rw (e, lt-ltb b.header.stream (length (w.tds.streams t)) m) refl)
         (λ e. and_left (is_of (w.tds.sessions t) b) _ e ∙ sym e)
+
+-- the token back to a source is of no session of one
+pub well_back : (w : World) (token : Made) → token.header.kind ≡ 6 → WellHolds w → WellHolds (add_bundle token w)
+well_back w token six h = record {
+  made = more_made w.outgoing.bundles token h.made (λ f. absurd (let no : false ≡ true = rw six at f in cc));
+  sessions = λ x b. (let says = h.sessions x (record { alive = b.alive; standing = b.standing }) in record {
+    counter = λ k m. says.counter k m ∙ sym (count-append (is_on (w.tds.sessions x) k) w.outgoing.bundles (token ∷ []) ∙ none (w.tds.sessions x) k);
+    each = All-push (AgreesWithOwn after x (w.tds.sessions x)) w.outgoing.bundles token
+        (All-weaker (AgreesWithOwn w x (w.tds.sessions x)) (AgreesWithOwn after x (w.tds.sessions x))
+        (λ c f e. (let k = f e in record { epoch = k.epoch; page = λ z. (let p = k.page z in record { exported = p.exported; first = p.first; last = p.last }); started = k.started })) w.outgoing.bundles says.each)
+        (λ e. absurd (let no : false ≡ true = rw six at e in cc));
+    room = says.room;
+  });
+}
+  where
+    after : World
+    after = add_bundle token w
+
+    none : (s k : ℕ) → count_by (is_on s k) w.outgoing.bundles + count_by (is_on s k) (token ∷ []) ≡ count_by (is_on s k) w.outgoing.bundles
+    none s k = (let no = count_no (is_on s k) token [] (rw six refl) in omega (arith, no))
 
 abbrev pub new_bundle : (t slot : ℕ) → About → List ℕ → World → Made
 new_bundle t slot a payload w = record { slot = slot; header = header_of w t a; payload = payload }

@@ -14,18 +14,20 @@ use Rattle.td_words.specs.declared.calls.Call.TheVariants as call
 use Rattle.td_words.specs.NameNumber.{op_number, life_number}
 use Rattle.td_words.specs.Packing.{Entry, is_exported}
 use Rattle.td_words.specs.Slots.{output_slot}
-use Rattle.flat_core.specs.World.{World, Made, put}
+use Rattle.flat_core.specs.World.{World, ClearHeader, Made, put}
 use Rattle.flat_core.specs.Opening.{Opening}
 use Rattle.flat_core.specs.Row.{Passes}
 use Rattle.flat_core.specs.Conditions.{same_kind, page_exclusive, host_page}
 use Rattle.flat_core.specs.Digests.{six_words}
 use Rattle.flat_core.specs.Tree.{page_of_gpa, number_at, entry_at, state_in, empty_below, has_page, named_page}
 use Rattle.flat_core.specs.Tracking.{tracked_page}
-use Rattle.flat_core.specs.Effects.{put_in, set_op, restate}
-use Rattle.flat_core.specs.Sessions.{About, about, stream_page, stream_counter, bundles_so_far, counter_room, other_epoch, payload_words, make_bundle, begin_session, set_mig_epoch, count_export, note_td_export, note_vp_export}
+use Rattle.flat_core.specs.Effects.{put_in, set_op, begin_memory, restate}
+use Rattle.flat_core.specs.Sessions.{About, about, stream_page, stream_counter, bundles_so_far, counter_room, other_epoch, payload_words, count_bundle, make_bundle, begin_session, set_mig_epoch, count_export, note_td_export, note_vp_export}
+use Rattle.flat_core.specs.Inputs.{input_in}
 use Rattle.flat_core.specs.MemRows.{open_states, blocked_states, removed_states}
 use Rattle.flat_core.specs.ExportRows.{live_ops, abortable_ops, restoring_ops, restored_states, write_blocked, write_unblocked}
 use Rattle.flat_core.specs.BundleRows.{paused_ops, exportable, tracked_in, start_epoch}
+use Rattle.flat_core.specs.ImportRows.{filling_ops, vp_state_ops, fill_page, is_start}
 use Rattle.flat_core.specs.Table.{row_of}
 use Rattle.flat_core.specs.Lawful.{IsAlive, Lawful, all_differ, is_exporting}
 use Rattle.flat_core.proofs.Tests.{by_test, host_kind, same_self}
@@ -33,15 +35,19 @@ use Rattle.flat_core.proofs.Keeps.{free_of}
 use Rattle.flat_core.proofs.Maps.{behind_walk}
 use Rattle.flat_core.proofs.Exports.{free_unmarked}
 use Rattle.flat_core.proofs.Ranges.{named_passed, opened_passed, block_restates, unblock_restates, page_removed, sept_removed, paused_exporting, abortable_exporting}
+use Rattle.flat_core.proofs.ImportKeeps.{td_state_importing, vp_state_importing}
 use Rattle.flat_core.proofs.Streams.{stream_among, stream_owned}
+use Rattle.flat_bundles.proofs.Fills.{fill_either}
 use Rattle.mig_laws.specs.Ivs.{IsExporting, IvsHold}
 use Rattle.mig_laws.specs.Source.{is_page_at}
 use Rattle.mig_laws.specs.WellMade.{is_of, is_on, IsBehind, IsMarked, AgreesWith, SessionAgrees, WellHolds}
-use Rattle.mig_laws.proofs.Rows.{never_exporting, not_among, row-beside}
-use Rattle.mig_laws.proofs.Ivs.{IsGiven, ivs_stay, session_same, begun_ivs, alive_of}
+use Rattle.mig_laws.proofs.Stays.{IsBeside}
+use Rattle.mig_laws.proofs.Rows.{never_exporting, never_then, not_among, over_beside, row-beside}
+use Rattle.mig_laws.proofs.Ivs.{IsGiven, ivs_stay, session_same, begun_ivs, alive_of, back_token}
+use Rattle.mig_laws.proofs.OneMore.{token_fills, fills_importing}
 use Rattle.mig_laws.proofs.Places.{count_none}
 use Rattle.mig_laws.proofs.Joined.{forward_of, session_of}
-use Rattle.mig_laws.proofs.WellMade.{AgreesWithOwn, new_bundle, made_well}
+use Rattle.mig_laws.proofs.WellMade.{AgreesWithOwn, new_bundle, made_well, well_back}
 use Rattle.mig_laws.proofs.WellStays.{WellStays, stays_well, well_beside, NumbersStay, numbers_well, marks, Seen, seen, seen_exporting, seen_well}
 
 same_le : (n : ℕ) → n ≤ n
@@ -357,6 +363,40 @@ module _ (o : Opening) (me : ℕ) (w : World) (l : Lawful o.machine w) (i : IvsH
     started = λ z. ap (λ (f : ℕ → OpState). f x) ops ∙ z;
   }
 
+  -- where an op state comes that is none of an export
+  over_numbers : (t : ℕ) (s : OpState) → is_exporting s ≡ false → (x : ℕ) → IsExporting (set_op t s w) x → NumbersStay w (set_op t s w) x
+  over_numbers t s off x a = by_test (x == t)
+      (λ y. absurd (let now : is_exporting s ≡ true = rw y at a.standing in let no : true ≡ false = sym now ∙ off in cc))
+      (λ y. record { counter = λ j m. refl; epoch = refl; mark = λ n e. refl; started = λ e. rw y e })
+
+  -- a TD is imported, whose stream counts a bundle: another TD's streams are others
+  import_numbers : (v : World) (t k : ℕ) → IsBeside w v → IsAlive w.pages w.tds t → k < length (w.tds.streams t) → (IsExporting v t → ⊥) → v.streams.counters ≡ put w.streams.counters (stream_page w t k) (stream_counter w t k + 1)
+      → ((x : ℕ) → (x == t) ≡ false → v.tds.mig_epochs x ≡ w.tds.mig_epochs x) → ((x n : ℕ) → (x == t) ≡ false → v.tds.entries x 0 n ≡ w.tds.entries x 0 n) → ((x : ℕ) → (x == t) ≡ false → v.tds.ops x ≡ w.tds.ops x)
+      → (x : ℕ) → IsExporting v x → NumbersStay w v x
+  import_numbers v t k beside alive few none counters epochs entries ops x a = by_test (x == t)
+      (λ y. absurd (none (subst (λ (z : ℕ). IsExporting v z) (eqb-true x t y) a)))
+      (λ y. record {
+        counter = λ j m. ap (λ (f : ℕ → ℕ). f (stream_page w x j)) counters ∙ other j m y;
+        epoch = epochs x y;
+        mark = λ n e. ap (λ (z : Entry). z.mark) (entries x n y);
+        started = λ e. ops x y ∙ e;
+      })
+    where
+      other : (j : ℕ) → j < length (w.tds.streams x) → (x == t) ≡ false → put w.streams.counters (stream_page w t k) (stream_counter w t k + 1) (stream_page w x j) ≡ stream_counter w x j
+      other j m y =
+          let off : (stream_page w x j == stream_page w t k) ≡ false = by_test (stream_page w x j == stream_page w t k)
+          (λ z. absurd (eqb-false x t y (own_pages o w l x t j k (beside.each x a).session.exporting.alive alive m few (eqb-true _ _ z)).0))
+          (λ z. z) in
+          rw off refl
+
+  page_numbers : (t k gpa page : ℕ) (ws : ℕ → ℕ) → let v = count_bundle t k (begin_memory t (page_of_gpa gpa) ws (fill_page t gpa page ws (entry_at w t 0 gpa).state w)) in
+      IsBeside w v → IsAlive w.pages w.tds t → k < length (w.tds.streams t) → (is_exporting (w.tds.ops t) ≡ true → ⊥) → (x : ℕ) → IsExporting v x → NumbersStay w v x
+  page_numbers t k gpa page ws =
+      fill_either (λ u. let v = count_bundle t k (begin_memory t (page_of_gpa gpa) ws u) in
+      IsBeside w v → IsAlive w.pages w.tds t → k < length (w.tds.streams t) → (is_exporting (w.tds.ops t) ≡ true → ⊥) → (x : ℕ) → IsExporting v x → NumbersStay w v x) t gpa page ws (entry_at w t 0 gpa).state w
+      (λ b alive few none x a. import_numbers _ t k b alive few (λ e. none e.standing) refl (λ z y. refl) (λ z n y. rw y refl) (λ z y. refl) x a)
+      (λ b alive few none x a. import_numbers _ t k b alive few (λ e. none e.standing) refl (λ z y. refl) (λ z n y. refl) (λ z y. refl) x a)
+
   numbers : (c : Call) → Passes ((row_of o me c).items w) → output_slot c ≡ None → (x : ℕ) → IsExporting (After c) x → NumbersStay w (After c) x
   numbers (call.MngCreate t k) ps none x a = by_test (x == t)
       (λ y. absurd (let no : false ≡ true = rw y at a.standing in cc))
@@ -418,9 +458,36 @@ module _ (o : Opening) (me : ℕ) (w : World) (l : Lawful o.machine w) (i : IvsH
         (λ y. absurd (never_of op.PostExport live_ops (w.tds.ops t) refl ps.1.1.1.1.0 (ap w.tds.ops (sym (eqb-true x t y)) ∙ e)))
         (λ y. rw y e);
   }
-  numbers (call.ExportAbort t) ps none x a = by_test (x == t)
+  numbers (call.ExportAbort t) ps none x a = over_numbers t op.Runnable refl x a
+  numbers (call.ExportAbortByToken t slot) ps none x a = over_numbers t op.Runnable refl x a
+  numbers (call.ImportEnd t) ps none x a = over_numbers t op.Runnable refl x a
+  numbers (call.ImportCommit t) ps none x a = by_test (x == t)
       (λ y. absurd (let no : false ≡ true = rw y at a.standing in cc))
       (λ y. record { counter = λ j m. refl; epoch = refl; mark = λ n e. refl; started = λ e. rw y e })
+  numbers (call.ImportStateImmutable t slot) ps none x a =
+      let head = ps.1.1.1.1 in
+      import_numbers (After (call.ImportStateImmutable t slot)) t 0 (row-beside o me w l (call.ImportStateImmutable t slot) ps refl) (alive_of w t head.0 head.1.0) (ltb-true _ _ head.1.1.1.1.0)
+      (λ b. let no : false ≡ true = rw (same_self t) at b.standing in cc) refl (λ z y. rw y refl) (λ z n y. refl) (λ z y. rw y refl) x a
+  numbers (call.ImportMem t slot page) ps none x a =
+      let h : ClearHeader = (input_in (o.bundles slot)).header in
+      let head = ps.1.1.1.1.1.1 in
+      page_numbers t h.stream h.gpa page (input_in (o.bundles slot)).words (row-beside o me w l (call.ImportMem t slot page) ps refl) (alive_of w t head.0 head.1.0) (ltb-true _ _ head.1.1.1.1.0)
+      (never_exporting filling_ops (w.tds.ops t) (refl, refl, refl) head.1.1.1.0) x a
+  numbers (call.ImportTrack t slot) ps none x a =
+      let b : Bool = is_start (input_in (o.bundles slot)).header in
+      let head = ps.1.1.1.1 in
+      import_numbers (After (call.ImportTrack t slot)) t 0 (row-beside o me w l (call.ImportTrack t slot) ps refl) (alive_of w t head.0 head.1.0)
+      (l.sessions.import_stream t (fills_importing (w.tds.ops t) (token_fills b (w.tds.ops t) head.1.1.1.0)))
+      (λ e. never_then b (w.tds.ops t) head.1.1.1.0 (rw (same_self t) at e.standing)) refl (λ z y. rw y refl) (λ z n y. refl) (λ z y. rw y refl) x a
+  numbers (call.ImportStateTd t slot) ps none x a =
+      let head = ps.1.1.1.1 in
+      import_numbers (After (call.ImportStateTd t slot)) t 0 (row-beside o me w l (call.ImportStateTd t slot) ps refl) (alive_of w t head.0 head.1.0) (l.sessions.import_stream t (td_state_importing (w.tds.ops t) head.1.1.1.0))
+      (λ b. let no : false ≡ true = rw (same_self t) at b.standing in cc) refl (λ z y. refl) (λ z n y. refl) (λ z y. rw y refl) x a
+  numbers (call.ImportStateVp t p slot) ps none x a =
+      let head = ps.1.1.1.1.1.1 in
+      import_numbers (After (call.ImportStateVp t p slot)) t 0 (row-beside o me w l (call.ImportStateVp t p slot) ps refl) (alive_of w t head.0 head.1.0) (l.sessions.import_stream t (vp_state_importing (w.tds.ops t) head.1.1.1.0))
+      (λ b. never_exporting vp_state_ops (w.tds.ops t) (refl, refl, refl) head.1.1.1.0 b.standing) refl (λ z y. refl) (λ z n y. refl) (λ z y. refl) x a
+  numbers (call.ImportAbort t slot) ps none x a = cc
   numbers (call.ExportRestore t gpa) ps none x a = by_test (x == t)
       (λ y. absurd (
       let p = opened_passed w t gpa restoring_ops restored_states ps.1.1.1 in
@@ -475,4 +542,7 @@ module _ (o : Opening) (me : ℕ) (w : World) (l : Lawful o.machine w) (i : IvsH
       let head = ps.1.1.1 in
       paused_well t slot (record (about 2 (w.tds.mig_epochs t)) { index = w.vps.indexes p; info = w.vps.positions p % 2 ^ 32 }) (payload_words (w.hidden.registers p) 8) (note_vp_export t p w)
       head.0 head.1.0 head.1.1.1.0 refl refl refl refl refl
+  row-well (call.ImportAbort t slot) ps =
+      let u : World = set_op t op.FailedImport w in
+      well_back u (back_token w t slot) refl (numbers_well w u (over_beside o me w l t op.FailedImport refl) (over_numbers t op.FailedImport refl) h)
   row-well c ps = numbers_well w (After c) (row-beside o me w l c ps refl) (numbers c ps refl) h

@@ -1,37 +1,21 @@
 -- The destination's half of the law of the image: what a TD that is being imported has of the bundles that its source made (TD
 -- Migration Architecture, "Migration Session Control"; ABI Reference, "TDH.IMPORT" leaf functions).
-use Rattle.std.specs.Prelude.{◌≡◌, ◌≢◌, ℕ, ◌≤◌, List, ◌∷◌, ◌++◌, length, map, Option, Some, None, option_map, Bool, true, false, ◌==◌, ◌&&◌, All, slice_get}
+use Rattle.std.specs.Prelude.{◌≡◌, ◌≢◌, ℕ, ◌≤◌, List, ◌∷◌, ◌++◌, length, map, Option, Some, None, option_map, Bool, true, ◌==◌, ◌&&◌, All, slice_get}
 use Rattle.std.specs.List.{list_any}
-use Rattle.td_words.specs.declared.names.OpState.{OpState}
 use Rattle.td_words.specs.declared.names.OpState.TheVariants as op
 use Rattle.td_words.specs.declared.names.VcpuState.TheVariants as vcpu
-use Rattle.td_words.specs.declared.calls.Call.{Call}
 use Rattle.flat_core.specs.World.{World, Image, Made}
-use Rattle.flat_core.specs.Opening.{Opening}
-use Rattle.flat_core.specs.Row.{Row, Passes}
 use Rattle.flat_core.specs.Sessions.{payload_words}
 use Rattle.flat_core.specs.Inputs.{word_given}
-use Rattle.flat_core.specs.ImportRows.{import_immutable, import_page, import_token, import_td, import_vp, commit_import, end_import, abort_import, abort_by_token}
-use Rattle.flat_core.specs.Table.{row_of}
-use Rattle.flat_core.specs.Lawful.{IsAlive, Lawful}
-use Rattle.flat_core.specs.Laws.{IsKept, ArePagesKnown}
+use Rattle.flat_core.specs.Lawful.{IsAlive}
+use Rattle.flat_core.specs.Laws.{IsKeptInRuns, ArePagesKnown}
 use Rattle.flat_core.specs.AccessLaw.{IsGuarded}
+use Rattle.mig_laws.specs.Ivs.{IsImporting}
 use Rattle.mig_laws.specs.Source.{last_payload, known_words}
 use Rattle.mig_laws.specs.Paused.{is_start}
 use Rattle.mig_laws.specs.WellMade.{is_of, is_token}
 use Rattle.mig_laws.specs.Imported.{is_imported, last_imported, AreImported}
 use Rattle.mig_laws.specs.Image.{Unforged, StartsFromPause, IsSource}
-
--- an import that has begun, and is neither committed nor given up
-abbrev pub is_filling : OpState → Bool
-is_filling op.MemoryImport = true
-is_filling op.StateImport = true
-is_filling op.PostImport = true
-is_filling _ = false
-
-pub record IsImporting (w : World) (t : ℕ) : Type 0 where
-  pub alive : IsAlive w.pages w.tds t
-  pub standing : is_filling (w.tds.ops t) ≡ true
 
 -- how many bundles of each stream were imported
 abbrev pub counts_of : World → ℕ → List ℕ
@@ -99,28 +83,8 @@ pub record DestinationHolds (source w : World) : Type 0 where
   pub empty : (t : ℕ) → IsAlive w.pages w.tds t → w.tds.ops t ≡ op.Uninitialized → (n : ℕ) → w.hidden.memories t n ≡ None
   pub given : (session : ℕ) (start : Image) → w.hidden.given session ≡ Some start → StartsFromPause source session start
 
--- a row whose act keeps it, where its conditions held
-abbrev pub KeepsDestination : (source : World) → Opening → Row → Type 0
-KeepsDestination source o row = (w : World) → Lawful o.machine w → DestinationHolds source w → Passes (row.items w) → DestinationHolds source (row.act w)
-
--- So does each row of an import, where no tag is forged; IMPORT.COMMIT notes what the TD starts with.
-pub record ImportRowsKeepIt (source : World) (o : Opening) : Type 0 where
-  pub immutable : (tdr slot : ℕ) → KeepsDestination source o (import_immutable o.machine (o.bundles slot) tdr slot)
-  pub page : (tdr slot page : ℕ) → KeepsDestination source o (import_page o.machine (o.bundles slot) tdr slot page)
-  pub token : (tdr slot : ℕ) → KeepsDestination source o (import_token o.machine (o.bundles slot) tdr slot)
-  pub td : (tdr slot : ℕ) → KeepsDestination source o (import_td o.machine (o.bundles slot) tdr slot)
-  pub vp : (tdr vp slot : ℕ) → KeepsDestination source o (import_vp o.machine (o.bundles slot) tdr vp slot)
-  pub commit : (tdr : ℕ) → KeepsDestination source o (commit_import o.machine tdr)
-  pub finish : (tdr : ℕ) → KeepsDestination source o (end_import o.machine tdr)
-  pub abort : (tdr slot : ℕ) → KeepsDestination source o (abort_import o.machine tdr slot)
-  pub export_abort : (tdr slot : ℕ) → KeepsDestination source o (abort_by_token o.machine (o.bundles slot) tdr slot)
-
-abbrev pub ImportsKeepTheImage : Type 0
-ImportsKeepTheImage = (source : World) (o : Opening) → IsSource source → Unforged o source.outgoing.bundles → ImportRowsKeepIt source o
-
--- So does each row of the leaf table, and each event of guests beside it: of a TD that is being imported no guest runs.
-abbrev pub CallsKeepTheImage : Type 0
-CallsKeepTheImage = (source : World) (o : Opening) (me : ℕ) (c : Call) → KeepsDestination source o (row_of o me c)
-
-abbrev pub EventsKeepTheImage : Type 0
-EventsKeepTheImage = (source : World) → IsKept (λ o s. (IsGuarded o s × ArePagesKnown s.world) × DestinationHolds source s.world)
+-- Where the source is one and no tag is forged, each event keeps it: IMPORT.COMMIT notes what the TD starts with, and of a TD
+-- that is being imported no guest runs.
+abbrev pub DestinationIsKept : Type 0
+DestinationIsKept = (source : World) → IsSource source
+    → IsKeptInRuns (λ o s. (IsGuarded o s × ArePagesKnown s.world) × (Unforged o source.outgoing.bundles → DestinationHolds source s.world))

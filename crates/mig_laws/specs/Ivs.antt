@@ -1,6 +1,8 @@
 -- No second use of an IV: no two bundles of a run that are sealed with one key have the same IV (TD Migration Architecture,
 -- "Migration Bundles"; SP 800-38D, section 8).
-use Rattle.std.specs.Prelude.{◌≡◌, ◌≢◌, ℕ, ◌+◌, ◌*◌, ◌^◌, ◌<◌, ◌≤◌, List, length, Bool, true, not, ◌==◌, All, AllPairs}
+use Rattle.std.specs.Prelude.{◌≡◌, ◌≢◌, ℕ, ◌+◌, ◌*◌, ◌^◌, ◌<◌, ◌≤◌, List, length, Bool, true, false, not, ◌==◌, All, AllPairs}
+use Rattle.td_words.specs.declared.names.OpState.{OpState}
+use Rattle.td_words.specs.declared.names.OpState.TheVariants as op
 use Rattle.flat_core.specs.World.{World, Made}
 use Rattle.flat_core.specs.Sessions.{stream_counter}
 use Rattle.flat_core.specs.Lawful.{IsAlive, is_exporting}
@@ -63,3 +65,22 @@ pub record IvsHold (w : World) : Type 0 where
   pub session : (t : ℕ) → IsExporting w t → w.tds.sessions t ≤ w.key_table.last_exported
   pub one : (t u : ℕ) → IsExporting w t → IsExporting w u → w.tds.sessions t ≡ w.tds.sessions u → t ≡ u
   pub counted : (t : ℕ) → IsExporting w t → All (λ b. is_forward b ≡ true → b.header.session ≡ w.tds.sessions t → IsCounted w t b) w.outgoing.bundles
+
+-- an import that has begun, and is neither committed nor given up
+abbrev pub is_filling : OpState → Bool
+is_filling op.MemoryImport = true
+is_filling op.StateImport = true
+is_filling op.PostImport = true
+is_filling _ = false
+
+pub record IsImporting (w : World) (t : ℕ) : Type 0 where
+  pub alive : IsAlive w.pages w.tds t
+  pub standing : is_filling (w.tds.ops t) ≡ true
+
+-- The token back to a source, of type 6, has counter 0: no session is given up twice. None is above the last one that was
+-- imported, no two imports that stand have one session, and of the session of one that stands there is no such token yet.
+pub record AbortsHold (w : World) : Type 0 where
+  pub given : All (λ b. is_forward b ≡ false → b.header.session ≤ w.key_table.last_imported) w.outgoing.bundles
+  pub session : (t : ℕ) → IsImporting w t → w.tds.sessions t ≤ w.key_table.last_imported
+  pub one : (t u : ℕ) → IsImporting w t → IsImporting w u → w.tds.sessions t ≡ w.tds.sessions u → t ≡ u
+  pub left : (t : ℕ) → IsImporting w t → All (λ b. is_forward b ≡ false → b.header.session ≢ w.tds.sessions t) w.outgoing.bundles

@@ -14,7 +14,7 @@ use Rattle.flat_core.specs.Lawful.{IsAlive}
 use Rattle.flat_core.specs.Event.{Reaches, next_event}
 use Rattle.flat_core.specs.Laws.{IsKept, HoldsInRuns, ArePagesKnown}
 use Rattle.flat_core.specs.AccessLaw.{IsGuarded}
-use Rattle.mig_laws.specs.Ivs.{IsExporting, IvsHold}
+use Rattle.mig_laws.specs.Ivs.{IsExporting, IvsHold, AbortsHold}
 
 -- a bundle of a session that has the page of a GPA page
 abbrev pub is_page_at : (session gpa_page : ℕ) → Made → Bool
@@ -49,9 +49,10 @@ ArePagesSent w = (t n : ℕ) (payload : List ℕ) → IsExporting w t → last_p
 abbrev pub AreSentTracked : World → Type 0
 AreSentTracked w = (t n : ℕ) → IsAlive w.pages w.tds t → w.tds.ops t ≡ LiveExport → (w.tds.entries t 0 n).state ≡ ExportedBlockedW → is_tracked w t (w.tds.entries t 0 n).page ≡ true
 
--- what each event keeps of a source
+-- what each event keeps of a source, and of the tokens back to one
 pub record SourceHolds (w : World) : Type 0 where
   pub ivs : IvsHold w
+  pub aborts : AbortsHold w
   pub sent : ArePagesSent w
   pub tracked : AreSentTracked w
 

@@ -32,8 +32,8 @@ pub record AreStatesAsPaused (w : World) (session : ℕ) : Type 0 where
   pub noted : w.hidden.paused session ≡ Some image
   pub states : All (λ b. is_of session b ≡ true → IsStateOf image b) w.outgoing.bundles
 
-abbrev pub StartedHaveTheirStates : Type 0
-StartedHaveTheirStates = HoldsInRuns (λ o s. (session : ℕ) → has_start session (bundles_in s) ≡ true → AreStatesAsPaused s.world session)
+abbrev pub StatesSentAreAsPaused : Type 0
+StatesSentAreAsPaused = HoldsInRuns (λ o s. (session : ℕ) → has_start session (bundles_in s) ≡ true → AreStatesAsPaused s.world session)
 
 -- Why it is so, world by world: the states are exported once the TD is paused, and from then on it is its image
 pub record IsOwnState (w : World) (t : ℕ) (b : Made) : Type 0 where

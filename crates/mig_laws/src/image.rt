@@ -1,22 +1,24 @@
-//! The law of the image, as far as it goes without imports in runs, as the contracts of functions that
-//! do nothing.
+//! The law of the image, as the contracts of functions that do nothing.
 
-ghost use Rattle.mig_laws.specs.Imports.{CallsKeepTheImage, EventsKeepTheImage, ImportsKeepTheImage};
+ghost use Rattle.mig_laws.specs.Image.{ImageLaw};
+ghost use Rattle.mig_laws.specs.Imports.{DestinationIsKept};
 ghost use Rattle.mig_laws.specs.Started.{EveryRunIsASource, StartsAreKept};
 
-/// What a destination has is what its source has made, where no tag is forged. Of a TD that is being
-/// imported, as many bundles of each stream as it has counted were imported, none of a later migration
-/// epoch than it is in; each page that it was given has the last imported payload of that page; MRTD and
-/// the number of virtual processors are those of the session's first bundle, and RTMRs, registers and
-/// positions those of the bundles that were imported. From POST_IMPORT on all was imported that the
-/// session made before its start token. So what IMPORT.COMMIT notes starts from what EXPORT.PAUSE noted:
-/// each page that was given has the image's words, and MRTD, RTMRs, registers and positions are the
-/// image's. Each row of an import keeps this; so does each row of the leaf table, which has no import
-/// yet, and each event of guests, of which none runs in a TD that is being imported.
-pub fn import_law()
-    ensures imports { ImportsKeepTheImage }
-    ensures calls { CallsKeepTheImage }
-    ensures events { EventsKeepTheImage }
+/// Every TD whose import is committed starts from what its source was at the pause, unless a tag was
+/// forged. Of any two runs, where each bundle of types 0 to 5 that comes into the one and opens was made
+/// by the other: under each session for which the one has noted at IMPORT.COMMIT what the TD starts
+/// with, EXPORT.PAUSE noted an image in the other. Each page that the TD was given has the image's
+/// words, MRTD and RTMRs are the image's, and there are as many virtual processors, each with the
+/// image's registers and position.
+///
+/// Why it is so is kept by each event. Of a TD that is being imported, as many bundles of each stream as
+/// it has counted were imported, none of a later migration epoch than it is in; each page that it was
+/// given has the last imported payload of that page; MRTD and the number of virtual processors are those
+/// of the session's first bundle, and RTMRs, registers and positions those of the bundles that were
+/// imported. From POST_IMPORT on all was imported that the session made before its start token.
+pub fn image_law()
+    ensures kept { DestinationIsKept }
+    ensures runs { ImageLaw }
 {}
 
 /// What its source has to be, each run is. Of each session with a start token EXPORT.PAUSE noted an

@@ -3,12 +3,13 @@
 ghost use Rattle.mig_laws.specs.Ivs.{NoIvComesTwice};
 ghost use Rattle.mig_laws.specs.Paused.{PausesAreKept, StartedAreSentAsPaused};
 ghost use Rattle.mig_laws.specs.Source.{SourceIsKept, EveryPageHoldsItsPayload, EverySentIsTracked, NoStoreReachesSent};
-ghost use Rattle.mig_laws.specs.States.{StartedHaveTheirStates, StatesAreKept};
+ghost use Rattle.mig_laws.specs.States.{StatesSentAreAsPaused, StatesAreKept};
 
 /// No IV is used twice under one key. In every state of every run, no two bundles that were made are
 /// sealed with the same key and have the same stream, session and iv. Each of these fits its bytes of
 /// the IV, and so no two have the same key and the same 12 bytes of IV. Types 0 to 5 go under the key
-/// from source to destination (SP 800-38D, section 8).
+/// from source to destination, and type 6 under the key back: a session is imported once, and so given
+/// up once (SP 800-38D, section 8).
 pub fn iv_law()
     ensures { NoIvComesTwice }
 {}
@@ -41,5 +42,5 @@ pub fn pause_law()
 /// bits, the position of the virtual processor at its index.
 pub fn state_law()
     ensures kept { StatesAreKept }
-    ensures runs { StartedHaveTheirStates }
+    ensures runs { StatesSentAreAsPaused }
 {}

@@ -1,0 +1,223 @@
+-- A session is imported once, and so given up once: what keeps it, act by act.
+use Rattle.std.proofs.Common.{◌≡◌, ◌≢◌, refl, sym, ◌∙◌, ap, subst, ℕ, zero, suc, ◌<◌, ◌≤◌, List, [], ◌∷◌, ◌++◌, Option, true, false, ◌==◌, arith}
+use Rattle.std.specs.List.{All}
+use Rattle.std.proofs.lemmas.Bool.{eqb-true, eq-eqb, ltb-true}
+use Rattle.std.proofs.lemmas.List.Elements.{All-nil, All-push, All-weaker}
+use Rattle.td_words.specs.declared.names.Access.{Access}
+use Rattle.td_words.specs.declared.names.Access.TheVariants.{Read, Write}
+use Rattle.td_words.specs.declared.names.PageKind.{PageKind}
+use Rattle.td_words.specs.declared.names.PageKind.TheVariants as kind
+use Rattle.td_words.specs.declared.names.LifeState.{LifeState}
+use Rattle.td_words.specs.declared.names.OpState.{OpState}
+use Rattle.td_words.specs.declared.names.OpState.TheVariants as op
+use Rattle.td_words.specs.declared.names.EntryState.TheVariants as entry
+use Rattle.td_words.specs.declared.calls.Call.{Call}
+use Rattle.td_words.specs.declared.calls.Call.TheVariants as call
+use Rattle.td_words.specs.declared.calls.GuestOp.{GuestOp}
+use Rattle.flat_core.specs.World.{World, Made}
+use Rattle.flat_core.specs.Opening.{Opening}
+use Rattle.flat_core.specs.Row.{OperationRow, Passes}
+use Rattle.flat_core.specs.Tree.{page_of_gpa, number_at, entry_at}
+use Rattle.flat_core.specs.Effects.{set_page, map_page, set_op, begin_memory, pass_operation, tell_words, leave_guest, add_bundle}
+use Rattle.flat_core.specs.Guest.{ByRow, operation_of, is_pending_at, reach}
+use Rattle.flat_core.specs.Sessions.{count_bundle}
+use Rattle.flat_core.specs.Inputs.{Input, input_in}
+use Rattle.flat_core.specs.ImportRows.{fill_page, is_start}
+use Rattle.flat_core.specs.Table.{row_of}
+use Rattle.flat_core.specs.Lawful.{IsAlive, Lawful}
+use Rattle.flat_core.specs.Event.{start}
+use Rattle.flat_core.proofs.Tests.{by_test, same_self}
+use Rattle.flat_core.proofs.Parts.{IsLive}
+use Rattle.flat_core.proofs.Operations.{operation_row, accepted}
+use Rattle.flat_bundles.proofs.Fills.{fill_either}
+use Rattle.mig_laws.specs.Ivs.{is_forward, is_filling, IsImporting, AbortsHold}
+use Rattle.mig_laws.proofs.Rows.{taken_back}
+use Rattle.mig_laws.proofs.Ivs.{alive_of, back_token, given_up_fills}
+use Rattle.mig_laws.proofs.OneMore.{filling_fills, td_state_fills, vp_state_fills, commit_fills, token_fills}
+use Rattle.mig_laws.proofs.Rest.{Filled}
+use Rattle.mig_laws.proofs.RestRows.{is_import, row-rests}
+
+-- what is said of each token back
+abbrev Back : (Made → Type 0) → Made → Type 0
+Back P b = is_forward b ≡ false → P b
+
+abbrev UpTo : ℕ → Made → Type 0
+UpTo last b = b.header.session ≤ last
+
+abbrev OtherThan : ℕ → Made → Type 0
+OtherThan session b = b.header.session ≢ session
+
+-- none comes to the bundles
+data NoneComes (before after : List Made) : Type 0 where
+  none : after ≡ before → NoneComes before after
+  forward : (b : Made) → is_forward b ≡ true → after ≡ before ++ b ∷ [] → NoneComes before after
+
+still_back : (P : Made → Type 0) (before after : List Made) → NoneComes before after → All (Back P) before → All (Back P) after
+still_back P before after (none same) h = subst (All (Back P)) (sym same) h
+still_back P before after (forward b is more) h =
+    subst (All (Back P)) (sym more) (All-push (Back P) before b h (λ back. absurd (let no : true ≡ false = sym is ∙ back in cc)))
+
+-- of an import that stands afterwards: it stood before, under the same number
+record GoesOn (w v : World) (x : ℕ) : Type 0 where
+  importing : IsImporting w x
+  session : v.tds.sessions x ≡ w.tds.sessions x
+
+aborts_stay : (w v : World) → NoneComes w.outgoing.bundles v.outgoing.bundles → v.key_table.last_imported ≡ w.key_table.last_imported → ((x : ℕ) → IsImporting v x → GoesOn w v x) → AbortsHold w → AbortsHold v
+aborts_stay w v bundles last each h = record {
+  given = subst (λ (n : ℕ). All (Back (UpTo n)) v.outgoing.bundles) (sym last) (still_back (UpTo w.key_table.last_imported) w.outgoing.bundles v.outgoing.bundles bundles h.given);
+  session = λ t a. (let g = each t a in let le = h.session t g.importing in let same = g.session in omega (arith, le, same, last));
+  one = λ t u a b same. (let g = each t a in let k = each u b in h.one t u g.importing k.importing (sym g.session ∙ (same ∙ k.session)));
+  left = λ t a. (let g = each t a in
+      subst (λ (n : ℕ). All (Back (OtherThan n)) v.outgoing.bundles) (sym g.session) (still_back (OtherThan (w.tds.sessions t)) w.outgoing.bundles v.outgoing.bundles bundles (h.left t g.importing)));
+}
+
+-- IMPORT.STATE.IMMUTABLE: the session is a later one than was ever imported
+module _ (w v : World) (h : AbortsHold w) (t session : ℕ) (later : w.key_table.last_imported < session) (bundles : v.outgoing.bundles ≡ w.outgoing.bundles) (last : v.key_table.last_imported ≡ session) (own : v.tds.sessions t ≡ session)
+    (others : (x : ℕ) → (x == t) ≡ false → v.tds.sessions x ≡ w.tds.sessions x) (stood : (x : ℕ) → (x == t) ≡ false → IsImporting v x → IsImporting w x) where
+  own_at : (x : ℕ) → (x == t) ≡ true → v.tds.sessions x ≡ session
+  own_at x y = subst (λ (z : ℕ). v.tds.sessions z ≡ session) (sym (eqb-true x t y)) own
+
+  apart : {A : Type 0} (x u : ℕ) → (x == t) ≡ true → (u == t) ≡ false → IsImporting v u → v.tds.sessions x ≡ v.tds.sessions u → A
+  apart x u y z a same = absurd (let mine = own_at x y in let other = others u z in let less = h.session u (stood u z a) in omega (arith, mine, other, less, later, same))
+
+  pub begun_aborts : AbortsHold v
+  begun_aborts = record {
+    given = subst (λ (bs : List Made). All (Back (UpTo v.key_table.last_imported)) bs) (sym bundles)
+        (All-weaker (Back (UpTo w.key_table.last_imported)) (Back (UpTo v.key_table.last_imported)) (λ b le back. (let less = le back in omega (arith, less, later, last))) w.outgoing.bundles h.given);
+    session = λ x a. by_test (x == t)
+        (λ y. let mine = own_at x y in omega (arith, mine, last))
+        (λ y. let other = others x y in let less = h.session x (stood x y a) in omega (arith, other, less, later, last));
+    one = λ x u a b same. by_test (x == t)
+        (λ y. by_test (u == t) (λ z. eqb-true x t y ∙ sym (eqb-true u t z)) (λ z. apart x u y z b same))
+        (λ y. by_test (u == t) (λ z. apart u x z y a (sym same)) (λ z. h.one x u (stood x y a) (stood u z b) (sym (others x y) ∙ (same ∙ others u z))));
+    left = λ x a. subst (λ (bs : List Made). All (Back (OtherThan (v.tds.sessions x))) bs) (sym bundles) (by_test (x == t)
+        (λ y. All-weaker (Back (UpTo w.key_table.last_imported)) (Back (OtherThan (v.tds.sessions x))) (λ b le back same. (let less = le back in let mine = own_at x y in omega (arith, less, mine, same, later))) w.outgoing.bundles h.given)
+        (λ y. subst (λ (n : ℕ). All (Back (OtherThan n)) w.outgoing.bundles) (sym (others x y)) (h.left x (stood x y a))));
+  }
+
+-- IMPORT.ABORT
+module _ (w : World) (h : AbortsHold w) (t slot : ℕ) (importing : IsImporting w t) where
+  abbrev token : Made
+  token = back_token w t slot
+
+  abbrev given_up : World
+  given_up = add_bundle token (set_op t op.FailedImport w)
+
+  another : (x : ℕ) → IsImporting given_up x → (x == t) ≡ false
+  another x a = by_test (x == t) (λ y. absurd (let no : false ≡ true = rw y at a.standing in cc)) (λ y. y)
+
+  was : (x : ℕ) → IsImporting given_up x → IsImporting w x
+  was x a = (let y = another x a in record { alive = record { kind = a.alive.kind; life = a.alive.life }; standing = rw y at a.standing })
+
+  pub given_up_aborts : AbortsHold given_up
+  given_up_aborts = record {
+    given = All-push (Back (UpTo w.key_table.last_imported)) w.outgoing.bundles token h.given (λ back. h.session t importing);
+    session = λ x a. h.session x (was x a);
+    one = λ x u a b same. h.one x u (was x a) (was u b) same;
+    left = λ x a. All-push (Back (OtherThan (w.tds.sessions x))) w.outgoing.bundles token (h.left x (was x a))
+        (λ back same. (let is : t ≡ x = h.one t x importing (was x a) same in let no : true ≡ false = sym (eq-eqb x t (sym is)) ∙ another x a in cc));
+  }
+
+-- The rows
+module _ (o : Opening) (me : ℕ) (w : World) (l : Lawful o.machine w) (h : AbortsHold w) where
+  abbrev After : Call → World
+  After c = (row_of o me c).act w
+
+  rest_aborts : (c : Call) → Passes ((row_of o me c).items w) → is_import c ≡ false → NoneComes w.outgoing.bundles (After c).outgoing.bundles → (After c).key_table.last_imported ≡ w.key_table.last_imported → AbortsHold (After c)
+  rest_aborts c ps off bundles last = aborts_stay w (After c) bundles last
+      (λ x a. (let k = (row-rests o me w l c ps off).each x a in record { importing = k.importing; session = ap (λ (z : Filled). z.session) k.own })) h
+
+  -- an import that goes on
+  filling_aborts : (v : World) (t : ℕ) → is_filling (w.tds.ops t) ≡ true → v.outgoing.bundles ≡ w.outgoing.bundles → v.key_table.last_imported ≡ w.key_table.last_imported → ((x : ℕ) → IsAlive v.pages v.tds x → IsAlive w.pages w.tds x)
+      → ((x : ℕ) → (x == t) ≡ false → v.tds.ops x ≡ w.tds.ops x) → v.tds.sessions ≡ w.tds.sessions → AbortsHold v
+  filling_aborts v t filling bundles last back ops sessions = aborts_stay w v (none bundles) last
+      (λ x a. record {
+        importing = record {
+          alive = back x a.alive;
+          standing = by_test (x == t) (λ y. subst (λ (z : ℕ). is_filling (w.tds.ops z) ≡ true) (sym (eqb-true x t y)) filling) (λ y. ap is_filling (sym (ops x y)) ∙ a.standing);
+        };
+        session = ap (λ (f : ℕ → ℕ). f x) sessions;
+      }) h
+
+  page_aborts : (t k gpa page : ℕ) (ws : ℕ → ℕ) → is_filling (w.tds.ops t) ≡ true → AbortsHold (count_bundle t k (begin_memory t (page_of_gpa gpa) ws (fill_page t gpa page ws (entry_at w t 0 gpa).state w)))
+  page_aborts t k gpa page ws filling =
+      let taken : World = count_bundle t k (begin_memory t (page_of_gpa gpa) ws (set_page page ws (map_page page kind.Reg entry.Mapped t 0 (number_at 0 gpa) w))) in
+      fill_either (λ u. AbortsHold (count_bundle t k (begin_memory t (page_of_gpa gpa) ws u))) t gpa page ws (entry_at w t 0 gpa).state w
+      (filling_aborts taken t filling refl refl (λ x a. taken_back w page kind.Reg t 0 (number_at 0 gpa) (λ e. cc) taken.tds refl x (record { kind = a.kind; life = a.life })) (λ x y. refl) refl)
+      (filling_aborts _ t filling refl refl (λ x a. record { kind = a.kind; life = a.life }) (λ x y. refl) refl)
+
+  pub row-aborts : (c : Call) → Passes ((row_of o me c).items w) → AbortsHold (After c)
+  row-aborts (call.ImportStateImmutable t slot) ps =
+      let x : Input = input_in (o.bundles slot) in
+      let self = same_self t in
+      begun_aborts w (After (call.ImportStateImmutable t slot)) h t x.header.session (ltb-true _ _ ps.1.1.1.1.1.1.1.1.1.0) refl refl (rw self refl) (λ y z. rw z refl)
+      (λ y z a. record { alive = record { kind = a.alive.kind; life = a.alive.life }; standing = rw z at a.standing })
+  row-aborts (call.ImportMem t slot page) ps =
+      let x : Input = input_in (o.bundles slot) in
+      page_aborts t x.header.stream x.header.gpa page x.words (filling_fills (w.tds.ops t) ps.1.1.1.1.1.1.1.1.1.0).0
+  row-aborts (call.ImportTrack t slot) ps =
+      let x : Input = input_in (o.bundles slot) in
+      filling_aborts (After (call.ImportTrack t slot)) t (token_fills (is_start x.header) (w.tds.ops t) ps.1.1.1.1.1.1.1.0) refl refl (λ y a. record { kind = a.kind; life = a.life }) (λ y z. rw z refl) refl
+  row-aborts (call.ImportStateTd t slot) ps =
+      filling_aborts (After (call.ImportStateTd t slot)) t (td_state_fills (w.tds.ops t) ps.1.1.1.1.1.1.1.0).0 refl refl (λ y a. record { kind = a.kind; life = a.life }) (λ y z. rw z refl) refl
+  row-aborts (call.ImportStateVp t p slot) ps =
+      filling_aborts (After (call.ImportStateVp t p slot)) t (vp_state_fills (w.tds.ops t) ps.1.1.1.1.1.1.1.1.1.0).0 refl refl (λ y a. record { kind = a.kind; life = a.life }) (λ y z. refl) refl
+  row-aborts (call.ImportCommit t) ps =
+      filling_aborts (After (call.ImportCommit t)) t (commit_fills (w.tds.ops t) ps.1.1.1.1.0).0 refl refl (λ y a. record { kind = a.kind; life = a.life }) (λ y z. rw z refl) refl
+  row-aborts (call.ImportAbort t slot) ps = given_up_aborts w h t slot (record { alive = alive_of w t ps.1.0 ps.1.1.0; standing = given_up_fills (w.tds.ops t) ps.1.1.1.1.0 })
+  row-aborts (call.ExportStateImmutable t slot) ps = rest_aborts (call.ExportStateImmutable t slot) ps refl (forward _ refl refl) refl
+  row-aborts (call.ExportMem t gpa k slot) ps = rest_aborts (call.ExportMem t gpa k slot) ps refl (forward _ refl refl) refl
+  row-aborts (call.ExportTrack t slot zero) ps = rest_aborts (call.ExportTrack t slot zero) ps refl (forward _ refl refl) refl
+  row-aborts (call.ExportTrack t slot (suc n)) ps = rest_aborts (call.ExportTrack t slot (suc n)) ps refl (forward _ refl refl) refl
+  row-aborts (call.ExportStateTd t slot) ps = rest_aborts (call.ExportStateTd t slot) ps refl (forward _ refl refl) refl
+  row-aborts (call.ExportStateVp t p slot) ps = rest_aborts (call.ExportStateVp t p slot) ps refl (forward _ refl refl) refl
+  row-aborts c ps = rest_aborts c ps refl (none refl) refl
+
+-- Guests begin and end no import.
+record Imports : Type 0 where
+  kinds : ℕ → PageKind
+  lives : ℕ → LifeState
+  ops : ℕ → OpState
+  sessions : ℕ → ℕ
+  last : ℕ
+  bundles : List Made
+
+abbrev imports : World → Imports
+imports w = record { kinds = w.pages.kinds; lives = w.tds.lives; ops = w.tds.ops; sessions = w.tds.sessions; last = w.key_table.last_imported; bundles = w.outgoing.bundles }
+
+same_aborts : (w v : World) → imports v ≡ imports w → AbortsHold w → AbortsHold v
+same_aborts w v same h = aborts_stay w v (none (ap (λ (z : Imports). z.bundles) same)) (ap (λ (z : Imports). z.last) same)
+    (λ x a. record {
+      importing = record {
+        alive = record { kind = ap (λ (z : Imports). z.kinds x) (sym same) ∙ a.alive.kind; life = subst (λ (z : Imports). IsLive (z.lives x)) same a.alive.life };
+        standing = ap (λ (z : Imports). is_filling (z.ops x)) (sym same) ∙ a.standing;
+      };
+      session = ap (λ (z : Imports). z.sessions x) same;
+    }) h
+
+pub operation_aborts : (o : Opening) (t v line : ℕ) (op : GuestOp) (row : OperationRow) (w : World) → operation_of o t v line op ≡ ByRow row → AbortsHold w → AbortsHold (tell_words (row.tells w) (row.act w))
+operation_aborts o t v line op row w is h = operation_row o t v line (λ x. AbortsHold (tell_words (x.tells w) (x.act w)))
+    (λ r x. same_aborts w _ refl h)
+    (λ r s. same_aborts w _ refl h)
+    (λ r gpa. same_aborts w _ refl h)
+    (λ r gpa. same_aborts w _ refl h)
+    (λ gpa. accepted (λ x. AbortsHold (tell_words [] (pass_operation v x))) (is_pending_at w t gpa) t gpa w
+    (λ y. same_aborts w _ refl h)
+    (λ y. same_aborts w _ refl h))
+    (λ i. same_aborts w _ refl h)
+    (λ r. same_aborts w _ refl h) op row is
+
+pub reach_aborts : (t v : ℕ) (access : Access) (r gpa page : ℕ) (w : World) → AbortsHold w → AbortsHold (reach t v access r gpa page w)
+reach_aborts t v Read r gpa page w h = same_aborts w _ refl h
+reach_aborts t v Write r gpa page w h = same_aborts w _ refl h
+
+pub left_aborts : (v : ℕ) (w : World) → AbortsHold w → AbortsHold (leave_guest v w)
+left_aborts v w h = same_aborts w (leave_guest v w) refl h
+
+pub start_aborts : (o : Opening) (ws : Option (List ℕ)) → AbortsHold (start o ws).world
+start_aborts o ws = record {
+  given = All-nil (Back (UpTo (start o ws).world.key_table.last_imported));
+  session = λ t a. absurd (let no : false ≡ true = a.standing in cc);
+  one = λ t u a b same. absurd (let no : false ≡ true = a.standing in cc);
+  left = λ t a. All-nil (Back (OtherThan ((start o ws).world.tds.sessions t)));
+}
