@@ -1,0 +1,189 @@
+-- A session that was committed is over: what keeps it, act by act.
+use Rattle.std.proofs.Common.{◌≡◌, ◌≢◌, refl, sym, ◌∙◌, ap, subst, ℕ, zero, suc, ◌<◌, List, [], ◌∷◌, ◌++◌, Option, true, false, ◌==◌, arith}
+use Rattle.std.specs.List.{All}
+use Rattle.std.proofs.lemmas.Bool.{eqb-true, eq-eqb, ltb-true}
+use Rattle.std.proofs.lemmas.List.Elements.{All-push}
+use Rattle.td_words.specs.declared.names.PageKind.TheVariants as kind
+use Rattle.td_words.specs.declared.names.EntryState.TheVariants as entry
+use Rattle.td_words.specs.declared.names.OpState.TheVariants as op
+use Rattle.td_words.specs.declared.calls.Call.{Call}
+use Rattle.td_words.specs.declared.calls.Call.TheVariants as call
+use Rattle.flat_core.specs.World.{World, Image, Made}
+use Rattle.flat_core.specs.Opening.{Opening}
+use Rattle.flat_core.specs.Row.{Passes}
+use Rattle.flat_core.specs.Tree.{page_of_gpa, number_at, entry_at}
+use Rattle.flat_core.specs.Effects.{set_page, map_page, set_op, begin_memory, add_bundle}
+use Rattle.flat_core.specs.Sessions.{count_bundle}
+use Rattle.flat_core.specs.Inputs.{Input, input_in}
+use Rattle.flat_core.specs.ImportRows.{fill_page, is_start, note_commit}
+use Rattle.flat_core.specs.Table.{row_of}
+use Rattle.flat_core.specs.Lawful.{IsAlive, Lawful}
+use Rattle.flat_core.specs.Event.{start}
+use Rattle.flat_core.proofs.Tests.{by_test, same_self}
+use Rattle.flat_core.proofs.Parts.{IsLive}
+use Rattle.flat_bundles.proofs.Fills.{fill_either}
+use Rattle.mig_laws.specs.Ivs.{is_forward, is_filling, IsImporting, AbortsHold}
+use Rattle.mig_laws.proofs.Rows.{taken_back}
+use Rattle.mig_laws.proofs.Ivs.{alive_of, back_token, given_up_fills}
+use Rattle.mig_laws.proofs.OneMore.{filling_fills, td_state_fills, vp_state_fills, commit_fills, token_fills}
+use Rattle.mig_laws.proofs.Rest.{Filled}
+use Rattle.mig_laws.proofs.RestRows.{is_import, row-rests}
+use Rattle.runner_laws.specs.Runner.{IsOver, CommitsHold}
+use Rattle.runner_laws.proofs.Goes.{Asked, asked}
+
+-- a bundle is no token back of this session
+abbrev pub OtherBack : (session : ℕ) → Made → Type 0
+OtherBack session b = is_forward b ≡ false → b.header.session ≢ session
+
+-- no token back comes to the bundles
+data NoneComes (before after : List Made) : Type 0 where
+  none : after ≡ before → NoneComes before after
+  forward : (b : Made) → is_forward b ≡ true → after ≡ before ++ b ∷ [] → NoneComes before after
+
+still_other : (session : ℕ) (before after : List Made) → NoneComes before after → All (OtherBack session) before → All (OtherBack session) after
+still_other session before after (none same) h = subst (All (OtherBack session)) (sym same) h
+still_other session before after (forward b is more) h =
+    subst (All (OtherBack session)) (sym more) (All-push (OtherBack session) before b h (λ back. absurd (let no : true ≡ false = sym is ∙ back in cc)))
+
+-- of an import that stands afterwards: it stood before, under the same number
+record GoesOn (w v : World) (x : ℕ) : Type 0 where
+  importing : IsImporting w x
+  session : v.tds.sessions x ≡ w.tds.sessions x
+
+over_stays : (w v : World) (session : ℕ) → NoneComes w.outgoing.bundles v.outgoing.bundles → v.key_table.last_imported ≡ w.key_table.last_imported → ((x : ℕ) → IsImporting v x → GoesOn w v x) → IsOver w session → IsOver v session
+over_stays w v session bundles last each h = record {
+  imported = (let low = h.imported in omega (arith, low, last));
+  ended = λ x a same. (let g = each x a in h.ended x g.importing (sym g.session ∙ same));
+  kept = still_other session w.outgoing.bundles v.outgoing.bundles bundles h.kept;
+}
+
+commits_stay : (w v : World) → NoneComes w.outgoing.bundles v.outgoing.bundles → v.key_table.last_imported ≡ w.key_table.last_imported → ((x : ℕ) → IsImporting v x → GoesOn w v x) → v.hidden.given ≡ w.hidden.given → CommitsHold w → CommitsHold v
+commits_stay w v bundles last each given h session start e = over_stays w v session bundles last each (h session start (ap (λ (f : ℕ → Option Image). f session) (sym given) ∙ e))
+
+-- IMPORT.STATE.IMMUTABLE: the session is a later one than was ever imported
+module _ (w v : World) (h : CommitsHold w) (t new : ℕ) (later : w.key_table.last_imported < new) (bundles : v.outgoing.bundles ≡ w.outgoing.bundles) (last : v.key_table.last_imported ≡ new) (own : v.tds.sessions t ≡ new)
+    (others : (x : ℕ) → (x == t) ≡ false → v.tds.sessions x ≡ w.tds.sessions x) (stood : (x : ℕ) → (x == t) ≡ false → IsImporting v x → IsImporting w x) (given : v.hidden.given ≡ w.hidden.given) where
+  own_at : (x : ℕ) → (x == t) ≡ true → v.tds.sessions x ≡ new
+  own_at x y = subst (λ (z : ℕ). v.tds.sessions z ≡ new) (sym (eqb-true x t y)) own
+
+  pub begun_commits : CommitsHold v
+  begun_commits session start e =
+      let was = h session start (ap (λ (f : ℕ → Option Image). f session) (sym given) ∙ e) in
+      record {
+        imported = (let low = was.imported in omega (arith, low, later, last));
+        ended = λ x a same. by_test (x == t)
+            (λ y. let mine = own_at x y in let low = was.imported in absurd (omega (arith, mine, low, same, later)))
+            (λ y. was.ended x (stood x y a) (sym (others x y) ∙ same));
+        kept = subst (λ (bs : List Made). All (OtherBack session) bs) (sym bundles) was.kept;
+      }
+
+-- IMPORT.ABORT
+module _ (w : World) (h : CommitsHold w) (t slot : ℕ) (importing : IsImporting w t) where
+  abbrev token : Made
+  token = back_token w t slot
+
+  abbrev given_up : World
+  given_up = add_bundle token (set_op t op.FailedImport w)
+
+  was : (x : ℕ) → IsImporting given_up x → IsImporting w x
+  was x a =
+      let off : (x == t) ≡ false = by_test (x == t) (λ y. absurd (let no : false ≡ true = rw y at a.standing in cc)) (λ y. y) in
+      record { alive = record { kind = a.alive.kind; life = a.alive.life }; standing = rw off at a.standing }
+
+  pub given_up_commits : CommitsHold given_up
+  given_up_commits session start e =
+      let old = h session start e in
+      record {
+        imported = old.imported;
+        ended = λ x a same. old.ended x (was x a) same;
+        kept = All-push (OtherBack session) w.outgoing.bundles token old.kept (λ back same. old.ended t importing same);
+      }
+
+-- IMPORT.COMMIT
+module _ (w : World) (h : CommitsHold w) (aborts : AbortsHold w) (t : ℕ) (importing : IsImporting w t) where
+  abbrev committed : World
+  committed = set_op t op.LiveImport (note_commit t w)
+
+  another : (x : ℕ) → IsImporting committed x → (x == t) ≡ false
+  another x a = by_test (x == t) (λ y. absurd (let no : false ≡ true = rw y at a.standing in cc)) (λ y. y)
+
+  stood : (x : ℕ) → IsImporting committed x → IsImporting w x
+  stood x a = (let y = another x a in record { alive = record { kind = a.alive.kind; life = a.alive.life }; standing = rw y at a.standing })
+
+  own_over : IsOver committed (w.tds.sessions t)
+  own_over = record {
+    imported = aborts.session t importing;
+    ended = λ x a same. (let is : x ≡ t = aborts.one x t (stood x a) importing same in let no : true ≡ false = sym (eq-eqb x t is) ∙ another x a in cc);
+    kept = aborts.left t importing;
+  }
+
+  pub committed_commits : CommitsHold committed
+  committed_commits session start e = by_test (session == w.tds.sessions t)
+      (λ y. subst (λ (n : ℕ). IsOver committed n) (sym (eqb-true session _ y)) own_over)
+      (λ y. let old = h session start (rw y at e) in record { imported = old.imported; ended = λ x a same. old.ended x (stood x a) same; kept = old.kept })
+
+-- The rows
+module _ (o : Opening) (me : ℕ) (w : World) (l : Lawful o.machine w) (aborts : AbortsHold w) (h : CommitsHold w) where
+  abbrev After : Call → World
+  After c = (row_of o me c).act w
+
+  rest_commits : (c : Call) → Passes ((row_of o me c).items w) → is_import c ≡ false → NoneComes w.outgoing.bundles (After c).outgoing.bundles → (After c).key_table.last_imported ≡ w.key_table.last_imported → CommitsHold (After c)
+  rest_commits c ps off bundles last =
+      let r = row-rests o me w l c ps off in
+      commits_stay w (After c) bundles last (λ x a. (let k = r.each x a in record { importing = k.importing; session = ap (λ (z : Filled). z.session) k.own })) r.given h
+
+  -- an import that goes on
+  filling_commits : (v : World) (t : ℕ) → is_filling (w.tds.ops t) ≡ true → v.outgoing.bundles ≡ w.outgoing.bundles → v.key_table.last_imported ≡ w.key_table.last_imported → v.hidden.given ≡ w.hidden.given
+      → ((x : ℕ) → IsAlive v.pages v.tds x → IsAlive w.pages w.tds x) → ((x : ℕ) → (x == t) ≡ false → v.tds.ops x ≡ w.tds.ops x) → v.tds.sessions ≡ w.tds.sessions → CommitsHold v
+  filling_commits v t filling bundles last given back ops sessions = commits_stay w v (none bundles) last
+      (λ x a. record {
+        importing = record {
+          alive = back x a.alive;
+          standing = by_test (x == t) (λ y. subst (λ (z : ℕ). is_filling (w.tds.ops z) ≡ true) (sym (eqb-true x t y)) filling) (λ y. ap is_filling (sym (ops x y)) ∙ a.standing);
+        };
+        session = ap (λ (f : ℕ → ℕ). f x) sessions;
+      }) given h
+
+  page_commits : (t k gpa page : ℕ) (ws : ℕ → ℕ) → is_filling (w.tds.ops t) ≡ true → CommitsHold (count_bundle t k (begin_memory t (page_of_gpa gpa) ws (fill_page t gpa page ws (entry_at w t 0 gpa).state w)))
+  page_commits t k gpa page ws filling =
+      let taken : World = count_bundle t k (begin_memory t (page_of_gpa gpa) ws (set_page page ws (map_page page kind.Reg entry.Mapped t 0 (number_at 0 gpa) w))) in
+      fill_either (λ u. CommitsHold (count_bundle t k (begin_memory t (page_of_gpa gpa) ws u))) t gpa page ws (entry_at w t 0 gpa).state w
+      (filling_commits taken t filling refl refl refl (λ x a. taken_back w page kind.Reg t 0 (number_at 0 gpa) (λ e. cc) taken.tds refl x (record { kind = a.kind; life = a.life })) (λ x y. refl) refl)
+      (filling_commits _ t filling refl refl refl (λ x a. record { kind = a.kind; life = a.life }) (λ x y. refl) refl)
+
+  pub row-commits : (c : Call) → Passes ((row_of o me c).items w) → CommitsHold (After c)
+  row-commits (call.ImportStateImmutable t slot) ps =
+      let x : Input = input_in (o.bundles slot) in
+      let self = same_self t in
+      begun_commits w (After (call.ImportStateImmutable t slot)) h t x.header.session (ltb-true _ _ ps.1.1.1.1.1.1.1.1.1.0) refl refl (rw self refl) (λ y z. rw z refl)
+      (λ y z a. record { alive = record { kind = a.alive.kind; life = a.alive.life }; standing = rw z at a.standing }) refl
+  row-commits (call.ImportMem t slot page) ps =
+      let x : Input = input_in (o.bundles slot) in
+      page_commits t x.header.stream x.header.gpa page x.words (filling_fills (w.tds.ops t) ps.1.1.1.1.1.1.1.1.1.0).0
+  row-commits (call.ImportTrack t slot) ps =
+      let x : Input = input_in (o.bundles slot) in
+      filling_commits (After (call.ImportTrack t slot)) t (token_fills (is_start x.header) (w.tds.ops t) ps.1.1.1.1.1.1.1.0) refl refl refl (λ y a. record { kind = a.kind; life = a.life }) (λ y z. rw z refl) refl
+  row-commits (call.ImportStateTd t slot) ps =
+      filling_commits (After (call.ImportStateTd t slot)) t (td_state_fills (w.tds.ops t) ps.1.1.1.1.1.1.1.0).0 refl refl refl (λ y a. record { kind = a.kind; life = a.life }) (λ y z. rw z refl) refl
+  row-commits (call.ImportStateVp t p slot) ps =
+      filling_commits (After (call.ImportStateVp t p slot)) t (vp_state_fills (w.tds.ops t) ps.1.1.1.1.1.1.1.1.1.0).0 refl refl refl (λ y a. record { kind = a.kind; life = a.life }) (λ y z. refl) refl
+  row-commits (call.ImportCommit t) ps = committed_commits w h aborts t (record { alive = alive_of w t ps.1.0 ps.1.1.0; standing = (commit_fills (w.tds.ops t) ps.1.1.1.1.0).0 })
+  row-commits (call.ImportAbort t slot) ps = given_up_commits w h t slot (record { alive = alive_of w t ps.1.0 ps.1.1.0; standing = given_up_fills (w.tds.ops t) ps.1.1.1.1.0 })
+  row-commits (call.ExportStateImmutable t slot) ps = rest_commits (call.ExportStateImmutable t slot) ps refl (forward _ refl refl) refl
+  row-commits (call.ExportMem t gpa k slot) ps = rest_commits (call.ExportMem t gpa k slot) ps refl (forward _ refl refl) refl
+  row-commits (call.ExportTrack t slot zero) ps = rest_commits (call.ExportTrack t slot zero) ps refl (forward _ refl refl) refl
+  row-commits (call.ExportTrack t slot (suc n)) ps = rest_commits (call.ExportTrack t slot (suc n)) ps refl (forward _ refl refl) refl
+  row-commits (call.ExportStateTd t slot) ps = rest_commits (call.ExportStateTd t slot) ps refl (forward _ refl refl) refl
+  row-commits (call.ExportStateVp t p slot) ps = rest_commits (call.ExportStateVp t p slot) ps refl (forward _ refl refl) refl
+  row-commits c ps = rest_commits c ps refl (none refl) refl
+
+-- Guests begin, end and commit no import.
+pub same_importing : (w v : World) → asked v ≡ asked w → (x : ℕ) → IsImporting v x → IsImporting w x
+same_importing w v same x a = record {
+  alive = record { kind = ap (λ (z : Asked). z.kinds x) (sym same) ∙ a.alive.kind; life = subst (λ (z : Asked). IsLive (z.lives x)) same a.alive.life };
+  standing = ap (λ (z : Asked). is_filling (z.ops x)) (sym same) ∙ a.standing;
+}
+
+pub same_commits : (w v : World) → asked v ≡ asked w → CommitsHold w → CommitsHold v
+same_commits w v same h = commits_stay w v (none (ap (λ (z : Asked). z.bundles) same)) (ap (λ (z : Asked). z.last_imported) same)
+    (λ x a. record { importing = same_importing w v same x a; session = ap (λ (z : Asked). z.sessions x) same }) (ap (λ (z : Asked). z.given) same) h

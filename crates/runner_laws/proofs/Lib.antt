@@ -1,0 +1,4 @@
+pub mod Goes
+pub mod Commits
+pub mod Unstarted
+pub mod Runner
