@@ -10,11 +10,12 @@ use Rattle.leaf_engine.specs.declared.events.HeldLock.{HeldLock}
 use Rattle.leaf_engine.specs.declared.events.Stage.{Stage}
 use Rattle.leaf_engine.specs.declared.events.Stage.TheVariants as stages
 use Rattle.leaf_engine.specs.Turns.{Standing, has_ended, CanRun}
-use Rattle.leaf_dispatch.specs.Answers.{Ends, call_fits, call_ends, is_busy, FewTries, FitsStage, OldestIsOther}
+use Rattle.leaf_table.specs.Ends.{Ends, call_fits, call_ends}
+use Rattle.leaf_dispatch.specs.Answers.{is_busy, FewTries, FitsStage, OldestIsOther}
 use Rattle.leaf_dispatch.specs.Guests.{IsExit}
-use Rattle.leaf_dispatch.specs.Leaves.{leaf_seen}
+use Rattle.leaf_table.specs.Leaves.{leaf_seen}
 use Rattle.leaf_dispatch.specs.Running.{standing_of, answered_with, IsUnderWay, IsRunOf, IsRunAt, IsAnsweredBy}
-use Rattle.leaf_dispatch.specs.declared.leaves.AnyLeaf.{AnyLeaf}
+use Rattle.leaf_table.specs.declared.leaves.AnyLeaf.{AnyLeaf}
 use Rattle.leaf_dispatch.specs.declared.running.Running.{Running}
 use Rattle.leaf_dispatch.proofs.Lowering.{by-fits}
 

@@ -10,7 +10,7 @@ use Rattle.std.specs.Ordering.{nat_cmp, ordering_then, is_eq}
 use Rattle.td_words.specs.declared.calls.GuestOp.{GuestOp}
 use Rattle.leaf_dispatch.specs.declared.first_lists.VirtualProcessor.{VirtualProcessor}
 use Rattle.td_words.specs.Seen.{CodeSeen}
-use Rattle.leaf_dispatch.specs.Table.{code_in}
+use Rattle.leaf_table.specs.Table.{code_in}
 use Rattle.leaf_dispatch.specs.FirstLists.{is_list_of, is_vcpu}
 
 -- two tests that agree find the same

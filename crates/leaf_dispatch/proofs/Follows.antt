@@ -18,9 +18,10 @@ use Rattle.leaf_engine.specs.Merges.{no_table, AreCodes}
 use Rattle.leaf_engine.specs.Following.{StandsOn}
 use Rattle.leaf_engine.specs.Following as engine
 use Rattle.leaf_dispatch.specs.Bounds.{events_left}
-use Rattle.leaf_dispatch.specs.Table.{secrets_in, code_in, place_table, leaf_table}
+use Rattle.leaf_table.specs.Given.{Given, given_in}
+use Rattle.leaf_table.specs.Table.{code_in, place_table, leaf_table}
 use Rattle.leaf_dispatch.specs.States.{seen_of, Moves}
-use Rattle.leaf_dispatch.specs.Laws.{CallsHaveLeaves}
+use Rattle.leaf_table.specs.Laws.{CallsHaveLeaves}
 use Rattle.leaf_dispatch.specs.Follows.{IsProcessor, LpStands, IsNext, ProcessorsFollow}
 use Rattle.leaf_dispatch.specs.declared.states.LpState.{LpState}
 
@@ -40,15 +41,15 @@ module _ (law : engine.ProcessorsFollow) (leaves : CallsHaveLeaves) (o : Opening
   next l l' t u (turn.Moved e) is stands t' h =
       let ps = t'.0.0 in
       let moves = t'.0.2 in
-      let words : List ℕ = l.secrets.now in
+      let given : Given = given_in l.given in
       let list : List CodeSeen = l.codes.now in
-      let at = subst (λ (z : Place). StandsOn o (place_table z (secrets_in words) (code_in list)) p now t (seen_of l)) is.place stands in
-      let lt = subst (λ (z : Place). LpTurns (place_table z (secrets_in words) (code_in list)) z.machine (seen_of l) e ps (seen_of l')) is.place moves.3 in
-      let got = law.follow o (leaf_table o.machine (secrets_in words) (code_in list)) p now t u (seen_of l) (seen_of l') e ps (leaves o (secrets_in words) (code_in list) machine is.secrets is.codes) codes (law.runs o schedule few) (count-inside is.inside) at lt t'.0.1 in (
+      let at = subst (λ (z : Place). StandsOn o (place_table z given (code_in list)) p now t (seen_of l)) is.place stands in
+      let lt = subst (λ (z : Place). LpTurns (place_table z given (code_in list)) z.machine (seen_of l) e ps (seen_of l')) is.place moves.3 in
+      let got = law.follow o (leaf_table o.machine given (code_in list)) p now t u (seen_of l) (seen_of l') e ps (leaves o given (code_in list) machine is.given is.codes) codes (law.runs o schedule few) (count-inside is.inside) at lt t'.0.1 in (
         (got.event_is, got.next),
-        subst (λ (z : List ℕ). StandsOn o (place_table l'.place (secrets_in z) (code_in l'.codes.now)) p (event o now p) u (seen_of l')) (sym moves.1)
-            (subst (λ (z : List CodeSeen). StandsOn o (place_table l'.place (secrets_in words) (code_in z)) p (event o now p) u (seen_of l')) (sym moves.2)
-            (subst (λ (z : Place). StandsOn o (place_table z (secrets_in words) (code_in list)) p (event o now p) u (seen_of l')) (sym (moves.0 ∙ is.place)) got.stands)),
+        subst (λ (z : Given). StandsOn o (place_table l'.place z (code_in l'.codes.now)) p (event o now p) u (seen_of l')) (sym moves.1)
+            (subst (λ (z : List CodeSeen). StandsOn o (place_table l'.place given (code_in z)) p (event o now p) u (seen_of l')) (sym moves.2)
+            (subst (λ (z : Place). StandsOn o (place_table z given (code_in list)) p (event o now p) u (seen_of l')) (sym (moves.0 ∙ is.place)) got.stands)),
       )
     where
       count-inside : p < length o.calls → p < now.lp_count
@@ -59,7 +60,7 @@ module _ (law : engine.ProcessorsFollow) (leaves : CallsHaveLeaves) (o : Opening
   )
 
 starts : engine.ProcessorsFollow → (o : Opening) (p : ℕ) (l : LpState) → seen_of l ≡ first_lp (calls_of o.calls p) → LpStands o (start o None) no_table p l
-starts law o p l first = subst (λ (z : WordLp). StandsOn o (place_table l.place (secrets_in l.secrets.now) (code_in l.codes.now)) p (start o None) no_table z) (sym first) (law.starts o (place_table l.place (secrets_in l.secrets.now) (code_in l.codes.now)) p)
+starts law o p l first = subst (λ (z : WordLp). StandsOn o (place_table l.place (given_in l.given) (code_in l.codes.now)) p (start o None) no_table z) (sym first) (law.starts o (place_table l.place (given_in l.given) (code_in l.codes.now)) p)
 
 pub processors-follow : engine.ProcessorsFollow → CallsHaveLeaves → ProcessorsFollow
 processors-follow law leaves = record {

@@ -21,13 +21,15 @@ use Rattle.leaf_engine.specs.Guests.{WordGuest, Step, Operates, Accesses, Loads,
 use Rattle.leaf_engine.specs.Merges.{IsStepOf}
 use Rattle.leaf_engine.specs.Turns.{Standing}
 use Rattle.leaf_engine.specs.OwnLists.{TurnsInPieces, WordLp, running, after_step, line_after, EnteredTurn}
-use Rattle.leaf_dispatch.specs.Answers.{Ends, step_answer, step_ends, step_tries, beside_by, cached_by, notes_by, tells_by}
+use Rattle.leaf_table.specs.Ends.{Ends, step_answer, step_ends, step_tries}
+use Rattle.leaf_dispatch.specs.Answers.{beside_by, cached_by, notes_by, tells_by}
 use Rattle.leaf_dispatch.specs.Bounds.{run_used, stage_used, events_left}
 use Rattle.leaf_dispatch.specs.Guests.{guest_seen, unless_left, next_in, IsLow, CanCount, IsReplyOf, IsNextGuest}
 use Rattle.leaf_dispatch.specs.Inside.{guest_in, unless_gives, acting, line_then, IsGuestKept, KeepsGuest}
 use Rattle.leaf_dispatch.specs.NoteRooms.{longest_in, stage_made, run_made, guest_room, room_left}
 use Rattle.leaf_dispatch.specs.Running.{standing_of, run_seen, kept_after, IsRunOf, IsAnswered, LeafTurned}
-use Rattle.leaf_dispatch.specs.Table.{code_in, step_task, place_table}
+use Rattle.leaf_table.specs.Given.{Given}
+use Rattle.leaf_table.specs.Table.{code_in, step_task, place_table}
 use Rattle.leaf_dispatch.specs.declared.guests.GuestAt.{GuestAt}
 use Rattle.leaf_dispatch.specs.declared.running.Running.{Running}
 use Rattle.leaf_dispatch.specs.declared.running.LeafTurn.{LeafTurn}
@@ -145,7 +147,7 @@ guest-alone : (h : Option GuestAt) (k : Option Running) → run_seen k ≡ None 
 guest-alone None k e = refl
 guest-alone (Some g) k e = ap (λ (run : Option Standing). Some (guest_seen g run)) e
 
-module _ (p : Place) (secrets : ℕ → ℕ) (codes : List CodeSeen) (c : Call) (cs : List Call) (r : Running) (g : GuestAt) (step : Option Running) (ts us : List Translation) (rs : List Reply) (notes : List Note) (told : List ℕ) (ms : List Made) where
+module _ (p : Place) (given : Given) (codes : List CodeSeen) (c : Call) (cs : List Call) (r : Running) (g : GuestAt) (step : Option Running) (ts us : List Translation) (rs : List Reply) (notes : List Note) (told : List ℕ) (ms : List Made) where
   abbrev pub at_line : ℕ
   at_line = length rs + 1
 
@@ -163,7 +165,7 @@ module _ (p : Place) (secrets : ℕ → ℕ) (codes : List CodeSeen) (c : Call) 
     ends = step_ends g.tdr at_line s
 
     abbrev was : Standing
-    was = running (step_task secrets p g.tdr g.vp at_line s) (run_seen step)
+    was = running (step_task given p g.tdr g.vp at_line s) (run_seen step)
 
     abbrev pub turned : WordLp
     turned = record {
@@ -189,19 +191,19 @@ module _ (p : Place) (secrets : ℕ → ℕ) (codes : List CodeSeen) (c : Call) 
       none-begun none = none-kept step (inside.alone (ap step_tries is ∙ none))
 
       first : step_tries s ≡ 0 → was.stage ≡ stages.Trying
-      first none = first-trying secrets p g.tdr g.vp at_line s step none-begun none
+      first none = first-trying given p g.tdr g.vp at_line s step none-begun none
 
       used : run_used x.run ≡ stage_used was.stage (length was.held)
       used = by (run_seen step)
         where
-          by : (run : Option Standing) → run_used run ≡ stage_used (running (step_task secrets p g.tdr g.vp at_line s) run).stage (length (running (step_task secrets p g.tdr g.vp at_line s) run).held)
+          by : (run : Option Standing) → run_used run ≡ stage_used (running (step_task given p g.tdr g.vp at_line s) run).stage (length (running (step_task given p g.tdr g.vp at_line s) run).held)
           by None = refl
           by (Some y) = refl
 
       made-before : run_made x.run ≡ stage_made was.stage
       made-before = by (run_seen step)
         where
-          by : (run : Option Standing) → run_made run ≡ stage_made (running (step_task secrets p g.tdr g.vp at_line s) run).stage
+          by : (run : Option Standing) → run_made run ≡ stage_made (running (step_task given p g.tdr g.vp at_line s) run).stage
           by None = refl
           by (Some y) = refl
 
@@ -228,15 +230,15 @@ module _ (p : Place) (secrets : ℕ → ℕ) (codes : List CodeSeen) (c : Call) 
           (step-fewer (code_in codes) c cs (standing_of r) x rs besides turned.beside g.tdr at_line was t.stands result.event s step-at counted (low-step s low) refl used first gives
           (cached ∙ ap (λ (a : Option Reply). cached_by ends.answer a ts) t.act_is) result.reply t.turned.2.reply)
 
-      pub guest-moved : TurnsInPieces → gives_epoch_back r.run.held.items ≡ false → Moved secrets (code_in codes) did bench p before turned result.event
+      pub guest-moved : TurnsInPieces → gives_epoch_back r.run.held.items ≡ false → Moved given (code_in codes) did bench p before turned result.event
       guest-moved law back =
           let moved =
-          guest-moves law did bench p secrets (code_in codes) c cs (standing_of r) x rs besides kept turned result s step-at t
+          guest-moves law did bench p given (code_in codes) c cs (standing_of r) x rs besides kept turned result s step-at t
           (after ∙ ap (λ (b : Beside). after_step c cs (standing_of r) x rs b s t.stands result.reply) besides-are) in
           record {
             pieces = moved.pieces;
             did_them = moved.did_them;
-            turn = subst (λ (b : Bool). EnteredTurn (place_table p secrets (code_in codes)) p.machine c cs (standing_of r) x rs besides result.event moved.pieces turned b) (sym back) moved.turn;
+            turn = subst (λ (b : Bool). EnteredTurn (place_table p given (code_in codes)) p.machine c cs (standing_of r) x rs besides result.event moved.pieces turned b) (sym back) moved.turn;
             fewer = fewer;
           }
 

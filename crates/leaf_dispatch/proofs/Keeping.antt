@@ -13,12 +13,14 @@ use Rattle.leaf_engine.specs.declared.events.Stage.TheVariants as stages
 use Rattle.leaf_engine.specs.Means.{Task}
 use Rattle.leaf_engine.specs.Trees.{Tree, settle}
 use Rattle.leaf_engine.specs.Turns.{Standing, standing, CanRun, Turned, has_ended, last_reply}
-use Rattle.leaf_dispatch.specs.Leaves.{leaf_seen}
-use Rattle.leaf_dispatch.specs.Answers.{Ends, EndsAs, BeginsUnderOther, call_ends, act_of, FewTries, FitsStage, OldestIsOther}
+use Rattle.leaf_table.specs.Leaves.{leaf_seen}
+use Rattle.leaf_table.specs.Ends.{Ends, EndsAs, BeginsUnderOther, call_ends}
+use Rattle.leaf_dispatch.specs.Answers.{act_of, FewTries, FitsStage, OldestIsOther}
 use Rattle.leaf_dispatch.specs.Running.{standing_of, run_seen, kept_after, turn_of, act_in, made_in_run, kept_until, IsUnderWay, IsRunOf, IsRunAt, IsKept, CanTurn, HasTurned, LeafTurned}
 use Rattle.leaf_dispatch.specs.declared.running.Running.{Running}
 use Rattle.leaf_dispatch.specs.declared.running.LeafTurn.{LeafTurn}
-use Rattle.leaf_dispatch.proofs.Lowering.{ends-fed, other-settled, Gives, turn-gives}
+use Rattle.leaf_table.proofs.Ending.{ends-fed}
+use Rattle.leaf_dispatch.proofs.Lowering.{other-settled, Gives, turn-gives}
 
 -- a run that goes on has something left to do
 pub goes-on : (s : Stage) (held : List HeldLock) → last_reply s held ≡ None → has_ended s held ≡ false

@@ -1,9 +1,7 @@
 pub mod Lowering
 pub mod Turning
 pub mod Keeping
-pub mod Tries
 pub mod StepTurns
-pub mod Calls
 pub mod PageRooms
 pub mod Follows
 pub mod Stepping
@@ -13,7 +11,6 @@ pub mod Fewer
 pub mod Replying
 pub mod Rooming
 pub mod Making
-pub mod NoBundles
 pub mod Exiting
 pub mod Summing
 pub mod LineEvents

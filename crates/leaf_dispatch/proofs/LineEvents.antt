@@ -20,13 +20,15 @@ use Rattle.leaf_engine.specs.Besides.{Beside}
 use Rattle.leaf_engine.specs.Guests.{WordGuest, gives_epoch_back, guest_entered, or_else}
 use Rattle.leaf_engine.specs.Turns.{Standing, TurnBy}
 use Rattle.leaf_engine.specs.OwnLists.{TurnsInPieces, WordLp, running, after_turn, EnteredTurn}
-use Rattle.leaf_dispatch.specs.Answers.{Ends, call_answer, call_ends, beside_by, guest_by, cached_by, act_of}
+use Rattle.leaf_table.specs.Ends.{Ends, call_answer, call_ends}
+use Rattle.leaf_dispatch.specs.Answers.{beside_by, guest_by, cached_by, act_of}
 use Rattle.leaf_dispatch.specs.Bounds.{stage_left, events_left}
 use Rattle.leaf_dispatch.specs.Guests.{guest_seen, IsLow}
 use Rattle.leaf_dispatch.specs.Inside.{unless_gives, entered_or, IsGuestKept, KeepsGuest}
 use Rattle.leaf_dispatch.specs.NoteRooms.{least, call_room, lines_room, stage_room, run_room, room_of, room_left}
 use Rattle.leaf_dispatch.specs.Running.{run_seen, kept_after, IsAnsweredBy, standing_of, LeafTurned}
-use Rattle.leaf_dispatch.specs.Table.{code_in, task_of, place_table}
+use Rattle.leaf_table.specs.Given.{Given}
+use Rattle.leaf_table.specs.Table.{code_in, task_of, place_table}
 use Rattle.leaf_dispatch.specs.declared.guests.GuestAt.{GuestAt}
 use Rattle.leaf_dispatch.specs.declared.running.Running.{Running}
 use Rattle.leaf_dispatch.specs.declared.running.LeafTurn.{LeafTurn}
@@ -93,7 +95,7 @@ room-begun longest (c ∷ cs) = refl
 shorter : (older : List HeldLock) (x : HeldLock) (held : List HeldLock) → held ≡ older ++ x ∷ [] → length older < length held
 shorter older x held e = (let n = ap length e in let m = length-append older (x ∷ []) in omega (arith, n, m))
 
-module _ (p : Place) (secrets : ℕ → ℕ) (codes : List CodeSeen) (c : Call) (cs : List Call) (ts us : List Translation) (rs : List Reply) (notes : List Note) (told : List ℕ) (ms ns : List Made) where
+module _ (p : Place) (given : Given) (codes : List CodeSeen) (c : Call) (cs : List Call) (ts us : List Translation) (rs : List Reply) (notes : List Note) (told : List ℕ) (ms ns : List Made) where
   abbrev besides : List Translation → List Made → Beside
   besides xs bundles = record { cached = xs; notes = notes; told = told; bundles = bundles }
 
@@ -101,7 +103,7 @@ module _ (p : Place) (secrets : ℕ → ℕ) (codes : List CodeSeen) (c : Call) 
   ends = call_ends p.machine c
 
   abbrev was : Option Standing → Standing
-  was run = running (task_of p c) run
+  was run = running (task_of given p c) run
 
   abbrev pub before : Option Standing → Option WordGuest → WordLp
   before run g = record { lines = c ∷ cs; run = run; guest = g; replies = rs; beside = besides ts ms }
@@ -120,9 +122,9 @@ module _ (p : Place) (secrets : ℕ → ℕ) (codes : List CodeSeen) (c : Call) 
       lower : stage_left (most_tries c) (guest_events c) t.stands.stage (length t.stands.held) < stage_left (most_tries c) (guest_events c) (was run).stage (length (was run).held)
       lower = gives.lower (guest_events c)
 
-      line-moved : TurnsInPieces → (g G : Option WordGuest) → G ≡ guest_by (call_answer c) result.act g → LineMoved did bench p c cs run g rs (besides ts ms) (turned G t.stands result.reply) result
+      line-moved : TurnsInPieces → (g G : Option WordGuest) → G ≡ guest_by (call_answer c) result.act g → LineMoved did bench given p c cs run g rs (besides ts ms) (turned G t.stands result.reply) result
       line-moved law g G is =
-          line-moves law did bench p c cs run g rs (besides ts ms) kept (turned G t.stands result.reply) result made t
+          line-moves law did bench given p c cs run g rs (besides ts ms) kept (turned G t.stands result.reply) result made t
           (ap (λ (z : Option WordGuest). after_turn c cs z rs (besides us ns) t.stands result.reply) is
           ∙ ap (λ (z : Beside). after_turn c cs (guest_by (call_answer c) result.act g) rs z t.stands result.reply) besides-are)
 
@@ -133,7 +135,7 @@ module _ (p : Place) (secrets : ℕ → ℕ) (codes : List CodeSeen) (c : Call) 
       enters (Some r) x e is = (r, sym t.act_is ∙ e, begins c r x (sym is))
 
       outside-fewer : (G : Option WordGuest) → G ≡ guest_by (call_answer c) result.act None → (reply : Option Reply) → events_left (code_in codes) (turned G t.stands reply) < events_left (code_in codes) (before run None)
-      outside-fewer G is reply = subst (λ (n : ℕ). events_left (code_in codes) (turned G t.stands reply) < n + events_in cs) (sym (bound-before p c run)) (by G is reply)
+      outside-fewer G is reply = subst (λ (n : ℕ). events_left (code_in codes) (turned G t.stands reply) < n + events_in cs) (sym (bound-before given p c run)) (by G is reply)
         where
           by : (G : Option WordGuest) → G ≡ guest_by (call_answer c) result.act None → (reply : Option Reply) → events_left (code_in codes) (turned G t.stands reply) < stage_left (most_tries c) (guest_events c) (was run).stage (length (was run).held) + events_in cs
           by G is (Some r) = bound-after (code_in codes) c cs rs (besides us ns) t.stands (Some r) (stage_left (most_tries c) (guest_events c) (was run).stage (length (was run).held)) lower
@@ -142,13 +144,13 @@ module _ (p : Place) (secrets : ℕ → ℕ) (codes : List CodeSeen) (c : Call) 
               let e = enters result.act x refl is in
               enters-fewer (code_in codes) ts c cs ends (was run) t.stands result.event x rs (besides us ns) e.0 refl e.2.events e.2.completed gives e.1
 
-      pub outside-moves : TurnsInPieces → (G : Option WordGuest) → G ≡ guest_by (call_answer c) result.act None → Moved secrets (code_in codes) did bench p (before run None) (turned G t.stands result.reply) result.event
+      pub outside-moves : TurnsInPieces → (G : Option WordGuest) → G ≡ guest_by (call_answer c) result.act None → Moved given (code_in codes) did bench p (before run None) (turned G t.stands result.reply) result.event
       outside-moves law G is =
           let moved = line-moved law None G is in
           record { pieces = moved.pieces; did_them = moved.did_them; turn = moved.turn; fewer = outside-fewer G is result.reply }
 
       run-before : (n : ℕ) → run_room n run ≡ stage_room n (was run).stage
-      run-before n = sym (room-before n (task_of p c) run)
+      run-before n = sym (room-before n (task_of given p c) run)
 
       pub outside-room : (longest : ℕ) (G : Option WordGuest) → G ≡ guest_by (call_answer c) result.act None → (reply : Option Reply) → room_left longest (turned G t.stands reply) ≤ room_left longest (before run None)
       outside-room longest G is (Some r) = rw (room-begun longest cs) (omega arith)
@@ -208,13 +210,13 @@ module _ (p : Place) (secrets : ℕ → ℕ) (codes : List CodeSeen) (c : Call) 
           subst (λ (ys : List Translation). events_left (code_in codes) (record { lines = c ∷ cs; run = Some t.stands; guest = Some x; replies = rs; beside = besides ys ns }) < events_left (code_in codes) (before (Some (standing_of r)) (Some x))) (sym inside-cached)
           (releases-fewer (code_in codes) c cs (standing_of r) t.stands x rs (besides ts ms) (held-less r.run.stage refl answered t.turned.2.turn))
 
-      pub inside-moves : TurnsInPieces → gives_epoch_back r.run.held.items ≡ true → Moved secrets (code_in codes) did bench p (before (Some (standing_of r)) (Some x)) (turned (Some x) t.stands result.reply) result.event
+      pub inside-moves : TurnsInPieces → gives_epoch_back r.run.held.items ≡ true → Moved given (code_in codes) did bench p (before (Some (standing_of r)) (Some x)) (turned (Some x) t.stands result.reply) result.event
       inside-moves law back =
           let moved = line-moved (Some (standing_of r)) t law (Some x) (Some x) stays in
           record {
             pieces = moved.pieces;
             did_them = moved.did_them;
-            turn = subst (λ (b : Bool). EnteredTurn (place_table p secrets (code_in codes)) p.machine c cs (standing_of r) x rs (besides ts ms) result.event moved.pieces (turned (Some x) t.stands result.reply) b) (sym back) moved.turn;
+            turn = subst (λ (b : Bool). EnteredTurn (place_table p given (code_in codes)) p.machine c cs (standing_of r) x rs (besides ts ms) result.event moved.pieces (turned (Some x) t.stands result.reply) b) (sym back) moved.turn;
             fewer = inside-fewer result.reply;
           }
 

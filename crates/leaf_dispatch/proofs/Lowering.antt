@@ -18,24 +18,22 @@ use Rattle.leaf_engine.specs.declared.events.Event.TheVariants as event
 use Rattle.leaf_engine.specs.declared.events.HeldLock.{HeldLock}
 use Rattle.leaf_engine.specs.declared.events.Stage.{Stage}
 use Rattle.leaf_engine.specs.declared.events.Stage.TheVariants as stages
-use Rattle.leaf_engine.specs.Trees.{Answer, only, Tree, Lock, Load, Test, End, Since, answer_of, feed, settle, fed, passed}
+use Rattle.leaf_engine.specs.Trees.{Answer, Tree, Lock, Load, Test, End, Since, answer_of, settle, fed, passed}
 use Rattle.leaf_engine.specs.Besides.{Beside, answered_by, beside_after, bundles_made}
 use Rattle.leaf_engine.specs.Decides.{Wants}
 use Rattle.leaf_engine.specs.Guests.{WordGuest, is_epoch_name, guest_after, guest_entered, or_else}
 use Rattle.leaf_engine.specs.Items.{IsLoadAt, IsLoaded}
 use Rattle.leaf_engine.specs.Turns.{Standing, standing, grants, tried, busy, last_reply, Comes, TurnBy}
-use Rattle.leaf_dispatch.specs.Answers.{Ends, with_bundles, AreMade, EndsBy, EndsAs, FewTries, is_busy, FitsStage, BeginsUnderOther, OldestIsOther, act_of, beside_by, guest_by}
+use Rattle.leaf_table.specs.Ends.{Ends, with_bundles, AreMade, EndsBy, EndsAs, BeginsUnderOther}
+use Rattle.leaf_dispatch.specs.Answers.{FewTries, is_busy, FitsStage, OldestIsOther, act_of, beside_by, guest_by}
 use Rattle.leaf_dispatch.specs.Bounds.{stage_left, stage_used}
+use Rattle.leaf_table.proofs.Ending.{ends-fed}
 
 -- bundles
 
 none-made : (o : Option ℕ) → AreMade o []
 none-made None = refl
 none-made (Some n) = tt
-
-pub only-ends : (o : Option ℕ) (r : Reply) (b : Answer) → only r ≡ b → EndsBy o (only r) b
-only-ends None r b h = ap (with_bundles []) h
-only-ends (Some n) r b h = (ap (with_bundles []) h, tt)
 
 pub record IsBy (o : Option ℕ) (a b : Answer) : Type 0 where
   pub answer : a ≡ with_bundles a.bundles b
@@ -48,23 +46,6 @@ is-by None a b h =
 is-by (Some n) a b h = record { answer = h.0; made = h.1 }
 
 -- trees
-
-ends-more : (e : Ends) (a b : ℕ) (t : Tree) → a ≤ b → EndsAs e a t → EndsAs e b t
-ends-more e a b (Lock l q m t) le few = (let first = few.0 in omega arith, ends-more e (a - 1) (b - 1) t (omega arith) few.1)
-ends-more e a b (Load v q k) le few = λ x. ends-more e a b (k (look v x)) le (few x)
-ends-more e a b (Test c r t) le few = (few.0, few.1, λ y. ends-more e a b t le (few.2 y))
-ends-more e a b (End r fs cs) le few = few
-ends-more e a b (Since r cs) le few = few
-
-pub ends-fed : (e : Ends) (n : ℕ) (t : Tree) (xs : List ℕ) → EndsAs e n t → EndsAs e n (feed t xs)
-ends-fed e n (Lock l q m t) [] few = few
-ends-fed e n (Lock l q m t) (x ∷ xs) few = ends-more e (n - 1) n (feed t xs) (omega arith) (ends-fed e (n - 1) t xs few.1)
-ends-fed e n (Load v q k) [] few = few
-ends-fed e n (Load v q k) (x ∷ xs) few = ends-fed e n (k (look v x)) xs (few x)
-ends-fed e n (Test true r t) xs few = ends-fed e n t xs (few.2 refl)
-ends-fed e n (Test false r t) xs few = (only-ends e.makes r (e.answer r) few.0, few.1)
-ends-fed e n (End r fs cs) xs few = few
-ends-fed e n (Since r cs) xs few = few
 
 pub ends-loaded : (e : Ends) (pages n : ℕ) (t u : Tree) (xs : List Taken) → EndsAs e n t → IsLoaded pages t xs u → EndsAs e n u
 ends-loaded e pages n t u [] few l = subst (λ (z : Tree). EndsAs e n z) l few

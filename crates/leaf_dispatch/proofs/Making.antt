@@ -16,12 +16,14 @@ use Rattle.leaf_engine.specs.Guests.{Step}
 use Rattle.leaf_engine.specs.Means.{Task}
 use Rattle.leaf_engine.specs.Turns.{Standing}
 use Rattle.leaf_engine.specs.OwnLists.{running}
-use Rattle.leaf_dispatch.specs.Answers.{Ends, AreMade, call_makes, call_ends, act_of}
+use Rattle.leaf_table.specs.Ends.{Ends, AreMade, call_makes, call_ends}
+use Rattle.leaf_dispatch.specs.Answers.{act_of}
 use Rattle.leaf_dispatch.specs.Inside.{line_then}
 use Rattle.leaf_dispatch.specs.NoteRooms.{stage_room, run_room}
 use Rattle.leaf_dispatch.specs.BundleRooms.{count_of, words_of, lines_make, still_make, payload_words}
 use Rattle.leaf_dispatch.specs.Running.{standing_of, run_seen, kept_after, made_in_run, IsKept, HasTurned, LeafTurned, IsAnsweredBy, IsAnswered}
-use Rattle.leaf_dispatch.specs.Table.{task_of}
+use Rattle.leaf_table.specs.Given.{Given}
+use Rattle.leaf_table.specs.Table.{task_of}
 use Rattle.leaf_dispatch.specs.declared.running.Running.{Running}
 use Rattle.leaf_dispatch.specs.declared.running.LeafTurn.{LeafTurn}
 use Rattle.leaf_dispatch.proofs.Lowering.{Gives, turn-gives}
@@ -109,13 +111,13 @@ module _ (size : Option ℕ → ℕ) (of : List Made → ℕ) (counts : Counts s
       subst (λ (z : Standing). of (made_in_run (Some r') turn.event) ≤ stage_room (size e.makes) z.stage) k.0 (omega (arith, room))
 
   -- of the present line's run
-  module _ {B : Type 0} (did : List Taken → B → Type 0) (bench : B) (p : Place) (c : Call) (cs lines : List Call) (run kept : Option Running) (result : LeafTurn) (made : List Made) (is : lines ≡ c ∷ cs)
-      (t : LeafTurned did p.machine (call_ends p.machine c) (running (task_of p c) (run_seen run)) bench kept result made) where
+  module _ {B : Type 0} (did : List Taken → B → Type 0) (bench : B) (given : Given) (p : Place) (c : Call) (cs lines : List Call) (run kept : Option Running) (result : LeafTurn) (made : List Made) (is : lines ≡ c ∷ cs)
+      (t : LeafTurned did p.machine (call_ends p.machine c) (running (task_of given p c) (run_seen run)) bench kept result made) where
     room-used : of made + stage_room (size (call_makes c)) t.stands.stage ≤ run_room (size (call_makes c)) (run_seen run)
     room-used =
-        let room = made-room (call_ends p.machine c) (running (task_of p c) (run_seen run)) t.stands result.event (line-gives did bench p.machine (call_ends p.machine c) (running (task_of p c) (run_seen run)) kept result made t) in
+        let room = made-room (call_ends p.machine c) (running (task_of given p c) (run_seen run)) t.stands result.event (line-gives did bench p.machine (call_ends p.machine c) (running (task_of given p c) (run_seen run)) kept result made t) in
         let same : of made ≡ of (bundles_made result.event t.stands.rest) = ap of t.made_is in
-        let before = room-before (size (call_makes c)) (task_of p c) (run_seen run) in
+        let before = room-before (size (call_makes c)) (task_of given p c) (run_seen run) in
         omega (arith, room, same, before)
 
     pub line-room : result.reply ≡ None → of made + still_make size lines (run_seen kept) ≤ still_make size lines (run_seen run)
@@ -134,11 +136,11 @@ module _ (size : Option ℕ → ℕ) (of : List Made → ℕ) (counts : Counts s
         (subst (λ (x : Option Standing). of made + still_make size cs x ≤ still_make size (c ∷ cs) (run_seen run)) (sym seen) (omega (arith, used, begun)))
 
   -- of a call's run that is kept, which may have begun with this turn
-  pub call-room : {B : Type 0} (did : List Taken → B → Type 0) (bench : B) (m : Machine) (p : Place) (c : Call) (run : Option Standing) (kept kept' : Option Running) (turn : RunTurn) → p.machine ≡ m
-      → IsKept p.machine (call_ends p.machine c) (running (task_of p c) run) kept → HasTurned did m kept bench kept' turn → of (made_in_run kept' turn.event) ≤ run_room (size (call_makes c)) run
-  call-room did bench m p c run kept kept' turn at k t =
-      let room = kept-room did bench m (call_ends p.machine c) (running (task_of p c) run) kept kept' turn (subst (λ (z : Machine). IsKept z (call_ends p.machine c) (running (task_of p c) run) kept) at k) t in
-      let before = room-before (size (call_makes c)) (task_of p c) run in
+  pub call-room : {B : Type 0} (did : List Taken → B → Type 0) (bench : B) (m : Machine) (given : Given) (p : Place) (c : Call) (run : Option Standing) (kept kept' : Option Running) (turn : RunTurn) → p.machine ≡ m
+      → IsKept p.machine (call_ends p.machine c) (running (task_of given p c) run) kept → HasTurned did m kept bench kept' turn → of (made_in_run kept' turn.event) ≤ run_room (size (call_makes c)) run
+  call-room did bench m given p c run kept kept' turn at k t =
+      let room = kept-room did bench m (call_ends p.machine c) (running (task_of given p c) run) kept kept' turn (subst (λ (z : Machine). IsKept z (call_ends p.machine c) (running (task_of given p c) run) kept) at k) t in
+      let before = room-before (size (call_makes c)) (task_of given p c) run in
       omega (arith, room, before)
 
 -- the first line's own room

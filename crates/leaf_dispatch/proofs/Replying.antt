@@ -14,10 +14,12 @@ use Rattle.leaf_engine.specs.declared.events.Stage.TheVariants as stages
 use Rattle.leaf_engine.specs.Guests.{Step, Operates, Accesses, Loads, Leaves}
 use Rattle.leaf_engine.specs.OwnLists.{running}
 use Rattle.leaf_engine.specs.Turns.{Standing}
-use Rattle.leaf_dispatch.specs.Answers.{Ends, step_fits, step_tries, step_ends, FitsStage}
+use Rattle.leaf_table.specs.Ends.{Ends, step_fits, step_tries, step_ends}
+use Rattle.leaf_dispatch.specs.Answers.{FitsStage}
 use Rattle.leaf_dispatch.specs.Guests.{IsNumber, IsExit, IsReplyOf}
 use Rattle.leaf_dispatch.specs.Running.{run_seen, LeafTurned}
-use Rattle.leaf_dispatch.specs.Table.{step_task}
+use Rattle.leaf_table.specs.Given.{Given}
+use Rattle.leaf_table.specs.Table.{step_task}
 use Rattle.leaf_dispatch.specs.declared.running.Running.{Running}
 use Rattle.leaf_dispatch.specs.declared.running.LeafTurn.{LeafTurn}
 use Rattle.leaf_dispatch.proofs.Turning.{line-gives}
@@ -57,5 +59,5 @@ module _ {B : Type 0} (did : List Taken → B → Type 0) (bench : B) (m : Machi
   reply-fits t n (Leaves out) run turned first (Some r) is = exit-of out r (at-once t n (Leaves out) run r turned refl (first refl) is)
 
 -- a run that hasn't begun is on its way
-pub first-trying : (secrets : ℕ → ℕ) (p : Place) (t v n : ℕ) (s : Step) (kept : Option Running) → (step_tries s ≡ 0 → kept ≡ None) → step_tries s ≡ 0 → (running (step_task secrets p t v n s) (run_seen kept)).stage ≡ stages.Trying
-first-trying secrets p t v n s kept h none = ap (λ (k : Option Running). (running (step_task secrets p t v n s) (run_seen k)).stage) (h none)
+pub first-trying : (given : Given) (p : Place) (t v n : ℕ) (s : Step) (kept : Option Running) → (step_tries s ≡ 0 → kept ≡ None) → step_tries s ≡ 0 → (running (step_task given p t v n s) (run_seen kept)).stage ≡ stages.Trying
+first-trying given p t v n s kept h none = ap (λ (k : Option Running). (running (step_task given p t v n s) (run_seen k)).stage) (h none)

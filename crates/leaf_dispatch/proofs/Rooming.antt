@@ -13,7 +13,8 @@ use Rattle.leaf_engine.specs.declared.events.Stage.{Stage}
 use Rattle.leaf_engine.specs.declared.events.Stage.TheVariants as stages
 use Rattle.leaf_engine.specs.Turns.{Standing}
 use Rattle.leaf_engine.specs.Guests.{WordGuest, Step, Operates, Accesses, Loads, passed_on, exited_with, operated}
-use Rattle.leaf_dispatch.specs.Answers.{Ends, step_answer, act_of, notes_by, tells_by}
+use Rattle.leaf_table.specs.Ends.{Ends, step_answer}
+use Rattle.leaf_dispatch.specs.Answers.{act_of, notes_by, tells_by}
 use Rattle.leaf_dispatch.specs.Guests.{is_outcome}
 use Rattle.leaf_dispatch.specs.Bounds.{unless_leaving}
 use Rattle.leaf_dispatch.specs.NoteRooms.{least, stage_made, run_made, guest_room}

@@ -12,12 +12,14 @@ use Rattle.leaf_engine.specs.Guests.{WordGuest, Step, gives_epoch_back}
 use Rattle.leaf_engine.specs.Merges.{IsStepOf}
 use Rattle.leaf_engine.specs.Turns.{Standing}
 use Rattle.leaf_engine.specs.OwnLists.{TurnsInPieces, WordLp, running, after_turn}
-use Rattle.leaf_dispatch.specs.Answers.{call_answer, call_ends, guest_by, cached_by, step_answer, step_ends, notes_by, tells_by}
+use Rattle.leaf_table.specs.Ends.{call_answer, call_ends, step_answer, step_ends}
+use Rattle.leaf_dispatch.specs.Answers.{guest_by, cached_by, notes_by, tells_by}
 use Rattle.leaf_dispatch.specs.Guests.{guest_seen, next_in, IsLow, CanCount, IsNextGuest}
 use Rattle.leaf_dispatch.specs.Inside.{guest_in, acting, entered_or, line_then, KeepsGuest}
 use Rattle.leaf_dispatch.specs.NoteRooms.{longest_in, room_of}
 use Rattle.leaf_dispatch.specs.Running.{standing_of, run_seen, kept_after, IsAnswered, LeafTurned}
-use Rattle.leaf_dispatch.specs.Table.{code_in, task_of, step_task}
+use Rattle.leaf_table.specs.Given.{Given}
+use Rattle.leaf_table.specs.Table.{code_in, task_of, step_task}
 use Rattle.leaf_dispatch.specs.declared.guests.GuestAt.{GuestAt}
 use Rattle.leaf_dispatch.specs.declared.running.Running.{Running}
 use Rattle.leaf_dispatch.specs.declared.running.LeafTurn.{LeafTurn}
@@ -25,7 +27,7 @@ use Rattle.leaf_dispatch.proofs.Turning.{Moved}
 use Rattle.leaf_dispatch.proofs.LineEvents.{gives-back, none-kept, outside-moves, outside-room, outside-keeps, acts-once, inside-moves, inside-room, inside-keeps}
 use Rattle.leaf_dispatch.proofs.GuestEvents.{MakesNone, Acts, acts-in, guest-moved, guest-fits, guest-keeps, kept-of}
 
-module _ (p : Place) (secrets : ℕ → ℕ) (codes : List CodeSeen) (c : Call) (cs : List Call) (ts us : List Translation) (rs : List Reply) (notes : List Note) (told : List ℕ) (ms ns : List Made) where
+module _ (p : Place) (given : Given) (codes : List CodeSeen) (c : Call) (cs : List Call) (ts us : List Translation) (rs : List Reply) (notes : List Note) (told : List ℕ) (ms ns : List Made) where
   -- where it is, by the parts that an event changes
   abbrev pub at : List Call → Option Standing → Option WordGuest → List Reply → List Translation → List Made → WordLp
   at lines run g replies xs bundles = record { lines = lines; run = run; guest = g; replies = replies; beside = record { cached = xs; notes = notes; told = told; bundles = bundles } }
@@ -33,16 +35,16 @@ module _ (p : Place) (secrets : ℕ → ℕ) (codes : List CodeSeen) (c : Call) 
   module _ {B : Type 0} (did : List Taken → B → Type 0) (bench : B) (kept : Option Running) (result : LeafTurn) (made : List Made) where
     -- of a line that goes on, and of one that has its reply: the event, what is kept of the guest, and the room
     pub record GoesOn (then-guest : Option GuestAt) (lines : List Call) (guest : Option GuestAt) (run step : Option Running) : Type 0 where
-      pub moved : Moved secrets (code_in codes) did bench p (at lines (run_seen run) (guest_in guest step) rs ts ms) (at lines (run_seen kept) (guest_in then-guest step) rs us ns) result.event
+      pub moved : Moved given (code_in codes) did bench p (at lines (run_seen run) (guest_in guest step) rs ts ms) (at lines (run_seen kept) (guest_in then-guest step) rs us ns) result.event
       pub keeps : KeepsGuest p.machine codes us (length rs + 1) then-guest kept step
       pub room : (longest : ℕ) → room_of longest lines (run_seen kept) (guest_in then-guest step) ≤ room_of longest lines (run_seen run) (guest_in guest step)
 
     pub record HasEnded (replies : List Reply) (lines : List Call) (guest : Option GuestAt) (run step : Option Running) : Type 0 where
-      pub moved : Moved secrets (code_in codes) did bench p (at lines (run_seen run) (guest_in guest step) rs ts ms) (at cs (run_seen kept) None replies us ns) result.event
+      pub moved : Moved given (code_in codes) did bench p (at lines (run_seen run) (guest_in guest step) rs ts ms) (at cs (run_seen kept) None replies us ns) result.event
       pub room : (longest : ℕ) → room_of longest cs (run_seen kept) None ≤ room_of longest lines (run_seen run) (guest_in guest step)
 
     module _ (law : TurnsInPieces) (ent : Option GuestAt) (lines : List Call) (guest : Option GuestAt) (run step : Option Running) (is : lines ≡ c ∷ cs)
-        (own : acting guest run ≡ None) (keeps : KeepsGuest p.machine codes ts (length rs + 1) guest run step) (t : LeafTurned did p.machine (call_ends p.machine c) (running (task_of p c) (run_seen run)) bench kept result made) (cached : us ≡ cached_by (call_answer c) result.act ts) (adds : ns ≡ added ms made)
+        (own : acting guest run ≡ None) (keeps : KeepsGuest p.machine codes ts (length rs + 1) guest run step) (t : LeafTurned did p.machine (call_ends p.machine c) (running (task_of given p c) (run_seen run)) bench kept result made) (cached : us ≡ cached_by (call_answer c) result.act ts) (adds : ns ≡ added ms made)
         (entered : option_map (λ (g : GuestAt). guest_seen g None) ent ≡ guest_by (call_answer c) result.act None)
         (inside : IfSome ent (λ g. (g.tdr < p.machine.pages) × (g.vp < p.machine.pages) × (code_in codes g.tdr g.index ≡ g.list.now) × IsLow g.walk)) where
       -- a line that goes on
@@ -55,16 +57,16 @@ module _ (p : Place) (secrets : ℕ → ℕ) (codes : List CodeSeen) (c : Call) 
               ap (after_turn c cs g rs (record { cached = us; notes = notes; told = told; bundles = ns }) t) none
               ∙ ap (λ (run : Option Standing). at (c ∷ cs) run g rs us ns) (sym (seen ∙ ap (λ (z : Option Reply). kept_after z t) none))
 
-          outside : (run : Option Running) → (t : LeafTurned did p.machine (call_ends p.machine c) (running (task_of p c) (run_seen run)) bench kept result made) → GoesOn (entered_or ent None) (c ∷ cs) None run None
+          outside : (run : Option Running) → (t : LeafTurned did p.machine (call_ends p.machine c) (running (task_of given p c) (run_seen run)) bench kept result made) → GoesOn (entered_or ent None) (c ∷ cs) None run None
           outside run t =
               let seen : guest_in (entered_or ent None) None ≡ option_map (λ (g : GuestAt). guest_seen g None) ent = alone ent in
               let same = then-is t.stands t.seen (guest_in (entered_or ent None) None) in
               record {
-                moved = subst (λ (q : WordLp). Moved secrets (code_in codes) did bench p (at (c ∷ cs) (run_seen run) None rs ts ms) q result.event) same
-                    (outside-moves p secrets codes c cs ts us rs notes told ms ns did bench kept result made cached adds (run_seen run) t law (guest_in (entered_or ent None) None) (seen ∙ entered));
-                keeps = outside-keeps p secrets codes c cs ts us rs notes told ms ns did bench kept result made cached adds (run_seen run) t ent entered inside none;
+                moved = subst (λ (q : WordLp). Moved given (code_in codes) did bench p (at (c ∷ cs) (run_seen run) None rs ts ms) q result.event) same
+                    (outside-moves p given codes c cs ts us rs notes told ms ns did bench kept result made cached adds (run_seen run) t law (guest_in (entered_or ent None) None) (seen ∙ entered));
+                keeps = outside-keeps p given codes c cs ts us rs notes told ms ns did bench kept result made cached adds (run_seen run) t ent entered inside none;
                 room = λ longest. subst (λ (q : WordLp). room_of longest q.lines q.run q.guest ≤ room_of longest (c ∷ cs) (run_seen run) None) same
-                    (outside-room p secrets codes c cs ts us rs notes told ms ns did bench kept result made cached adds (run_seen run) t longest (guest_in (entered_or ent None) None) (seen ∙ entered) result.reply);
+                    (outside-room p given codes c cs ts us rs notes told ms ns did bench kept result made cached adds (run_seen run) t longest (guest_in (entered_or ent None) None) (seen ∙ entered) result.reply);
               }
             where
               alone : (ent : Option GuestAt) → guest_in (entered_or ent None) None ≡ option_map (λ (g : GuestAt). guest_seen g None) ent
@@ -75,21 +77,21 @@ module _ (p : Place) (secrets : ℕ → ℕ) (codes : List CodeSeen) (c : Call) 
           nobody None e = refl
           nobody (Some g) e = cc
 
-          by : (guest : Option GuestAt) (run step : Option Running) → acting guest run ≡ None → KeepsGuest p.machine codes ts (length rs + 1) guest run step → LeafTurned did p.machine (call_ends p.machine c) (running (task_of p c) (run_seen run)) bench kept result made → GoesOn (entered_or ent guest) (c ∷ cs) guest run step
+          by : (guest : Option GuestAt) (run step : Option Running) → acting guest run ≡ None → KeepsGuest p.machine codes ts (length rs + 1) guest run step → LeafTurned did p.machine (call_ends p.machine c) (running (task_of given p c) (run_seen run)) bench kept result made → GoesOn (entered_or ent guest) (c ∷ cs) guest run step
           by None run step own keeps t = subst (λ (s : Option Running). GoesOn (entered_or ent None) (c ∷ cs) None run s) (sym (none-kept step keeps)) (outside run t)
           by (Some g) None step own keeps t = absurd keeps
           by (Some g) (Some r) step own keeps t =
               let x : WordGuest = guest_seen g (run_seen step) in
-              let acts = acts-once p secrets codes c cs ts us rs notes told ms ns did bench kept result made cached adds r x keeps.0 t in
+              let acts = acts-once p given codes c cs ts us rs notes told ms ns did bench kept result made cached adds r x keeps.0 t in
               let no : ent ≡ None = nobody ent (entered ∙ ap (λ (a : Option Reply). guest_by (call_answer c) a None) acts) in
               let same = then-is t.stands t.seen (Some x) in
               let goes : GoesOn (Some g) (c ∷ cs) (Some g) (Some r) step =
               record {
-                moved = subst (λ (q : WordLp). Moved secrets (code_in codes) did bench p (at (c ∷ cs) (Some (standing_of r)) (Some x) rs ts ms) q result.event) same
-                    (inside-moves p secrets codes c cs ts us rs notes told ms ns did bench kept result made cached adds r x keeps.0 t law (gives-back (gives_epoch_back r.run.held.items) g own));
-                keeps = inside-keeps p secrets codes c cs ts us rs notes told ms ns did bench kept result made cached adds r x keeps.0 t g step keeps.1 none;
+                moved = subst (λ (q : WordLp). Moved given (code_in codes) did bench p (at (c ∷ cs) (Some (standing_of r)) (Some x) rs ts ms) q result.event) same
+                    (inside-moves p given codes c cs ts us rs notes told ms ns did bench kept result made cached adds r x keeps.0 t law (gives-back (gives_epoch_back r.run.held.items) g own));
+                keeps = inside-keeps p given codes c cs ts us rs notes told ms ns did bench kept result made cached adds r x keeps.0 t g step keeps.1 none;
                 room = λ longest. subst (λ (q : WordLp). room_of longest q.lines q.run q.guest ≤ room_of longest (c ∷ cs) (Some (standing_of r)) (Some x)) same
-                    (inside-room p secrets codes c cs ts us rs notes told ms ns did bench kept result made cached adds r x keeps.0 t longest result.reply);
+                    (inside-room p given codes c cs ts us rs notes told ms ns did bench kept result made cached adds r x keeps.0 t longest result.reply);
               } in
               subst (λ (e : Option GuestAt). GoesOn (entered_or e (Some g)) (c ∷ cs) (Some g) (Some r) step) (sym no) goes
 
@@ -106,28 +108,28 @@ module _ (p : Place) (secrets : ℕ → ℕ) (codes : List CodeSeen) (c : Call) 
               ap (after_turn c cs g rs (record { cached = us; notes = notes; told = told; bundles = ns }) t) some
               ∙ ap (λ (run : Option Standing). at cs run None (rs ++ z ∷ []) us ns) (sym (seen ∙ ap (λ (z : Option Reply). kept_after z t) some))
 
-          outside : (run : Option Running) → (t : LeafTurned did p.machine (call_ends p.machine c) (running (task_of p c) (run_seen run)) bench kept result made) → HasEnded (rs ++ z ∷ []) (c ∷ cs) None run None
+          outside : (run : Option Running) → (t : LeafTurned did p.machine (call_ends p.machine c) (running (task_of given p c) (run_seen run)) bench kept result made) → HasEnded (rs ++ z ∷ []) (c ∷ cs) None run None
           outside run t =
               let G = guest_by (call_answer c) result.act None in
               let same = then-is t.stands t.seen G in
               record {
-                moved = subst (λ (q : WordLp). Moved secrets (code_in codes) did bench p (at (c ∷ cs) (run_seen run) None rs ts ms) q result.event) same
-                    (outside-moves p secrets codes c cs ts us rs notes told ms ns did bench kept result made cached adds (run_seen run) t law G refl);
+                moved = subst (λ (q : WordLp). Moved given (code_in codes) did bench p (at (c ∷ cs) (run_seen run) None rs ts ms) q result.event) same
+                    (outside-moves p given codes c cs ts us rs notes told ms ns did bench kept result made cached adds (run_seen run) t law G refl);
                 room = λ longest. subst (λ (q : WordLp). room_of longest q.lines q.run q.guest ≤ room_of longest (c ∷ cs) (run_seen run) None) same
-                    (outside-room p secrets codes c cs ts us rs notes told ms ns did bench kept result made cached adds (run_seen run) t longest G refl result.reply);
+                    (outside-room p given codes c cs ts us rs notes told ms ns did bench kept result made cached adds (run_seen run) t longest G refl result.reply);
               }
 
-          by : (guest : Option GuestAt) (run step : Option Running) → acting guest run ≡ None → KeepsGuest p.machine codes ts (length rs + 1) guest run step → LeafTurned did p.machine (call_ends p.machine c) (running (task_of p c) (run_seen run)) bench kept result made → HasEnded (rs ++ z ∷ []) (c ∷ cs) guest run step
+          by : (guest : Option GuestAt) (run step : Option Running) → acting guest run ≡ None → KeepsGuest p.machine codes ts (length rs + 1) guest run step → LeafTurned did p.machine (call_ends p.machine c) (running (task_of given p c) (run_seen run)) bench kept result made → HasEnded (rs ++ z ∷ []) (c ∷ cs) guest run step
           by None run step own keeps t = subst (λ (s : Option Running). HasEnded (rs ++ z ∷ []) (c ∷ cs) None run s) (sym (none-kept step keeps)) (outside run t)
           by (Some g) None step own keeps t = absurd keeps
           by (Some g) (Some r) step own keeps t =
               let x : WordGuest = guest_seen g (run_seen step) in
               let same = then-is t.stands t.seen (Some x) in
               record {
-                moved = subst (λ (q : WordLp). Moved secrets (code_in codes) did bench p (at (c ∷ cs) (Some (standing_of r)) (Some x) rs ts ms) q result.event) same
-                    (inside-moves p secrets codes c cs ts us rs notes told ms ns did bench kept result made cached adds r x keeps.0 t law (gives-back (gives_epoch_back r.run.held.items) g own));
+                moved = subst (λ (q : WordLp). Moved given (code_in codes) did bench p (at (c ∷ cs) (Some (standing_of r)) (Some x) rs ts ms) q result.event) same
+                    (inside-moves p given codes c cs ts us rs notes told ms ns did bench kept result made cached adds r x keeps.0 t law (gives-back (gives_epoch_back r.run.held.items) g own));
                 room = λ longest. subst (λ (q : WordLp). room_of longest q.lines q.run q.guest ≤ room_of longest (c ∷ cs) (Some (standing_of r)) (Some x)) same
-                    (inside-room p secrets codes c cs ts us rs notes told ms ns did bench kept result made cached adds r x keeps.0 t longest result.reply);
+                    (inside-room p given codes c cs ts us rs notes told ms ns did bench kept result made cached adds r x keeps.0 t longest result.reply);
               }
 
       pub line-has-ended : (z : Reply) (replies : List Reply) → result.reply ≡ Some z → replies ≡ rs ++ z ∷ [] → HasEnded replies lines guest run step
@@ -135,7 +137,7 @@ module _ (p : Place) (secrets : ℕ → ℕ) (codes : List CodeSeen) (c : Call) 
 
 -- an event of the guest
 
-module _ (p : Place) (secrets : ℕ → ℕ) (codes : List CodeSeen) (rs : List Reply) (told : List ℕ) (notes : List Note) (ts : List Translation) (ms : List Made) where
+module _ (p : Place) (given : Given) (codes : List CodeSeen) (rs : List Reply) (told : List ℕ) (notes : List Note) (ts : List Translation) (ms : List Made) where
   abbrev pub inside : List Call → Option Standing → Option WordGuest → List Translation → List Note → List ℕ → WordLp
   inside lines run g xs ns words = record { lines = lines; run = run; guest = g; replies = rs; beside = record { cached = xs; notes = ns; told = words; bundles = ms } }
 
@@ -145,7 +147,7 @@ module _ (p : Place) (secrets : ℕ → ℕ) (codes : List CodeSeen) (rs : List 
       pub counts : CanCount g s
       pub low : IsStepOf s
       pub is : next_in ts g None ≡ s
-      pub turned : LeafTurned did p.machine (step_ends g.tdr line s) (running (step_task secrets p g.tdr g.vp line s) (run_seen step)) bench kept result []
+      pub turned : LeafTurned did p.machine (step_ends g.tdr line s) (running (step_task given p g.tdr g.vp line s) (run_seen step)) bench kept result []
       pub cached : us ≡ cached_by (step_answer g.tdr line s) result.act ts
       pub next : IsNextGuest g s result.reply h
 
@@ -160,7 +162,7 @@ module _ (p : Place) (secrets : ℕ → ℕ) (codes : List CodeSeen) (rs : List 
         let t = subst StepsAt same at in
         let a : Acts g guest run = acts-in guest run g acts in
         let inside = kept-of p.machine codes ts at_line guest run g step acts keeps in
-        let fits = guest-fits p secrets codes c cs a.line g step ts us rs notes told ms did bench kept result s h t.is inside t.counts t.low t.turned t.cached t.next (longest_in codes) made refl few none makes in
+        let fits = guest-fits p given codes c cs a.line g step ts us rs notes told ms did bench kept result s h t.is inside t.counts t.low t.turned t.cached t.next (longest_in codes) made refl few none makes in
         let less : made ≤ room_of (longest_in codes) (c ∷ cs) (Some (standing_of a.line)) (guest_in (Some g) step) = omega (arith, fits) in
         subst (λ (y : Option GuestAt). made ≤ room_of (longest_in codes) (c ∷ cs) (run_seen run) (guest_in y step)) (sym a.guest_is)
         (subst (λ (k : Option Running). made ≤ room_of (longest_in codes) (c ∷ cs) (run_seen k) (guest_in (Some g) step)) (sym a.run_is) less)
@@ -168,7 +170,7 @@ module _ (p : Place) (secrets : ℕ → ℕ) (codes : List CodeSeen) (rs : List 
     module _ (run' : Option Running) (notes' : List Note) (told' : List ℕ) where
       -- the event, what is kept of the guest, and the room
       pub record HasStepped (lines : List Call) (guest : Option GuestAt) (run : Option Running) : Type 0 where
-        pub moved : Moved secrets (code_in codes) did bench p (inside lines (run_seen run) (guest_in guest step) ts notes told) (inside lines (run_seen run') (guest_in h kept) us notes' told') result.event
+        pub moved : Moved given (code_in codes) did bench p (inside lines (run_seen run) (guest_in guest step) ts notes told) (inside lines (run_seen run') (guest_in h kept) us notes' told') result.event
         pub keeps : KeepsGuest p.machine codes us (length rs + 1) h run' kept
         pub room : (made : ℕ) → made ≤ 1 → (result.act ≡ None → made ≡ 0) → MakesNone s made
             → room_of (longest_in codes) lines (run_seen run') (guest_in h kept) + made ≤ room_of (longest_in codes) lines (run_seen run) (guest_in guest step)
@@ -200,10 +202,10 @@ module _ (p : Place) (secrets : ℕ → ℕ) (codes : List CodeSeen) (rs : List 
               where
                 on : (r : Running) → gives_epoch_back r.run.held.items ≡ false → KeepsGuest p.machine codes ts (length rs + 1) (Some g) (Some r) step → run_seen run' ≡ line_then s result.reply (Some (standing_of r)) → HasStepped (c ∷ cs) (Some g) (Some r)
                 on r back keeps seen = record {
-                  moved = subst (λ (z : Option Standing). Moved secrets (code_in codes) did bench p (inside (c ∷ cs) (Some (standing_of r)) (guest_in (Some g) step) ts notes told) (inside (c ∷ cs) z (guest_in h kept) us notes' told') result.event) (sym seen)
-                      (subst (λ (q : WordLp). Moved secrets (code_in codes) did bench p (inside (c ∷ cs) (Some (standing_of r)) (guest_in (Some g) step) ts notes told) (record { lines = c ∷ cs; run = line_then s result.reply (Some (standing_of r)); guest = guest_in h kept; replies = rs; beside = q.beside }) result.event) (sym then-are)
-                      (guest-moved p secrets codes c cs r g step ts us rs notes told ms did bench kept result s h t.is keeps.1 t.counts t.low t.turned t.cached t.next law back));
-                  keeps = guest-keeps p secrets codes c cs r g step ts us rs notes told ms did bench kept result s h t.is keeps.1 t.counts t.low t.turned t.cached t.next run' seen answered list;
+                  moved = subst (λ (z : Option Standing). Moved given (code_in codes) did bench p (inside (c ∷ cs) (Some (standing_of r)) (guest_in (Some g) step) ts notes told) (inside (c ∷ cs) z (guest_in h kept) us notes' told') result.event) (sym seen)
+                      (subst (λ (q : WordLp). Moved given (code_in codes) did bench p (inside (c ∷ cs) (Some (standing_of r)) (guest_in (Some g) step) ts notes told) (record { lines = c ∷ cs; run = line_then s result.reply (Some (standing_of r)); guest = guest_in h kept; replies = rs; beside = q.beside }) result.event) (sym then-are)
+                      (guest-moved p given codes c cs r g step ts us rs notes told ms did bench kept result s h t.is keeps.1 t.counts t.low t.turned t.cached t.next law back));
+                  keeps = guest-keeps p given codes c cs r g step ts us rs notes told ms did bench kept result s h t.is keeps.1 t.counts t.low t.turned t.cached t.next run' seen answered list;
                   room = λ made few none makes. subst (λ (z : Option Standing). room_of (longest_in codes) (c ∷ cs) z (guest_in h kept) + made ≤ room_of (longest_in codes) (c ∷ cs) (Some (standing_of r)) (guest_in (Some g) step)) (sym seen)
-                      (guest-fits p secrets codes c cs r g step ts us rs notes told ms did bench kept result s h t.is keeps.1 t.counts t.low t.turned t.cached t.next (longest_in codes) made refl few none makes);
+                      (guest-fits p given codes c cs r g step ts us rs notes told ms did bench kept result s h t.is keeps.1 t.counts t.low t.turned t.cached t.next (longest_in codes) made refl few none makes);
                 }

@@ -16,10 +16,12 @@ use Rattle.leaf_engine.specs.Besides.{Beside, beside_after}
 use Rattle.leaf_engine.specs.Guests.{WordGuest, Step, Operates, due_step, staying_step, step_of, passed_on, leaving_with}
 use Rattle.leaf_engine.specs.Turns.{Standing}
 use Rattle.leaf_engine.specs.OwnLists.{Piece, taken_in, TurnsInPieces, WordLp, running, after_step, GuestTurn}
-use Rattle.leaf_dispatch.specs.Answers.{Ends, step_answer, step_ends, beside_by}
+use Rattle.leaf_table.specs.Ends.{Ends, step_answer, step_ends}
+use Rattle.leaf_dispatch.specs.Answers.{beside_by}
 use Rattle.leaf_dispatch.specs.Bounds.{stage_used, run_used, step_used, unless_leaving, guest_left}
 use Rattle.leaf_dispatch.specs.Guests.{guest_seen, unless_left, next_in}
-use Rattle.leaf_dispatch.specs.Table.{step_task, place_table}
+use Rattle.leaf_table.specs.Given.{Given}
+use Rattle.leaf_table.specs.Table.{step_task, place_table}
 use Rattle.leaf_dispatch.specs.Running.{turn_of, LeafTurned}
 use Rattle.leaf_dispatch.specs.declared.guests.GuestAt.{GuestAt}
 use Rattle.leaf_dispatch.specs.declared.running.Running.{Running}
@@ -35,18 +37,18 @@ staying-is codes ts x list (Some out) same = refl
 pub step-is : (codes : ℕ → ℕ → List GuestOp) (ts : List Translation) (g : GuestAt) (run : Option Standing) → codes g.tdr g.index ≡ g.list.now → step_of codes ts (guest_seen g run) ≡ next_in ts g run
 step-is codes ts g run same = staying-is codes ts (guest_seen g run) g.list.now g.leaving same
 
-pub record GuestMoved {B : Type 0} (did : List Taken → B → Type 0) (bench : B) (p : Place) (secrets : ℕ → ℕ) (codes : ℕ → ℕ → List GuestOp) (c : Call) (cs : List Call) (line : Standing) (g : WordGuest) (rs : List Reply) (b : Beside) (q : WordLp) (result : LeafTurn) : Type 0 where
+pub record GuestMoved {B : Type 0} (did : List Taken → B → Type 0) (bench : B) (p : Place) (given : Given) (codes : ℕ → ℕ → List GuestOp) (c : Call) (cs : List Call) (line : Standing) (g : WordGuest) (rs : List Reply) (b : Beside) (q : WordLp) (result : LeafTurn) : Type 0 where
   pub pieces : List Piece
   pub did_them : did (taken_in pieces) bench
-  pub turn : GuestTurn (place_table p secrets codes) p.machine c cs line g rs b result.event pieces q
+  pub turn : GuestTurn (place_table p given codes) p.machine c cs line g rs b result.event pieces q
 
-guest-moves-at : TurnsInPieces → {B : Type 0} (did : List Taken → B → Type 0) (bench : B) (p : Place) (secrets : ℕ → ℕ) (codes : ℕ → ℕ → List GuestOp) (c : Call) (cs : List Call) (line : Standing) (g : WordGuest) (rs : List Reply) (b : Beside) (kept : Option Running) (q : WordLp) (result : LeafTurn)
-    → let s = step_of codes b.cached g in let e = step_ends g.tdr (length rs + 1) s in (t : LeafTurned did p.machine e (running (step_task secrets p g.tdr g.vp (length rs + 1) s) g.run) bench kept result [])
-    → q ≡ after_step c cs line g rs (beside_by e.answer [] result.act b) s t.stands result.reply → GuestMoved did bench p secrets codes c cs line g rs b q result
-guest-moves-at law did bench p secrets codes c cs line g rs b kept q result t after =
+guest-moves-at : TurnsInPieces → {B : Type 0} (did : List Taken → B → Type 0) (bench : B) (p : Place) (given : Given) (codes : ℕ → ℕ → List GuestOp) (c : Call) (cs : List Call) (line : Standing) (g : WordGuest) (rs : List Reply) (b : Beside) (kept : Option Running) (q : WordLp) (result : LeafTurn)
+    → let s = step_of codes b.cached g in let e = step_ends g.tdr (length rs + 1) s in (t : LeafTurned did p.machine e (running (step_task given p g.tdr g.vp (length rs + 1) s) g.run) bench kept result [])
+    → q ≡ after_step c cs line g rs (beside_by e.answer [] result.act b) s t.stands result.reply → GuestMoved did bench p given codes c cs line g rs b q result
+guest-moves-at law did bench p given codes c cs line g rs b kept q result t after =
     let s : Step = step_of codes b.cached g in
     let e : Ends = step_ends g.tdr (length rs + 1) s in
-    let run : Standing = running (step_task secrets p g.tdr g.vp (length rs + 1) s) g.run in
+    let run : Standing = running (step_task given p g.tdr g.vp (length rs + 1) s) g.run in
     let told = law.told p.machine run t.stands t.turned.0 (turn_of result) t.turned.2 in
     let gives : Gives e run t.stands result.event = turn-gives p.machine e run t.stands t.turned.0 result.event t.few_tries t.fits t.oldest t.turned.2.turn in
     let besides : beside_by e.answer [] result.act b ≡ beside_after result.event t.stands.rest b = (λ i. beside_by e.answer (t.made_is i) (t.act_is i) b) ∙ sym (gives.beside b) in
@@ -65,15 +67,15 @@ guest-moves-at law did bench p secrets codes c cs line g rs b kept q result t af
     }
 
 -- whatever its step is
-pub guest-moves : TurnsInPieces → {B : Type 0} (did : List Taken → B → Type 0) (bench : B) (p : Place) (secrets : ℕ → ℕ) (codes : ℕ → ℕ → List GuestOp) (c : Call) (cs : List Call) (line : Standing) (g : WordGuest) (rs : List Reply) (b : Beside) (kept : Option Running) (q : WordLp) (result : LeafTurn)
-    (s : Step) → step_of codes b.cached g ≡ s → let e = step_ends g.tdr (length rs + 1) s in (t : LeafTurned did p.machine e (running (step_task secrets p g.tdr g.vp (length rs + 1) s) g.run) bench kept result [])
-    → q ≡ after_step c cs line g rs (beside_by e.answer [] result.act b) s t.stands result.reply → GuestMoved did bench p secrets codes c cs line g rs b q result
-guest-moves law did bench p secrets codes c cs line g rs b kept q result s is =
+pub guest-moves : TurnsInPieces → {B : Type 0} (did : List Taken → B → Type 0) (bench : B) (p : Place) (given : Given) (codes : ℕ → ℕ → List GuestOp) (c : Call) (cs : List Call) (line : Standing) (g : WordGuest) (rs : List Reply) (b : Beside) (kept : Option Running) (q : WordLp) (result : LeafTurn)
+    (s : Step) → step_of codes b.cached g ≡ s → let e = step_ends g.tdr (length rs + 1) s in (t : LeafTurned did p.machine e (running (step_task given p g.tdr g.vp (length rs + 1) s) g.run) bench kept result [])
+    → q ≡ after_step c cs line g rs (beside_by e.answer [] result.act b) s t.stands result.reply → GuestMoved did bench p given codes c cs line g rs b q result
+guest-moves law did bench p given codes c cs line g rs b kept q result s is =
     subst
-    (λ (z : Step). let e = step_ends g.tdr (length rs + 1) z in (t : LeafTurned did p.machine e (running (step_task secrets p g.tdr g.vp (length rs + 1) z) g.run) bench kept result []) → q ≡ after_step c cs line g rs (beside_by e.answer [] result.act b) z t.stands result.reply
-    → GuestMoved did bench p secrets codes c cs line g rs b q result)
+    (λ (z : Step). let e = step_ends g.tdr (length rs + 1) z in (t : LeafTurned did p.machine e (running (step_task given p g.tdr g.vp (length rs + 1) z) g.run) bench kept result []) → q ≡ after_step c cs line g rs (beside_by e.answer [] result.act b) z t.stands result.reply
+    → GuestMoved did bench p given codes c cs line g rs b q result)
     is
-    (guest-moves-at law did bench p secrets codes c cs line g rs b kept q result)
+    (guest-moves-at law did bench p given codes c cs line g rs b kept q result)
 
 -- an operation leaves what is cached
 pub cached-stays : (t line : ℕ) (o : GuestOp) (r : Reply) (ts : List Translation) → (step_answer t line (Operates o) r).cached ts ≡ ts

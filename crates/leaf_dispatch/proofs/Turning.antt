@@ -14,9 +14,11 @@ use Rattle.leaf_engine.specs.Besides.{Beside, beside_after}
 use Rattle.leaf_engine.specs.Guests.{WordGuest, guest_after}
 use Rattle.leaf_engine.specs.Turns.{Standing}
 use Rattle.leaf_engine.specs.OwnLists.{Piece, taken_in, TurnsInPieces, WordLp, running, after_turn, LineTurn, LpTurns}
-use Rattle.leaf_dispatch.specs.Answers.{Ends, call_answer, call_ends, beside_by, guest_by}
+use Rattle.leaf_table.specs.Ends.{Ends, call_answer, call_ends}
+use Rattle.leaf_dispatch.specs.Answers.{beside_by, guest_by}
 use Rattle.leaf_dispatch.specs.Bounds.{stage_left, run_left, events_left}
-use Rattle.leaf_dispatch.specs.Table.{task_of, place_table}
+use Rattle.leaf_table.specs.Given.{Given}
+use Rattle.leaf_table.specs.Table.{task_of, place_table}
 use Rattle.leaf_dispatch.specs.Running.{turn_of, LeafTurned}
 use Rattle.leaf_dispatch.specs.declared.running.Running.{Running}
 use Rattle.leaf_dispatch.specs.declared.running.LeafTurn.{LeafTurn}
@@ -26,20 +28,20 @@ use Rattle.leaf_dispatch.proofs.Lowering.{Gives, turn-gives}
 pub line-gives : {B : Type 0} (did : List Taken → B → Type 0) (bench : B) (m : Machine) (e : Ends) (s : Standing) (kept : Option Running) (result : LeafTurn) (made : List Made) → (t : LeafTurned did m e s bench kept result made) → Gives e s t.stands result.event
 line-gives did bench m e s kept result made t = turn-gives m e s t.stands t.turned.0 result.event t.few_tries t.fits t.oldest t.turned.2.turn
 
-pub record LineMoved {B : Type 0} (did : List Taken → B → Type 0) (bench : B) (p : Place) (c : Call) (cs : List Call) (run : Option Standing) (g : Option WordGuest) (rs : List Reply) (b : Beside) (q : WordLp) (result : LeafTurn) : Type 0 where
+pub record LineMoved {B : Type 0} (did : List Taken → B → Type 0) (bench : B) (given : Given) (p : Place) (c : Call) (cs : List Call) (run : Option Standing) (g : Option WordGuest) (rs : List Reply) (b : Beside) (q : WordLp) (result : LeafTurn) : Type 0 where
   pub pieces : List Piece
   pub did_them : did (taken_in pieces) bench
-  pub turn : LineTurn (task_of p) p.machine c cs run g rs b result.event pieces q
+  pub turn : LineTurn (task_of given p) p.machine c cs run g rs b result.event pieces q
 
 -- what is left of it afterwards, by the replies of its act and of its last event, and the bundles that it made
 abbrev pub after_line : Call → List Call → Option WordGuest → List Reply → Beside → Standing → LeafTurn → List Made → WordLp
 after_line c cs g rs b s t made = after_turn c cs (guest_by (call_answer c) t.act g) rs (beside_by (call_answer c) made t.act b) s t.reply
 
-pub line-moves : TurnsInPieces → {B : Type 0} (did : List Taken → B → Type 0) (bench : B) (p : Place) (c : Call) (cs : List Call) (run : Option Standing) (g : Option WordGuest) (rs : List Reply) (b : Beside) (kept : Option Running) (q : WordLp) (result : LeafTurn) (made : List Made)
-    → (t : LeafTurned did p.machine (call_ends p.machine c) (running (task_of p c) run) bench kept result made) → q ≡ after_line c cs g rs b t.stands result made
-    → LineMoved did bench p c cs run g rs b q result
-line-moves law did bench p c cs run g rs b kept q result made t after =
-    let s = running (task_of p c) run in
+pub line-moves : TurnsInPieces → {B : Type 0} (did : List Taken → B → Type 0) (bench : B) (given : Given) (p : Place) (c : Call) (cs : List Call) (run : Option Standing) (g : Option WordGuest) (rs : List Reply) (b : Beside) (kept : Option Running) (q : WordLp) (result : LeafTurn) (made : List Made)
+    → (t : LeafTurned did p.machine (call_ends p.machine c) (running (task_of given p c) run) bench kept result made) → q ≡ after_line c cs g rs b t.stands result made
+    → LineMoved did bench given p c cs run g rs b q result
+line-moves law did bench given p c cs run g rs b kept q result made t after =
+    let s = running (task_of given p c) run in
     let told = law.told p.machine s t.stands t.turned.0 (turn_of result) t.turned.2 in
     let gives : Gives (call_ends p.machine c) s t.stands result.event = line-gives did bench p.machine (call_ends p.machine c) s kept result made t in
     let guest : guest_by (call_answer c) result.act g ≡ guest_after result.event t.stands.rest g = ap (λ (z : Option Reply). guest_by (call_answer c) z g) t.act_is ∙ sym (gives.guest g) in
@@ -61,18 +63,18 @@ line-moves law did bench p c cs run g rs b kept q result made t after =
 
 -- the bound before a turn, and after it
 
-pub bound-before : (p : Place) (c : Call) (run : Option Standing) → run_left c run ≡ stage_left (most_tries c) (guest_events c) (running (task_of p c) run).stage (length (running (task_of p c) run).held)
-bound-before p c None = refl
-bound-before p c (Some s) = refl
+pub bound-before : (given : Given) (p : Place) (c : Call) (run : Option Standing) → run_left c run ≡ stage_left (most_tries c) (guest_events c) (running (task_of given p c) run).stage (length (running (task_of given p c) run).held)
+bound-before given p c None = refl
+bound-before given p c (Some s) = refl
 
 pub none-begun : (codes : ℕ → ℕ → List GuestOp) (cs : List Call) (rs : List Reply) (b : Beside) → events_left codes (record { lines = cs; run = None; guest = None; replies = rs; beside = b }) ≤ events_in cs
 none-begun codes [] rs b = omega arith
 none-begun codes (c ∷ cs) rs b = omega arith
 
-pub record Moved {B : Type 0} (secrets : ℕ → ℕ) (codes : ℕ → ℕ → List GuestOp) (did : List Taken → B → Type 0) (bench : B) (place : Place) (p q : WordLp) (event : Event) : Type 0 where
+pub record Moved {B : Type 0} (given : Given) (codes : ℕ → ℕ → List GuestOp) (did : List Taken → B → Type 0) (bench : B) (place : Place) (p q : WordLp) (event : Event) : Type 0 where
   pub pieces : List Piece
   pub did_them : did (taken_in pieces) bench
-  pub turn : LpTurns (place_table place secrets codes) place.machine p event pieces q
+  pub turn : LpTurns (place_table place given codes) place.machine p event pieces q
   pub fewer : events_left codes q < events_left codes p
 
 pub bound-after : (codes : ℕ → ℕ → List GuestOp) (c : Call) (cs : List Call) (rs : List Reply) (b : Beside) (s : Standing) (reply : Option Reply) (x : ℕ) → stage_left (most_tries c) (guest_events c) s.stage (length s.held) < x

@@ -5,7 +5,7 @@ use Rattle.flat_core.specs.World.{Made}
 use Rattle.bundles.specs.Stores.{Stored}
 use Rattle.leaf_engine.specs.Trees.{added}
 use Rattle.leaf_engine.specs.Turns.{Standing}
-use Rattle.leaf_dispatch.specs.Answers.{call_makes}
+use Rattle.leaf_table.specs.Ends.{call_makes}
 use Rattle.leaf_dispatch.specs.NoteRooms.{run_room}
 
 -- of one that makes a bundle of at most so many words, or none

@@ -12,20 +12,21 @@ use Rattle.leaf_engine.specs.Processors.{Turned, has_moved}
 use Rattle.leaf_engine.specs.Merges.{no_table, AreCodes}
 use Rattle.leaf_engine.specs.Following.{StandsOn}
 use Rattle.leaf_dispatch.specs.Bounds.{events_left}
-use Rattle.leaf_dispatch.specs.Table.{secrets_in, code_in, place_table}
+use Rattle.leaf_table.specs.Given.{given_in, IsGiven}
+use Rattle.leaf_table.specs.Table.{code_in, place_table}
 use Rattle.leaf_dispatch.specs.States.{seen_of, Moves}
 use Rattle.leaf_dispatch.specs.declared.states.LpState.{LpState}
 
--- this is processor p of a script's machine, with its secret words and the script's lists
+-- this is processor p of a script's machine, with its secret words, the bundles that come in and the script's lists
 pub record IsProcessor (o : Opening) (p : ℕ) (l : LpState) : Type 0 where
   pub place : l.place ≡ record { machine = o.machine; lp = p }
   pub inside : p < length o.calls
-  pub secrets : (k : ℕ) → secrets_in l.secrets.now k ≡ o.secrets k
+  pub given : IsGiven o (given_in l.given)
   pub codes : (t i : ℕ) → code_in l.codes.now t i ≡ o.codes t i
 
 -- it stands where a state has it
 abbrev pub LpStands : Opening → State → Table → ℕ → LpState → Type 0
-LpStands o s t p l = StandsOn o (place_table l.place (secrets_in l.secrets.now) (code_in l.codes.now)) p s t (seen_of l)
+LpStands o s t p l = StandsOn o (place_table l.place (given_in l.given) (code_in l.codes.now)) p s t (seen_of l)
 
 -- a turn was its next event, and then the words show the state after it; or none is left
 abbrev pub IsNext : Opening → State → Table → ℕ → LpState → Turn → Type 0

@@ -9,18 +9,10 @@ use Rattle.flat_core.specs.Digests.{digest_word, six_words}
 use Rattle.report_text.specs.declared.guest.GuestNote.{GuestNote}
 use Rattle.report_text.specs.declared.guest.GuestNote.TheVariants as note
 use Rattle.leaf_engine.specs.Turns.{Standing}
-use Rattle.leaf_engine.specs.Guests.{WordGuest, Step, Operates, Accesses, Loads, Leaves, due_step, stepped}
+use Rattle.leaf_engine.specs.Guests.{WordGuest, Step, Operates, Loads, Leaves, due_step, stepped}
 use Rattle.leaf_dispatch.specs.Answers.{is_busy}
-use Rattle.leaf_dispatch.specs.declared.guests.Step.{Step as GuestStep}
-use Rattle.leaf_dispatch.specs.declared.guests.Step.TheVariants as step
 use Rattle.leaf_dispatch.specs.declared.guests.WalkAt.{WalkAt}
 use Rattle.leaf_dispatch.specs.declared.guests.GuestAt.{GuestAt}
-
-abbrev pub step_seen : GuestStep → Step
-step_seen (step.Operates o) = Operates o
-step_seen (step.Accesses access r gpa page) = Accesses access r gpa page
-step_seen (step.Loads access gpa level page) = Loads access gpa level page
-step_seen (step.Leaves out) = Leaves out
 
 abbrev pub walk_seen : WalkAt → Walk
 walk_seen w = record { gpa_page = w.gpa_page; level = w.level; page = w.page }

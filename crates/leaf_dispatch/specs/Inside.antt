@@ -12,11 +12,11 @@ use Rattle.leaf_engine.specs.Turns.{Standing}
 use Rattle.leaf_engine.specs.Guests.{WordGuest, Step, gives_epoch_back}
 use Rattle.leaf_engine.specs.OwnLists.{line_after}
 use Rattle.leaf_engine.specs.Merges.{IsOperation}
-use Rattle.leaf_dispatch.specs.Answers.{step_tries, step_ends}
+use Rattle.leaf_table.specs.Ends.{step_tries, step_ends}
 use Rattle.leaf_dispatch.specs.Guests.{guest_seen, next_in, IsLow}
 use Rattle.leaf_dispatch.specs.Running.{run_seen, IsRunOf, IsAnswered}
 use Rattle.leaf_dispatch.specs.Kept.{IsRunOf-prop, IsAnswered-prop}
-use Rattle.leaf_dispatch.specs.Table.{code_in}
+use Rattle.leaf_table.specs.Table.{code_in}
 use Rattle.leaf_dispatch.specs.declared.guests.WalkAt.{WalkAt}
 use Rattle.leaf_dispatch.specs.declared.guests.GuestAt.{GuestAt}
 use Rattle.leaf_dispatch.specs.declared.running.Running.{Running}

@@ -10,7 +10,8 @@ use Rattle.leaf_engine.specs.declared.events.Stage.TheVariants as stage
 use Rattle.leaf_engine.specs.Trees.{Answer, Tree, Lock, Load, Test, End, Since}
 use Rattle.word_rules.specs.Views.{look}
 use Rattle.leaf_engine.specs.Turns.{Standing, AreIn, IsStageIn}
-use Rattle.leaf_dispatch.specs.Answers.{Ends, MakesOne, EndsBy, EndsAs, FitsStage, BeginsUnderOther, OldestIsOther, call_ends}
+use Rattle.leaf_table.specs.Ends.{Ends, MakesOne, EndsBy, EndsAs, BeginsUnderOther, call_ends}
+use Rattle.leaf_dispatch.specs.Answers.{FitsStage, OldestIsOther}
 use Rattle.leaf_dispatch.specs.Running.{IsUnderWay, IsRunOf, IsRunAt, IsAnsweredBy, IsAnswered}
 use Rattle.leaf_dispatch.specs.declared.running.Running.{Running}
 

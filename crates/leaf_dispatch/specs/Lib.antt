@@ -1,7 +1,3 @@
-pub mod Table
-pub mod Plans
-pub mod Leaves
-pub mod PageRooms
 pub mod Answers
 pub mod Bounds
 pub mod Running
@@ -9,7 +5,6 @@ pub mod Kept
 pub mod Guests
 pub mod Inside
 pub mod States
-pub mod Laws
 pub mod Follows
 pub mod NoteRooms
 pub mod BundleRooms

@@ -11,9 +11,10 @@ use Rattle.leaf_engine.specs.declared.events.Stage.{Stage}
 use Rattle.leaf_engine.specs.declared.events.Stage.TheVariants as stage
 use Rattle.leaf_engine.specs.Besides.{bundles_made}
 use Rattle.leaf_engine.specs.Turns.{Standing, standing, CanRun, Turned, has_ended}
-use Rattle.leaf_dispatch.specs.Leaves.{leaf_seen}
-use Rattle.leaf_dispatch.specs.PageRooms.{is_spare, leaf_room}
-use Rattle.leaf_dispatch.specs.Answers.{Ends, call_ends, FewTries, FitsStage, OldestIsOther, act_of}
+use Rattle.leaf_table.specs.Leaves.{leaf_seen}
+use Rattle.leaf_table.specs.PageRooms.{is_spare, leaf_room}
+use Rattle.leaf_table.specs.Ends.{Ends, call_ends}
+use Rattle.leaf_dispatch.specs.Answers.{FewTries, FitsStage, OldestIsOther, act_of}
 use Rattle.leaf_dispatch.specs.declared.running.Running.{Running}
 use Rattle.leaf_dispatch.specs.declared.running.LeafTurn.{LeafTurn}
 

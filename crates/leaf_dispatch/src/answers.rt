@@ -3,13 +3,15 @@
 
 ghost use Rattle.std.specs.Prelude.{◌≡◌, ℕ, ◌<◌, true, None, IfSome, option_map};
 ghost use Rattle.leaf_engine.specs.Guests.{guest_entered};
-ghost use Rattle.leaf_dispatch.specs.Answers.{call_answer, call_fits, step_answer, step_fits};
-ghost use Rattle.leaf_dispatch.specs.Guests.{step_seen, guest_seen, notes_in, words_in, IsLow};
+ghost use Rattle.leaf_table.specs.Ends.{call_answer, call_fits, step_answer, step_fits};
+ghost use Rattle.leaf_table.specs.Steps.{step_seen};
+ghost use Rattle.leaf_dispatch.specs.Guests.{guest_seen, notes_in, words_in, IsLow};
 ghost use Rattle.leaf_dispatch.specs.FirstLists.{AreFirstLists};
-ghost use Rattle.leaf_dispatch.specs.Table.{code_in};
+ghost use Rattle.leaf_table.specs.Table.{code_in};
 
 use crate::first_lists::FirstLists;
-use crate::guests::{GuestAt, Step, is_right};
+use crate::guests::{GuestAt, is_right};
+use leaf_table::Step;
 use report_text::GuestNote;
 use td_words::{Access, Call, Code, GuestOp, Machine, Outcome, Reply, Value};
 use tlb_epochs::Tlb;

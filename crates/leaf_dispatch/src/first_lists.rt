@@ -1,7 +1,7 @@
 //! The first list of operations of each virtual processor, which VP.ENTER looks up.
 
 ghost use Rattle.std.specs.Prelude.{◌≡◌, IfOk};
-ghost use Rattle.leaf_dispatch.specs.Table.{code_in};
+ghost use Rattle.leaf_table.specs.Table.{code_in};
 ghost use Rattle.leaf_dispatch.specs.FirstLists.{AreFirstLists};
 
 use std::alloc::Global;

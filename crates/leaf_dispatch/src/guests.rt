@@ -10,34 +10,15 @@ ghost use Rattle.leaf_engine.specs.Guests.{private_step, operation_step, passed_
 ghost use Rattle.leaf_engine.specs.Merges.{IsOperation, IsStepOf};
 ghost use Rattle.td_words.specs.declared.replies.Reply.TheVariants.{Refused};
 ghost use Rattle.leaf_dispatch.specs.Answers.{is_busy};
-ghost use Rattle.leaf_dispatch.specs.Guests.{step_seen, guest_seen, due_in, next_in, IsLow, CanCount, is_outcome, IsNumber, IsReplyOf, IsStepped};
+ghost use Rattle.leaf_table.specs.Steps.{step_seen};
+ghost use Rattle.leaf_dispatch.specs.Guests.{guest_seen, due_in, next_in, IsLow, CanCount, is_outcome, IsNumber, IsReplyOf, IsStepped};
 
+use leaf_table::Step;
 use td_words::{Access, GuestOp, Outcome, Reply, Status, Value};
 use tlb_epochs::Tlb;
 
 /// Private GPAs are below this one.
 const SHARED: u64 = 1 << 47;
-
-/// What a guest does next: an operation that goes by a row; an access to a word of a page through a
-/// cached translation; the load of the entry of a level in its walk, from the page where it stands;
-/// or it is left.
-#[derive(Clone, Copy)]
-pub enum Step {
-    Operates(GuestOp),
-    Accesses {
-        access: Access,
-        register: u8,
-        gpa: u64,
-        page: u16,
-    },
-    Loads {
-        access: Access,
-        gpa: u64,
-        level: u8,
-        page: u64,
-    },
-    Leaves(Outcome),
-}
 
 /// A walk under way: its GPA page, the level of the entry that it loads next, and the page where
 /// that entry stands.

@@ -1,28 +1,23 @@
-//! Logical processors with their calls: which leaf each call has, and their turns over words.
+//! Logical processors with their calls: their turns over words.
 //!
-//! Stands on `leaf_engine`, whose runs it makes turn by turn, and on the crates of leaves. A layer
-//! above may use that `LpState` is a `Processor`. From its calls on (`first` of `new`) each turn is the
-//! next event of its present call's leaf, or in a guest that of the guest's next step, told in pieces;
-//! the reply comes in with the call's last event. A turn takes no memory. What guests note and tell
-//! stands in `notes` and `told`, and the bundles that calls make in `bundles`. By `calls_have_leaves` the
-//! law of merges speaks of these leaves, and by `processors_follow` a turn is the flat machine's next
-//! event.
+//! Stands on `leaf_engine`, whose runs it makes turn by turn, and on `leaf_table`, which has the leaf
+//! of each call, by what the run is given: secret words, and the bundles that come in. A layer above
+//! may use that `LpState` is a `Processor`. From its calls on (`first` of `new`) each turn is the next
+//! event of its present call's leaf, or in a guest that of the guest's next step, told in pieces; the
+//! reply comes in with the call's last event. A turn takes no memory. What guests note and tell stands
+//! in `notes` and `told`, and the bundles that calls make in `bundles`. By `processors_follow` a turn is
+//! the flat machine's next event.
 #![tactic(auto)]
 
 mod answers;
 mod first_lists;
 mod guests;
 mod laws;
-mod leaves;
-mod plans;
 mod rooms;
 mod running;
 mod states;
 mod turns;
 
 pub use first_lists::FirstLists;
-pub use guests::Step;
-pub use laws::{calls_have_leaves, processors_follow};
-pub use leaves::{AnyLeaf, leaf_of, step_leaf};
-pub use plans::AnyPlan;
+pub use laws::processors_follow;
 pub use states::LpState;

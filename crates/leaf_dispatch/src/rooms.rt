@@ -4,7 +4,7 @@ ghost use Rattle.std.specs.Prelude.{◌≡◌, ◌+◌, ◌≤◌, length, map, 
 ghost use Rattle.bundles.specs.Made.{made_in};
 ghost use Rattle.leaf_engine.specs.Trees.{added};
 ghost use Rattle.leaf_dispatch.specs.Guests.{note_seen, notes_in, words_in};
-ghost use Rattle.leaf_dispatch.specs.Answers.{call_makes};
+ghost use Rattle.leaf_table.specs.Ends.{call_makes};
 ghost use Rattle.leaf_dispatch.specs.NoteRooms.{longest_in, call_room, lines_room};
 ghost use Rattle.leaf_dispatch.specs.BundleRooms.{count_of, words_of, lines_make, payload_words, HasAdded};
 
@@ -140,6 +140,7 @@ fn call_makes(call: &Call) -> Option<usize>
         Call::ExportTrack { .. } => Some(0),
         Call::ExportStateTd { .. } => Some(24),
         Call::ExportStateVp { .. } => Some(8),
+        Call::ImportAbort { .. } => Some(0),
         _ => None,
     }
 }

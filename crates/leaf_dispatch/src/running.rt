@@ -7,42 +7,43 @@ ghost use Rattle.flat_core.specs.World.{Made};
 ghost use Rattle.leaf_engine.specs.Turns.{Standing};
 ghost use Rattle.leaf_engine.specs.OwnLists.{running};
 ghost use Rattle.leaf_engine.specs.Merges.{IsStepOf};
-ghost use Rattle.leaf_dispatch.specs.Guests.{step_seen};
-ghost use Rattle.leaf_dispatch.specs.Table.{task_of, secrets_in, step_task};
-ghost use Rattle.leaf_dispatch.specs.Answers.{Ends, call_makes, call_ends, step_ends, act_of};
+ghost use Rattle.leaf_table.specs.Steps.{step_seen};
+ghost use Rattle.leaf_table.specs.Given.{given_in};
+ghost use Rattle.leaf_table.specs.Table.{task_of, step_task};
+ghost use Rattle.leaf_table.specs.Ends.{Ends, call_makes, call_ends, step_ends};
+ghost use Rattle.leaf_dispatch.specs.Answers.{act_of};
 ghost use Rattle.leaf_dispatch.specs.NoteRooms.{run_room};
 ghost use Rattle.leaf_dispatch.specs.BundleRooms.{count_of, words_of, payload_words, HasAdded};
-ghost use Rattle.leaf_dispatch.specs.PageRooms.{is_spare, leaf_room};
+ghost use Rattle.leaf_table.specs.PageRooms.{is_spare, leaf_room};
 ghost use Rattle.leaf_dispatch.specs.Running.{standing_of, run_seen, answered_with, IsAnswered, turn_of, act_in, made_in_run, kept_until, holds_room, IsUnderWay, IsRunOf, IsKept, CanTurn, HasTurned, LeafTurned};
 
-use crate::guests::Step;
-use crate::leaves::{AnyLeaf, leaf_of, step_leaf};
 use crate::rooms::add_bundle;
 use bundles::Bundles;
 use export_pages::PageWords;
 use leaf_engine::{Event, Place, Run, RunTurn, Stage};
+use leaf_table::{AnyLeaf, Given, Step, leaf_of, step_leaf};
 use std::mem;
 use step_core::Bench;
 use td_words::{Call, Reply};
 
 /// A run of any leaf, which may be given up.
-pub struct Running {
-    pub run: Run<AnyLeaf>,
+pub struct Running<'a> {
+    pub run: Run<AnyLeaf<'a>>,
 }
 
-impl Running {
+impl<'a> Running<'a> {
     ghost use Rattle.std.specs.Prelude.{◌≡◌};
 
     /// Its leaf, as it now is.
-    fn into_leaf(self) -> AnyLeaf
-        ensures { result ≡ self.run.leaf }
+    fn into_leaf(self) -> AnyLeaf<'a>
+        ensures { result ≡ self.entry.run.leaf }
     {
         let Running { run } = self;
         run.into_leaf()
     }
 }
 
-impl Drop for Running {
+impl<'a> Drop for Running<'a> {
     fn drop(self) {
         let Running { run } = self;
         let _leaf = run.into_leaf();
@@ -65,12 +66,13 @@ pub struct LeafTurn {
 /// It is apart from its caller, and its rare steps are apart from it, since a function clears the
 /// places of its large values where it begins.
 #[inline(never)]
-pub fn turn_call<B: Bench>(
-    kept: &mut Option<Running>,
+pub fn turn_call<'a, B: Bench>(
+    kept: &mut Option<Running<'a>>,
     spare: &mut Option<PageWords>,
     bundles: &mut Bundles,
     place: Place,
     call: &Call,
+    given: Given<'a>,
     bench: &mut B,
 ) -> LeafTurn
     requires machine { IsMachine place.machine }
@@ -79,11 +81,11 @@ pub fn turn_call<B: Bench>(
     requires room { run_room (count_of (call_makes call.now)) (run_seen kept.old) ≤ bundles.old.room }
     requires word_room { run_room (words_of (call_makes call.now)) (run_seen kept.old) ≤ bundles.old.word_room }
     requires page_room { holds_room spare.old kept.old ≡ true }
-    ensures turned { (made : List Made) × HasAdded bundles.old made bundles.new × LeafTurned (B.did bench.old) place.machine (call_ends place.machine call.now) (running (task_of place call.now) (run_seen kept.old)) bench.new kept.new result made }
+    ensures turned { (made : List Made) × HasAdded bundles.old made bundles.new × LeafTurned (B.did bench.old) place.machine (call_ends place.machine call.now) (running (task_of (given_in given.entry) place call.now) (run_seen kept.old)) bench.new kept.new result made }
     ensures page_room { holds_room spare.new kept.new ≡ true }
     ensures machine { B.machine bench.new ≡ B.machine bench.old }
 {
-    begin_where_none(kept, spare, place, call);
+    begin_where_none(kept, spare, place, call, given);
     let turn = turn_kept(kept, bench);
     add_made(kept, turn.event, bundles);
     leave_call(kept, spare, turn)
@@ -92,10 +94,10 @@ pub fn turn_call<B: Bench>(
 /// The next turn of the run of a guest's step, which is kept until its reply comes, and begins where
 /// none is kept.
 #[inline(never)]
-pub fn turn_step<B: Bench>(
-    kept: &mut Option<Running>,
+pub fn turn_step<'a, B: Bench>(
+    kept: &mut Option<Running<'a>>,
     place: Place,
-    secrets: &[u64],
+    given: Given<'a>,
     tdr: u16,
     vp: u16,
     line: usize,
@@ -104,21 +106,24 @@ pub fn turn_step<B: Bench>(
 ) -> LeafTurn
     requires machine { IsMachine place.machine }
     requires inside { (tdr < place.machine.pages) × (vp < place.machine.pages) }
-    requires secrets { length secrets.now ≡ 512 }
     requires limits { IsStepOf (step_seen step) }
     requires at { place.machine ≡ B.machine bench.old }
     requires under_way { IsRunOf place.machine (step_ends tdr line (step_seen step)) kept.old }
-    ensures turned { LeafTurned (B.did bench.old) place.machine (step_ends tdr line (step_seen step)) (running (step_task (secrets_in secrets.now) place tdr vp line (step_seen step)) (run_seen kept.old)) bench.new kept.new result [] }
+    ensures turned { LeafTurned (B.did bench.old) place.machine (step_ends tdr line (step_seen step)) (running (step_task (given_in given.entry) place tdr vp line (step_seen step)) (run_seen kept.old)) bench.new kept.new result [] }
     ensures machine { B.machine bench.new ≡ B.machine bench.old }
 {
-    begin_step_where_none(kept, place, secrets, tdr, vp, line, step);
+    begin_step_where_none(kept, place, given, tdr, vp, line, step);
     let step_turn = turn_kept(kept, bench);
     leave_step(kept, step_turn)
 }
 
 // What a turn of a call's run comes to. It is kept no more once its reply has come, and gives back the
 // room that it has.
-fn leave_call(kept: &mut Option<Running>, spare: &mut Option<PageWords>, turn: RunTurn) -> LeafTurn
+fn leave_call(
+    kept: &mut Option<Running<'_>>,
+    spare: &mut Option<PageWords>,
+    turn: RunTurn,
+) -> LeafTurn
     requires page_room { holds_room spare.old kept.old ≡ true }
     ensures turn { turn_of result ≡ turn }
     ensures act { result.act ≡ act_in kept.old turn.event }
@@ -133,7 +138,7 @@ fn leave_call(kept: &mut Option<Running>, spare: &mut Option<PageWords>, turn: R
 }
 
 // That of a step's run, which has no room.
-fn leave_step(kept: &mut Option<Running>, turn: RunTurn) -> LeafTurn
+fn leave_step(kept: &mut Option<Running<'_>>, turn: RunTurn) -> LeafTurn
     ensures turn { turn_of result ≡ turn }
     ensures act { result.act ≡ act_in kept.old turn.event }
     ensures kept { kept.new ≡ kept_until turn.reply kept.old }
@@ -147,7 +152,7 @@ fn leave_step(kept: &mut Option<Running>, turn: RunTurn) -> LeafTurn
 }
 
 // A turn, with the reply that its act has come to.
-fn with_act(kept: &Option<Running>, turn: RunTurn) -> LeafTurn
+fn with_act(kept: &Option<Running<'_>>, turn: RunTurn) -> LeafTurn
     ensures turn { turn_of result ≡ turn }
     ensures act { result.act ≡ act_in kept.now turn.event }
 {
@@ -159,7 +164,7 @@ fn with_act(kept: &Option<Running>, turn: RunTurn) -> LeafTurn
 }
 
 /// What a kept run that was answered answers from now on, as VP.ENTER does once its guest is left.
-pub fn answer_kept(kept: &mut Option<Running>, reply: Reply)
+pub fn answer_kept(kept: &mut Option<Running<'_>>, reply: Reply)
     ensures seen { run_seen kept.new ≡ option_map (answered_with reply) (run_seen kept.old) }
     ensures under_way { (m : Machine) (e : Ends) → IsRunOf m e kept.old → IsAnswered kept.old → e.fits reply ≡ true → IsRunOf m e kept.new }
     ensures answered { IsAnswered kept.new }
@@ -172,7 +177,7 @@ pub fn answer_kept(kept: &mut Option<Running>, reply: Reply)
 }
 
 // Adds the bundle that a run has made with its last event, for which there is room.
-fn add_made(kept: &Option<Running>, event: Event, bundles: &mut Bundles)
+fn add_made(kept: &Option<Running<'_>>, event: Event, bundles: &mut Bundles)
     requires room { length (made_in_run kept.now event) ≤ bundles.old.room }
     requires word_room { payload_words (made_in_run kept.now event) ≤ bundles.old.word_room }
     ensures { HasAdded bundles.old (made_in_run kept.now event) bundles.new }
@@ -187,7 +192,7 @@ fn add_made(kept: &Option<Running>, event: Event, bundles: &mut Bundles)
 }
 
 // The reply that a run has come to with its act.
-fn act_in(kept: &Option<Running>, event: Event) -> Option<Reply>
+fn act_in(kept: &Option<Running<'_>>, event: Event) -> Option<Reply>
     ensures { result ≡ act_in kept.now event }
 {
     match kept {
@@ -206,37 +211,44 @@ fn act_of(event: Event, stage: Stage) -> Option<Reply>
 }
 
 // Where no run is kept, that of a call begins.
-fn begin_where_none(
-    kept: &mut Option<Running>,
+fn begin_where_none<'a>(
+    kept: &mut Option<Running<'a>>,
     spare: &mut Option<PageWords>,
     place: Place,
     call: &Call,
+    given: Given<'a>,
 )
     requires machine { IsMachine place.machine }
     requires under_way { IsRunOf place.machine (call_ends place.machine call.now) kept.old }
     requires page_room { holds_room spare.old kept.old ≡ true }
-    ensures kept { IsKept place.machine (call_ends place.machine call.now) (running (task_of place call.now) (run_seen kept.old)) kept.new }
+    ensures kept { IsKept place.machine (call_ends place.machine call.now) (running (task_of (given_in given.entry) place call.now) (run_seen kept.old)) kept.new }
     ensures page_room { holds_room spare.new kept.new ≡ true }
 {
     match kept {
         Some(_) => (),
-        None => begin_kept(kept, spare, place, call),
+        None => begin_kept(kept, spare, place, call, given),
     }
 }
 
 #[inline(never)]
-fn begin_kept(kept: &mut Option<Running>, spare: &mut Option<PageWords>, place: Place, call: &Call)
+fn begin_kept<'a>(
+    kept: &mut Option<Running<'a>>,
+    spare: &mut Option<PageWords>,
+    place: Place,
+    call: &Call,
+    given: Given<'a>,
+)
     requires machine { IsMachine place.machine }
     requires page_room { is_spare spare.old ≡ true }
-    ensures kept { IsKept place.machine (call_ends place.machine call.now) (running (task_of place call.now) None) kept.new }
+    ensures kept { IsKept place.machine (call_ends place.machine call.now) (running (task_of (given_in given.entry) place call.now) None) kept.new }
     ensures page_room { holds_room spare.new kept.new ≡ true }
 {
-    *kept = Some(begin(place, call, spare));
+    *kept = Some(begin(place, call, given, spare));
 }
 
 // Keeps no run any more. The room that it has is spare then.
 #[inline(never)]
-fn give_up(kept: &mut Option<Running>, spare: &mut Option<PageWords>)
+fn give_up(kept: &mut Option<Running<'_>>, spare: &mut Option<PageWords>)
     requires { holds_room spare.old kept.old ≡ true }
     ensures kept { kept.new ≡ None }
     ensures page_room { is_spare spare.new ≡ true }
@@ -249,7 +261,7 @@ fn give_up(kept: &mut Option<Running>, spare: &mut Option<PageWords>)
 
 // The room of a run, which is kept no more.
 #[inline(never)]
-fn words_of(kept: &mut Option<Running>) -> PageWords
+fn words_of(kept: &mut Option<Running<'_>>) -> PageWords
     requires { holds_room None kept.old ≡ true }
     ensures { kept.new ≡ None }
 {
@@ -264,14 +276,14 @@ fn words_of(kept: &mut Option<Running>) -> PageWords
 
 /// Keeps no run any more.
 #[inline(never)]
-pub fn forget(kept: &mut Option<Running>)
+pub fn forget(kept: &mut Option<Running<'_>>)
     ensures { kept.new ≡ None }
 {
     *kept = None;
 }
 
 // The next turn of a run that is kept.
-fn turn_kept<B: Bench>(kept: &mut Option<Running>, bench: &mut B) -> RunTurn
+fn turn_kept<B: Bench>(kept: &mut Option<Running<'_>>, bench: &mut B) -> RunTurn
     requires { CanTurn (B.machine bench.old) kept.old }
     ensures turned { HasTurned (B.did bench.old) (B.machine bench.old) kept.old bench.new kept.new result }
     ensures machine { B.machine bench.new ≡ B.machine bench.old }
@@ -283,23 +295,28 @@ fn turn_kept<B: Bench>(kept: &mut Option<Running>, bench: &mut B) -> RunTurn
 }
 
 /// The run of a call at its first event.
-fn begin(place: Place, call: &Call, spare: &mut Option<PageWords>) -> Running
+fn begin<'a>(
+    place: Place,
+    call: &Call,
+    given: Given<'a>,
+    spare: &mut Option<PageWords>,
+) -> Running<'a>
     requires machine { IsMachine place.machine }
     requires page_room { is_spare spare.old ≡ true }
-    ensures stands { standing_of result ≡ running (task_of place call.now) None }
+    ensures stands { standing_of result ≡ running (task_of (given_in given.entry) place call.now) None }
     ensures under_way { IsUnderWay place.machine (call_ends place.machine call.now) result }
     ensures page_room { leaf_room spare.new result.run.leaf ≡ true }
 {
     Running {
-        run: Run::new(leaf_of(place, call, spare)),
+        run: Run::new(leaf_of(place, call, given, spare)),
     }
 }
 
 // Where no run is kept, that of a step begins.
-fn begin_step_where_none(
-    kept: &mut Option<Running>,
+fn begin_step_where_none<'a>(
+    kept: &mut Option<Running<'a>>,
     place: Place,
-    secrets: &[u64],
+    given: Given<'a>,
     tdr: u16,
     vp: u16,
     line: usize,
@@ -307,22 +324,21 @@ fn begin_step_where_none(
 )
     requires machine { IsMachine place.machine }
     requires inside { (tdr < place.machine.pages) × (vp < place.machine.pages) }
-    requires secrets { length secrets.now ≡ 512 }
     requires limits { IsStepOf (step_seen step) }
     requires under_way { IsRunOf place.machine (step_ends tdr line (step_seen step)) kept.old }
-    ensures { IsKept place.machine (step_ends tdr line (step_seen step)) (running (step_task (secrets_in secrets.now) place tdr vp line (step_seen step)) (run_seen kept.old)) kept.new }
+    ensures { IsKept place.machine (step_ends tdr line (step_seen step)) (running (step_task (given_in given.entry) place tdr vp line (step_seen step)) (run_seen kept.old)) kept.new }
 {
     match kept {
         Some(_) => (),
-        None => begin_kept_step(kept, place, secrets, tdr, vp, line, step),
+        None => begin_kept_step(kept, place, given, tdr, vp, line, step),
     }
 }
 
 #[inline(never)]
-fn begin_kept_step(
-    kept: &mut Option<Running>,
+fn begin_kept_step<'a>(
+    kept: &mut Option<Running<'a>>,
     place: Place,
-    secrets: &[u64],
+    given: Given<'a>,
     tdr: u16,
     vp: u16,
     line: usize,
@@ -330,23 +346,28 @@ fn begin_kept_step(
 )
     requires machine { IsMachine place.machine }
     requires inside { (tdr < place.machine.pages) × (vp < place.machine.pages) }
-    requires secrets { length secrets.now ≡ 512 }
     requires limits { IsStepOf (step_seen step) }
-    ensures { IsKept place.machine (step_ends tdr line (step_seen step)) (running (step_task (secrets_in secrets.now) place tdr vp line (step_seen step)) None) kept.new }
+    ensures { IsKept place.machine (step_ends tdr line (step_seen step)) (running (step_task (given_in given.entry) place tdr vp line (step_seen step)) None) kept.new }
 {
-    *kept = Some(begin_step(place, secrets, tdr, vp, line, step));
+    *kept = Some(begin_step(place, given, tdr, vp, line, step));
 }
 
 /// The run of a step at its first event.
-fn begin_step(place: Place, secrets: &[u64], tdr: u16, vp: u16, line: usize, step: Step) -> Running
+fn begin_step<'a>(
+    place: Place,
+    given: Given<'a>,
+    tdr: u16,
+    vp: u16,
+    line: usize,
+    step: Step,
+) -> Running<'a>
     requires machine { IsMachine place.machine }
     requires inside { (tdr < place.machine.pages) × (vp < place.machine.pages) }
-    requires secrets { length secrets.now ≡ 512 }
     requires limits { IsStepOf (step_seen step) }
-    ensures stands { standing_of result ≡ running (step_task (secrets_in secrets.now) place tdr vp line (step_seen step)) None }
+    ensures stands { standing_of result ≡ running (step_task (given_in given.entry) place tdr vp line (step_seen step)) None }
     ensures under_way { IsUnderWay place.machine (step_ends tdr line (step_seen step)) result }
 {
     Running {
-        run: Run::new(step_leaf(place, secrets, tdr, vp, line, step)),
+        run: Run::new(step_leaf(place, given, tdr, vp, line, step)),
     }
 }

@@ -17,6 +17,7 @@ use crate::turns::{GuestTurn, LineTurn, acting, answer_exit, entered_or, turn_gu
 use bundles::Bundles;
 use export_pages::PageWords;
 use leaf_engine::{Event, Place, Processor, Turn, turns_in_pieces};
+use leaf_table::Given;
 use report_text::GuestNote;
 use std::alloc::Global;
 use step_core::Bench;
@@ -32,19 +33,18 @@ pub struct LpState<'a> {
     place: Place,
     lines: &'a [Call],
     codes: &'a [Code],
-    secrets: &'a [u64],
+    given: Given<'a>,
     first_lists: &'a FirstLists,
-    run: Option<Running>,
+    run: Option<Running<'a>>,
     spare: Option<PageWords>,
     guest: Option<GuestAt<'a>>,
-    step_run: Option<Running>,
+    step_run: Option<Running<'a>>,
     cached: Tlb,
     replies: Vec<Reply>,
     notes: Vec<GuestNote>,
     told: Vec<u64>,
     bundles: Bundles,
     ghost machine: { IsMachine place.machine },
-    ghost secret_words: { length secrets.now ≡ 512 },
     ghost limits: { AreOperations codes.now } by { AreOperations-prop codes.now },
     ghost lists_are: { AreFirstLists codes.now first_lists.now } by { AreFirstLists-prop codes.now first_lists.now },
     ghost few: { length replies.items + length lines.now < 2 ^ 32 },
@@ -65,9 +65,10 @@ impl<'a> LpState<'a> {
     ghost use Rattle.leaf_dispatch.specs.Guests.{note_seen};
     ghost use Rattle.leaf_dispatch.specs.Inside.{AreOperations, acting};
     ghost use Rattle.leaf_dispatch.specs.FirstLists.{AreFirstLists};
+    ghost use Rattle.leaf_table.specs.Given.{given_in};
     ghost use Rattle.leaf_dispatch.specs.States.{seen_of, HasMoved};
 
-    /// At the first of its calls, with the lists of operations, the 512 secret words, and where the
+    /// At the first of its calls, with the lists of operations, what the run is given, and where the
     /// lists stand. All the memory is taken here that its replies need, what its guests can note and
     /// tell, the bundles that its calls can make, and the words of a page on their way into one.
     pub fn new(
@@ -75,18 +76,17 @@ impl<'a> LpState<'a> {
         machine: Machine,
         lp: u8,
         codes: &'a [Code],
-        secrets: &'a [u64],
+        given: Given<'a>,
         first_lists: &'a FirstLists,
         calls: &'a [Call],
     ) -> Result<LpState<'a>, OutOfMemory>
         requires machine { IsMachine machine }
         requires limits { AreOperations codes.now }
-        requires secrets { length secrets.now ≡ 512 }
         requires first_lists { AreFirstLists codes.now first_lists.now }
         requires few { length calls.now < 2 ^ 32 }
         ensures place { IfOk result (λ s. s.place ≡ record { machine = machine; lp = lp }) }
         ensures codes { IfOk result (λ s. s.codes.now ≡ codes.now) }
-        ensures secrets { IfOk result (λ s. s.secrets.now ≡ secrets.now) }
+        ensures given { IfOk result (λ s. given_in s.given ≡ given_in given.entry) }
         ensures first { IfOk result (λ s. seen_of s ≡ first_lp calls.now) }
     {
         let Some(room) = lines_room(longest(codes), calls) else {
@@ -117,7 +117,7 @@ impl<'a> LpState<'a> {
             place: Place { machine, lp },
             lines: calls,
             codes,
-            secrets,
+            given,
             first_lists,
             run: None,
             spare: Some(page_words),
@@ -174,6 +174,7 @@ impl<'a> LpState<'a> {
             &mut self.bundles,
             &mut self.cached,
             self.place,
+            self.given,
             self.codes,
             self.first_lists,
             call,
@@ -214,7 +215,7 @@ impl<'a> LpState<'a> {
             &mut self.cached,
             guest,
             self.place,
-            self.secrets,
+            self.given,
             line,
             bench,
         );
@@ -228,7 +229,7 @@ impl<'a> LpState<'a> {
 
 impl<'a> Processor for LpState<'a> {
     ghost use Rattle.std.specs.Prelude.{◌==◌, length};
-    ghost use Rattle.leaf_dispatch.specs.Table.{code_in};
+    ghost use Rattle.leaf_table.specs.Table.{code_in};
     ghost use Rattle.leaf_dispatch.specs.Bounds.{events_left};
     ghost use Rattle.leaf_dispatch.specs.States.{seen_of, Moves};
 

@@ -9,22 +9,26 @@ ghost use Rattle.flat_core.specs.World.{Made};
 ghost use Rattle.leaf_engine.specs.Turns.{Standing};
 ghost use Rattle.leaf_engine.specs.OwnLists.{running};
 ghost use Rattle.leaf_engine.specs.Merges.{IsOperation, IsStepOf};
-ghost use Rattle.leaf_dispatch.specs.Answers.{call_answer, call_makes, call_ends, call_fits, guest_by, step_answer, step_ends, step_fits, step_tries, cached_by, notes_by, tells_by};
-ghost use Rattle.leaf_dispatch.specs.Guests.{step_seen, guest_seen, next_in, notes_in, words_in, IsLow, CanCount, IsReplyOf, IsNextGuest};
+ghost use Rattle.leaf_table.specs.Ends.{call_answer, call_makes, call_ends, call_fits, step_answer, step_ends, step_fits, step_tries};
+ghost use Rattle.leaf_dispatch.specs.Answers.{guest_by, cached_by, notes_by, tells_by};
+ghost use Rattle.leaf_table.specs.Steps.{step_seen};
+ghost use Rattle.leaf_dispatch.specs.Guests.{guest_seen, next_in, notes_in, words_in, IsLow, CanCount, IsReplyOf, IsNextGuest};
 ghost use Rattle.leaf_dispatch.specs.Inside.{acting, entered_or, line_then};
 ghost use Rattle.leaf_dispatch.specs.NoteRooms.{run_room};
 ghost use Rattle.leaf_dispatch.specs.BundleRooms.{count_of, words_of, HasAdded};
 ghost use Rattle.leaf_dispatch.specs.FirstLists.{AreFirstLists};
 ghost use Rattle.leaf_dispatch.specs.Running.{run_seen, holds_room, IsRunOf, IsAnswered, LeafTurned};
-ghost use Rattle.leaf_dispatch.specs.Table.{code_in, task_of, secrets_in, step_task};
+ghost use Rattle.leaf_table.specs.Given.{given_in};
+ghost use Rattle.leaf_table.specs.Table.{code_in, task_of, step_task};
 
 use crate::answers::{cache_walk, drop_stale, entered, noted, told};
 use crate::first_lists::FirstLists;
-use crate::guests::{GuestAt, Step, next_step, step_on};
+use crate::guests::{GuestAt, next_step, step_on};
 use crate::running::{LeafTurn, Running, answer_kept, turn_call, turn_step};
 use bundles::Bundles;
 use export_pages::PageWords;
 use leaf_engine::Place;
+use leaf_table::{Given, Step};
 use report_text::GuestNote;
 use step_core::Bench;
 use td_words::{Call, Code, Machine, Reply};
@@ -51,11 +55,12 @@ pub struct LineTurn<'a> {
 /// has it, which gives it back with its reply.
 #[inline(never)]
 pub fn turn_line<'a, B: Bench>(
-    kept: &mut Option<Running>,
+    kept: &mut Option<Running<'a>>,
     spare: &mut Option<PageWords>,
     bundles: &mut Bundles,
     cached: &mut Tlb,
     place: Place,
+    given: Given<'a>,
     codes: &'a [Code],
     first_lists: &FirstLists,
     call: &Call,
@@ -68,14 +73,14 @@ pub fn turn_line<'a, B: Bench>(
     requires room { run_room (count_of (call_makes call.now)) (run_seen kept.old) ≤ bundles.old.room }
     requires word_room { run_room (words_of (call_makes call.now)) (run_seen kept.old) ≤ bundles.old.word_room }
     requires page_room { holds_room spare.old kept.old ≡ true }
-    ensures turned { (made : List Made) × HasAdded bundles.old made bundles.new × LeafTurned (B.did bench.old) place.machine (call_ends place.machine call.now) (running (task_of place call.now) (run_seen kept.old)) bench.new kept.new result.turn made }
+    ensures turned { (made : List Made) × HasAdded bundles.old made bundles.new × LeafTurned (B.did bench.old) place.machine (call_ends place.machine call.now) (running (task_of (given_in given.entry) place call.now) (run_seen kept.old)) bench.new kept.new result.turn made }
     ensures cached { cached.new ≡ cached_by (call_answer call.now) result.turn.act cached.old }
     ensures entered { option_map (λ g. guest_seen g None) result.guest ≡ guest_by (call_answer call.now) result.turn.act None }
     ensures inside { IfSome result.guest (λ g. (g.tdr < place.machine.pages) × (g.vp < place.machine.pages) × (code_in codes.now g.tdr g.index ≡ g.list.now) × IsLow g.walk) }
     ensures page_room { holds_room spare.new kept.new ≡ true }
     ensures machine { B.machine bench.new ≡ B.machine bench.old }
 {
-    let turn = turn_call(kept, spare, bundles, place, call, bench);
+    let turn = turn_call(kept, spare, bundles, place, call, given, bench);
     drop_by(place.machine, cached, call, turn.act);
     LineTurn {
         turn,
@@ -114,18 +119,17 @@ fn entered_by<'a>(
 /// comes, and begins where none is kept.
 #[inline(never)]
 pub fn turn_guest<'a, B: Bench>(
-    kept: &mut Option<Running>,
+    kept: &mut Option<Running<'a>>,
     cached: &mut Tlb,
     guest: GuestAt<'a>,
     place: Place,
-    secrets: &[u64],
+    given: Given<'a>,
     line: u32,
     bench: &mut B,
 ) -> GuestTurn<'a>
     requires machine { IsMachine place.machine }
     requires at { place.machine ≡ B.machine bench.old }
     requires inside { (guest.tdr < place.machine.pages) × (guest.vp < place.machine.pages) }
-    requires secrets { length secrets.now ≡ 512 }
     requires limits { All IsOperation guest.list.now }
     requires low { IsLow guest.walk }
     requires under_way { IsRunOf place.machine (step_ends guest.tdr line (next_in cached.old guest None)) kept.old }
@@ -133,7 +137,7 @@ pub fn turn_guest<'a, B: Bench>(
     ensures step { (run : Option Standing) → step_seen result.step ≡ next_in cached.old guest.entry run }
     ensures counts { CanCount guest.entry (step_seen result.step) }
     ensures within { IsStepOf (step_seen result.step) }
-    ensures turned { LeafTurned (B.did bench.old) place.machine (step_ends guest.entry.tdr line (step_seen result.step)) (running (step_task (secrets_in secrets.now) place guest.entry.tdr guest.entry.vp line (step_seen result.step)) (run_seen kept.old)) bench.new kept.new result.turn [] }
+    ensures turned { LeafTurned (B.did bench.old) place.machine (step_ends guest.entry.tdr line (step_seen result.step)) (running (step_task (given_in given.entry) place guest.entry.tdr guest.entry.vp line (step_seen result.step)) (run_seen kept.old)) bench.new kept.new result.turn [] }
     ensures fits { IfSome result.turn.reply (λ r. IsReplyOf (step_seen result.step) r) }
     ensures cached { cached.new ≡ cached_by (step_answer guest.entry.tdr line (step_seen result.step)) result.turn.act cached.old }
     ensures notes { notes_in result.note ≡ notes_by (step_answer guest.entry.tdr line (step_seen result.step)) result.turn.act }
@@ -146,7 +150,7 @@ pub fn turn_guest<'a, B: Bench>(
     let turn = turn_step(
         kept,
         place,
-        secrets,
+        given,
         guest.tdr,
         guest.vp,
         line as usize,
@@ -206,7 +210,7 @@ fn guest_then<'a>(guest: GuestAt<'a>, step: Step, reply: Option<Reply>) -> Optio
 
 /// The guest that makes the next event: none outside guests, and none while its VP.ENTER is to give E
 /// back.
-pub fn acting<'a>(guest: &Option<GuestAt<'a>>, run: &Option<Running>) -> Option<GuestAt<'a>>
+pub fn acting<'a>(guest: &Option<GuestAt<'a>>, run: &Option<Running<'_>>) -> Option<GuestAt<'a>>
     ensures { result ≡ acting guest.now run.now }
 {
     match guest {
@@ -238,7 +242,7 @@ pub fn entered_or<'a>(
 }
 
 /// VP.ENTER answers what the step answered by which its guest was left.
-pub fn answer_exit(kept: &mut Option<Running>, step: Step, reply: Option<Reply>)
+pub fn answer_exit(kept: &mut Option<Running<'_>>, step: Step, reply: Option<Reply>)
     ensures seen { run_seen kept.new ≡ line_then (step_seen step) reply (run_seen kept.old) }
     ensures under_way { (m : Machine) (c : Call) → IsRunOf m (call_ends m c) kept.old → IsAnswered kept.old → IfSome reply (λ r. IsReplyOf (step_seen step) r) → IsRunOf m (call_ends m c) kept.new }
     ensures answered { IsAnswered kept.old → IsAnswered kept.new }

@@ -4,8 +4,10 @@ ghost use Rattle.std.specs.Prelude.{◌≡◌, ◌<◌, ◌^◌, length};
 ghost use Rattle.leaf_dispatch.specs.FirstLists.{AreFirstLists};
 ghost use Rattle.leaf_dispatch_rows.specs.declared.benches.TheConstants.{MACHINE};
 
+use incoming::IncomingBundles;
 use leaf_dispatch::{FirstLists, LpState};
 use leaf_engine::{Processor, Turn};
+use leaf_table::Given;
 use std::alloc::Global;
 use std::process::Abort;
 use step_core::PlainBench;
@@ -104,7 +106,12 @@ pub fn make(rt: &impl Abort, alloc: Global, bench: &mut PlainBench, calls: &[Cal
 {
     let first_lists = first_lists_of(rt, alloc, &[]);
     let secrets = no_secrets();
-    let Ok(mut lp) = LpState::new(alloc, MACHINE, 0, &[], &secrets, &first_lists, calls) else {
+    let bundles = IncomingBundles::new(alloc);
+    let given = Given {
+        secrets: &secrets,
+        bundles: &bundles,
+    };
+    let Ok(mut lp) = LpState::new(alloc, MACHINE, 0, &[], given, &first_lists, calls) else {
         panic!(rt; "out of memory")
     };
     while let Turn::Moved(_) = lp.turn(bench) {}

@@ -4,8 +4,10 @@ ghost use Rattle.std.specs.Prelude.{◌≡◌};
 ghost use Rattle.leaf_dispatch_rows.specs.declared.benches.TheConstants.{MACHINE};
 
 use crate::benches::{DONE, MACHINE, RUNS, TREE, first_lists_of, make, no_secrets};
+use incoming::IncomingBundles;
 use leaf_dispatch::LpState;
 use leaf_engine::{Processor, Turn};
+use leaf_table::Given;
 use std::alloc::Global;
 use std::process::Abort;
 use step_core::{Bench, PlainBench, WordStep};
@@ -161,8 +163,12 @@ fn bundles_come_as_they_were_made(rt: HostRuntime) {
     let mut bench = bench_to_export(&rt, rt.alloc());
     let first_lists = first_lists_of(&rt, rt.alloc(), &[]);
     let secrets = no_secrets();
-    let Ok(mut lp) = LpState::new(rt.alloc(), MACHINE, 0, &[], &secrets, &first_lists, &CALLS)
-    else {
+    let bundles = IncomingBundles::new(rt.alloc());
+    let given = Given {
+        secrets: &secrets,
+        bundles: &bundles,
+    };
+    let Ok(mut lp) = LpState::new(rt.alloc(), MACHINE, 0, &[], given, &first_lists, &CALLS) else {
         panic!(rt; "out of memory")
     };
     while let Turn::Moved(_) = lp.turn(&mut bench) {}

@@ -8,8 +8,10 @@ ghost use Rattle.leaf_dispatch.specs.FirstLists.{AreFirstLists};
 ghost use Rattle.leaf_dispatch_rows.specs.declared.benches.TheConstants.{MACHINE};
 
 use crate::benches::{DONE, LIVE, MACHINE, RUNS, TREE, first_lists_of, make, no_secrets};
+use incoming::IncomingBundles;
 use leaf_dispatch::{FirstLists, LpState};
 use leaf_engine::{Processor, Turn};
+use leaf_table::Given;
 use report_text::GuestNote;
 use std::alloc::{AllocError, Global};
 use std::process::Abort;
@@ -112,17 +114,16 @@ fn visit<'a>(
     alloc: Global,
     bench: &mut PlainBench,
     codes: &'a [Code],
-    secrets: &'a [u64],
+    given: Given<'a>,
     first_lists: &'a FirstLists,
 ) -> (LpState<'a>, u64)
     requires machine { bench.old.machine ≡ MACHINE }
     requires limits { AreOperations codes.now }
-    requires secrets { length secrets.now ≡ 512 }
     requires first_lists { AreFirstLists codes.now first_lists.now }
     ensures { bench.new.machine ≡ MACHINE }
 {
     bench.perform(WordStep::Store(word_address(4, VP_POSITION), 0));
-    let Ok(mut lp) = LpState::new(alloc, MACHINE, 0, codes, secrets, first_lists, &ENTER) else {
+    let Ok(mut lp) = LpState::new(alloc, MACHINE, 0, codes, given, first_lists, &ENTER) else {
         panic!(rt; "out of memory")
     };
     let mut events: u64 = 0;
@@ -147,11 +148,16 @@ fn codes_of(ops: Vec<GuestOp>) -> [Code; 1]
 fn a_seventeenth_translation_drops_the_oldest(rt: HostRuntime) -> Result<(), Fail> {
     let mut bench = bench_with(&rt, rt.alloc(), 17);
     let secrets = no_secrets();
+    let bundles = IncomingBundles::new(rt.alloc());
+    let given = Given {
+        secrets: &secrets,
+        bundles: &bundles,
+    };
     // Pages that are loaded, the one that is loaded again, and that load's events.
     for (pages, again, more) in [(15u8, 0u8, 1u8), (16, 0, 1), (17, 0, 5), (17, 1, 1)] {
         let codes = codes_of(loads(rt.alloc(), pages, again)?);
         let first_lists = first_lists_of(&rt, rt.alloc(), &codes);
-        let (lp, events) = visit(&rt, rt.alloc(), &mut bench, &codes, &secrets, &first_lists);
+        let (lp, events) = visit(&rt, rt.alloc(), &mut bench, &codes, given, &first_lists);
         assert_eq!(rt; lp.replies(), [Reply::Exited(Outcome::Stop)].as_slice());
         assert_eq!(rt;
             events,
@@ -187,6 +193,11 @@ const NOTES: [GuestNote; 3] = [
 fn notes_and_told_words_come_in_order(rt: HostRuntime) -> Result<(), Fail> {
     let mut bench = bench_with(&rt, rt.alloc(), 1);
     let secrets = no_secrets();
+    let bundles = IncomingBundles::new(rt.alloc());
+    let given = Given {
+        secrets: &secrets,
+        bundles: &bundles,
+    };
     bench.perform(WordStep::Store(word_address(20, 3), 77));
     bench.perform(WordStep::Store(word_address(8, 2), 99));
     let ops = [
@@ -199,7 +210,7 @@ fn notes_and_told_words_come_in_order(rt: HostRuntime) -> Result<(), Fail> {
     ];
     let codes = codes_of(ops.to_vec(rt.alloc())?);
     let first_lists = first_lists_of(&rt, rt.alloc(), &codes);
-    let (lp, events) = visit(&rt, rt.alloc(), &mut bench, &codes, &secrets, &first_lists);
+    let (lp, events) = visit(&rt, rt.alloc(), &mut bench, &codes, given, &first_lists);
     assert_eq!(rt; lp.notes(), NOTES.as_slice());
     assert_eq!(rt; lp.told(), [99, 77].as_slice());
     assert_eq!(rt;
@@ -216,6 +227,11 @@ fn notes_and_told_words_come_in_order(rt: HostRuntime) -> Result<(), Fail> {
 fn a_secret_operation_sets_a_register_to_its_word(rt: HostRuntime) -> Result<(), Fail> {
     let mut bench = bench_with(&rt, rt.alloc(), 0);
     let secrets = two_secrets();
+    let bundles = IncomingBundles::new(rt.alloc());
+    let given = Given {
+        secrets: &secrets,
+        bundles: &bundles,
+    };
     // What each has to put into the register.
     for (op, word) in [
         (set(77), 77u64),
@@ -226,7 +242,7 @@ fn a_secret_operation_sets_a_register_to_its_word(rt: HostRuntime) -> Result<(),
         // The word is told by VMCALL alone, and noted nowhere.
         let codes = codes_of([op, GuestOp::Vmcall { register: 1 }].to_vec(rt.alloc())?);
         let first_lists = first_lists_of(&rt, rt.alloc(), &codes);
-        let (lp, events) = visit(&rt, rt.alloc(), &mut bench, &codes, &secrets, &first_lists);
+        let (lp, events) = visit(&rt, rt.alloc(), &mut bench, &codes, given, &first_lists);
         let told = Reply::Exited(Outcome::Vmcall(word));
         assert_eq!(rt; lp.replies(), [told].as_slice());
         assert_eq!(rt; lp.told(), [word].as_slice());
@@ -240,7 +256,7 @@ fn a_secret_operation_sets_a_register_to_its_word(rt: HostRuntime) -> Result<(),
     let codes = codes_of([secret(511), store(8), load(8)].to_vec(rt.alloc())?);
     let first_lists = first_lists_of(&rt, rt.alloc(), &codes);
     let mut bench = bench_with(&rt, rt.alloc(), 1);
-    let (lp, events) = visit(&rt, rt.alloc(), &mut bench, &codes, &secrets, &first_lists);
+    let (lp, events) = visit(&rt, rt.alloc(), &mut bench, &codes, given, &first_lists);
     assert_eq!(rt; lp.replies(), [Reply::Exited(Outcome::Stop)].as_slice());
     assert!(rt; lp.told().is_empty());
     let loaded = GuestNote::Load {
@@ -257,6 +273,11 @@ fn a_secret_operation_sets_a_register_to_its_word(rt: HostRuntime) -> Result<(),
 fn a_shared_access_reaches_pages_of_the_host_alone(rt: HostRuntime) -> Result<(), Fail> {
     let mut bench = bench_with(&rt, rt.alloc(), 1);
     let secrets = no_secrets();
+    let bundles = IncomingBundles::new(rt.alloc());
+    let given = Given {
+        secrets: &secrets,
+        bundles: &bundles,
+    };
     // The guest's own TDVPR page, which is held alone, and one that isn't there: the act alone. The
     // TDR page, which is shared twice then, and a private page: the try, the act and the release.
     for (page, more) in [(4u64, 1), (32, 1), (1, 3), (8, 3)] {
@@ -264,7 +285,7 @@ fn a_shared_access_reaches_pages_of_the_host_alone(rt: HostRuntime) -> Result<()
         for (op, access) in [(load(gpa), Access::Read), (store(gpa), Access::Write)] {
             let codes = codes_of([op].to_vec(rt.alloc())?);
             let first_lists = first_lists_of(&rt, rt.alloc(), &codes);
-            let (lp, events) = visit(&rt, rt.alloc(), &mut bench, &codes, &secrets, &first_lists);
+            let (lp, events) = visit(&rt, rt.alloc(), &mut bench, &codes, given, &first_lists);
             let outcome = Outcome::EptViolation { gpa, access };
             assert_eq!(rt;
                 lp.replies(),
@@ -279,7 +300,7 @@ fn a_shared_access_reaches_pages_of_the_host_alone(rt: HostRuntime) -> Result<()
     bench.perform(WordStep::Store(lock_address(20), 1 << 63));
     let codes = codes_of([load(SHARED + 20 * 4096)].to_vec(rt.alloc())?);
     let first_lists = first_lists_of(&rt, rt.alloc(), &codes);
-    let (lp, events) = visit(&rt, rt.alloc(), &mut bench, &codes, &secrets, &first_lists);
+    let (lp, events) = visit(&rt, rt.alloc(), &mut bench, &codes, given, &first_lists);
     let busy = Outcome::Busy(LockName::Page(20));
     assert_eq!(rt; lp.replies(), [Reply::Exited(busy)].as_slice());
     assert_eq!(rt; events, 2);
@@ -290,6 +311,11 @@ fn a_shared_access_reaches_pages_of_the_host_alone(rt: HostRuntime) -> Result<()
 fn a_page_that_is_blocked_for_writing_is_read_alone(rt: HostRuntime) -> Result<(), Fail> {
     let mut bench = bench_with(&rt, rt.alloc(), 1);
     let secrets = no_secrets();
+    let bundles = IncomingBundles::new(rt.alloc());
+    let given = Given {
+        secrets: &secrets,
+        bundles: &bundles,
+    };
     make(&rt, rt.alloc(), &mut bench, &LIVE, DONE);
     let denied = Outcome::EptViolation {
         gpa: 0,
@@ -303,7 +329,7 @@ fn a_page_that_is_blocked_for_writing_is_read_alone(rt: HostRuntime) -> Result<(
         make(&rt, rt.alloc(), &mut bench, &[call], DONE);
         let codes = codes_of([load(0), set(7), store(0)].to_vec(rt.alloc())?);
         let first_lists = first_lists_of(&rt, rt.alloc(), &codes);
-        let (lp, _) = visit(&rt, rt.alloc(), &mut bench, &codes, &secrets, &first_lists);
+        let (lp, _) = visit(&rt, rt.alloc(), &mut bench, &codes, given, &first_lists);
         assert_eq!(rt; lp.replies(), [Reply::Exited(outcome)].as_slice());
         assert_eq!(rt; lp.notes().len(), 1);
         assert_eq!(rt; bench.word(word_address(8, 0)), word);

@@ -5,8 +5,10 @@ ghost use Rattle.leaf_dispatch_rows.specs.declared.benches.TheConstants.{MACHINE
 
 use crate::benches::{DONE, MACHINE, PAGES, RUNS, TREE, first_lists_of, make, no_secrets};
 use bundles::Bundle;
+use incoming::IncomingBundles;
 use leaf_dispatch::LpState;
 use leaf_engine::{Event, Processor, Turn};
+use leaf_table::Given;
 use std::alloc::Global;
 use std::process::Abort;
 use step_core::{Bench, PlainBench, WordStep};
@@ -150,7 +152,12 @@ fn make_all(
 {
     let first_lists = first_lists_of(rt, alloc, &[]);
     let secrets = no_secrets();
-    let Ok(mut lp) = LpState::new(alloc, MACHINE, 0, &[], &secrets, &first_lists, calls) else {
+    let bundles = IncomingBundles::new(alloc);
+    let given = Given {
+        secrets: &secrets,
+        bundles: &bundles,
+    };
+    let Ok(mut lp) = LpState::new(alloc, MACHINE, 0, &[], given, &first_lists, calls) else {
         panic!(rt; "out of memory")
     };
     while let Turn::Moved(_) = lp.turn(bench) {}
@@ -345,8 +352,12 @@ fn an_export_of_a_page_has_thirteen_events(rt: HostRuntime) {
     let calls = [export(1, 4096, 0, 1)];
     let first_lists = first_lists_of(&rt, rt.alloc(), &[]);
     let secrets = no_secrets();
-    let Ok(mut lp) = LpState::new(rt.alloc(), MACHINE, 0, &[], &secrets, &first_lists, &calls)
-    else {
+    let bundles = IncomingBundles::new(rt.alloc());
+    let given = Given {
+        secrets: &secrets,
+        bundles: &bundles,
+    };
+    let Ok(mut lp) = LpState::new(rt.alloc(), MACHINE, 0, &[], given, &first_lists, &calls) else {
         panic!(rt; "out of memory")
     };
     let events = [

@@ -1,8 +1,10 @@
 //! What the turns of processors are, event by event, where nothing else is looked at.
 
 use crate::benches::{first_lists_of, no_secrets};
+use incoming::IncomingBundles;
 use leaf_dispatch::LpState;
 use leaf_engine::{Event, Processor, Turn};
+use leaf_table::Given;
 use step_core::PlainBench;
 use td_words::{Call, LockName, Machine, Mode, PageKind, Reply, Status, Value};
 
@@ -24,8 +26,12 @@ fn a_creation_has_five_events(rt: HostRuntime) {
     };
     let first_lists = first_lists_of(&rt, rt.alloc(), &[]);
     let secrets = no_secrets();
-    let Ok(mut lp) = LpState::new(rt.alloc(), MACHINE, 0, &[], &secrets, &first_lists, &calls)
-    else {
+    let bundles = IncomingBundles::new(rt.alloc());
+    let given = Given {
+        secrets: &secrets,
+        bundles: &bundles,
+    };
+    let Ok(mut lp) = LpState::new(rt.alloc(), MACHINE, 0, &[], given, &first_lists, &calls) else {
         panic!(rt; "out of memory")
     };
     let page = LockName::Page(1);
@@ -73,8 +79,12 @@ fn each_call_is_made_by_its_leaf(rt: HostRuntime) {
     };
     let first_lists = first_lists_of(&rt, rt.alloc(), &[]);
     let secrets = no_secrets();
-    let Ok(mut lp) = LpState::new(rt.alloc(), MACHINE, 1, &[], &secrets, &first_lists, &calls)
-    else {
+    let bundles = IncomingBundles::new(rt.alloc());
+    let given = Given {
+        secrets: &secrets,
+        bundles: &bundles,
+    };
+    let Ok(mut lp) = LpState::new(rt.alloc(), MACHINE, 1, &[], given, &first_lists, &calls) else {
         panic!(rt; "out of memory")
     };
     while let Turn::Moved(_) = lp.turn(&mut bench) {}
@@ -105,18 +115,16 @@ fn a_lock_that_another_holds_is_busy(rt: HostRuntime) {
     let (creation, read) = ([CREATE], [READ]);
     let first_lists = first_lists_of(&rt, rt.alloc(), &[]);
     let secrets = no_secrets();
-    let Ok(mut first) = LpState::new(
-        rt.alloc(),
-        MACHINE,
-        0,
-        &[],
-        &secrets,
-        &first_lists,
-        &creation,
-    ) else {
+    let bundles = IncomingBundles::new(rt.alloc());
+    let given = Given {
+        secrets: &secrets,
+        bundles: &bundles,
+    };
+    let Ok(mut first) = LpState::new(rt.alloc(), MACHINE, 0, &[], given, &first_lists, &creation)
+    else {
         panic!(rt; "out of memory")
     };
-    let Ok(mut second) = LpState::new(rt.alloc(), MACHINE, 1, &[], &secrets, &first_lists, &read)
+    let Ok(mut second) = LpState::new(rt.alloc(), MACHINE, 1, &[], given, &first_lists, &read)
     else {
         panic!(rt; "out of memory")
     };

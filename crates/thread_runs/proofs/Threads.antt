@@ -17,32 +17,33 @@ use Rattle.leaf_engine.specs.OwnLists.{Piece, WordLp, OwnTurns, LpTurns, taken_i
 use Rattle.leaf_engine.specs.Merges.{order}
 use Rattle.merge_laws.specs.Merge.{Merge}
 use Rattle.merge_laws.specs.Laws.{MergesAreRuns, IsShownBy, IsWhere}
-use Rattle.leaf_dispatch.specs.Table.{secrets_in, code_in, place_table, leaf_table}
+use Rattle.leaf_table.specs.Given.{Given, given_in, given_of}
+use Rattle.leaf_table.specs.Table.{code_in, place_table, leaf_table}
 use Rattle.leaf_dispatch.specs.States.{seen_of, Moves}
-use Rattle.leaf_dispatch.specs.Laws.{CallsHaveLeaves}
+use Rattle.leaf_table.specs.Laws.{CallsHaveLeaves}
 use Rattle.leaf_dispatch.specs.declared.states.LpState.{LpState}
 use Rattle.lp_threads.specs.declared.lanes.Lane.{Lane}
 use Rattle.lp_threads.specs.Running.{TurnsLead}
 use Rattle.thread_runs.specs.Threads.{RanInThread, ThreadsAreRuns}
 use Rattle.thread_runs.proofs.Lifting.{Lifted, lift}
 
--- a turn of the leaves of a place, with these secret words and lists of operations
-abbrev TurnsAt : Place → (secrets : List ℕ) → List CodeSeen → LpState → Event → List Piece → LpState → Type 0
-TurnsAt place secrets codes s e ps t = LpTurns (place_table place (secrets_in secrets) (code_in codes)) place.machine (seen_of s) e ps (seen_of t)
+-- a turn of the leaves of a place, with what is given and these lists of operations
+abbrev TurnsAt : Place → Given → List CodeSeen → LpState → Event → List Piece → LpState → Type 0
+TurnsAt place given codes s e ps t = LpTurns (place_table place given (code_in codes)) place.machine (seen_of s) e ps (seen_of t)
 
 -- the turns of a processor's state are turns over words
-own-turns : (place : Place) (secrets : List ℕ) (codes : List CodeSeen) (s t : LpState) (pss : List (List Piece)) → s.place ≡ place → s.secrets.now ≡ secrets → s.codes.now ≡ codes → TurnsLead Moves s pss t
-    → OwnTurns (place_table place (secrets_in secrets) (code_in codes)) place.machine (seen_of s) pss (seen_of t)
-own-turns place secrets codes s t [] at words has h = ap seen_of h
-own-turns place secrets codes s t (ps ∷ pss) at words has h =
+own-turns : (place : Place) (given : Given) (codes : List CodeSeen) (s t : LpState) (pss : List (List Piece)) → s.place ≡ place → given_in s.given ≡ given → s.codes.now ≡ codes → TurnsLead Moves s pss t
+    → OwnTurns (place_table place given (code_in codes)) place.machine (seen_of s) pss (seen_of t)
+own-turns place given codes s t [] at same has h = ap seen_of h
+own-turns place given codes s t (ps ∷ pss) at same has h =
     let r = h.1.0 in
     let m = h.1.1 in (
       h.0,
       (
         seen_of r,
-        subst (λ (z : Place). TurnsAt z secrets codes s h.0 ps r) at
-            (subst (λ (ws : List ℕ). TurnsAt s.place ws codes s h.0 ps r) words (subst (λ (cs : List CodeSeen). TurnsAt s.place s.secrets.now cs s h.0 ps r) has m.3)),
-        own-turns place secrets codes r t pss (m.0 ∙ at) (m.1 ∙ words) (m.2 ∙ has) h.1.2,
+        subst (λ (z : Place). TurnsAt z given codes s h.0 ps r) at
+            (subst (λ (z : Given). TurnsAt s.place z codes s h.0 ps r) same (subst (λ (cs : List CodeSeen). TurnsAt s.place (given_in s.given) cs s h.0 ps r) has m.3)),
+        own-turns place given codes r t pss (m.0 ∙ at) (m.1 ∙ same) (m.2 ∙ has) h.1.2,
       ),
     )
 
@@ -68,12 +69,12 @@ module _ (o : Opening) (p : ℕ) (xs : List Taken) (before after : Lane LpState)
       sym ran.list ∙ (ap (λ (z : BenchSeen). z.pass.lists) ran.run.turned.list ∙ ap (λ (z : List (List Taken)). grown_in z (taken_in (joined turns))) ran.no_item) in
       cc
 
-  turns-are : OwnTurns (leaf_table o.machine o.secrets o.codes p) o.machine (first_lp (calls_of o.calls p)) turns (seen_of after.processor)
+  turns-are : OwnTurns (leaf_table o.machine (given_of o) o.codes p) o.machine (first_lp (calls_of o.calls p)) turns (seen_of after.processor)
   turns-are =
-      subst (λ (z : WordLp). OwnTurns (leaf_table o.machine o.secrets o.codes p) o.machine z turns (seen_of after.processor)) ran.first
-      (subst (λ (z : ℕ → ℕ). OwnTurns (leaf_table o.machine z o.codes p) o.machine (seen_of before.processor) turns (seen_of after.processor)) ran.secrets
-      (subst (λ (z : ℕ → ℕ → List GuestOp). OwnTurns (leaf_table o.machine (secrets_in before.processor.secrets.now) z p) o.machine (seen_of before.processor) turns (seen_of after.processor)) ran.codes
-      (own-turns (record { machine = o.machine; lp = p }) before.processor.secrets.now before.processor.codes.now before.processor after.processor turns ran.place refl refl ran.run.turned.lead)))
+      subst (λ (z : WordLp). OwnTurns (leaf_table o.machine (given_of o) o.codes p) o.machine z turns (seen_of after.processor)) ran.first
+      (subst (λ (z : Given). OwnTurns (leaf_table o.machine z o.codes p) o.machine (seen_of before.processor) turns (seen_of after.processor)) ran.given
+      (subst (λ (z : ℕ → ℕ → List GuestOp). OwnTurns (leaf_table o.machine (given_in before.processor.given) z p) o.machine (seen_of before.processor) turns (seen_of after.processor)) ran.codes
+      (own-turns (record { machine = o.machine; lp = p }) (given_in before.processor.given) before.processor.codes.now before.processor after.processor turns ran.place refl refl ran.run.turned.lead)))
 
   over : (seen_of after.processor).lines ≡ []
   over = no-lines after.processor.lines.now ran.run.ended
@@ -91,7 +92,7 @@ threads-run leaves merges o xss words number before after machine few codes ran 
   where
     HasTurns : ℕ → List (List Piece) → Type 0
     HasTurns p pss =
-        OwnTurns (leaf_table o.machine o.secrets o.codes p) o.machine (first_lp (calls_of o.calls p)) pss (seen_of (after p).processor) × (slice_index_or xss (number p) [] ≡ taken_in (joined pss))
+        OwnTurns (leaf_table o.machine (given_of o) o.codes p) o.machine (first_lp (calls_of o.calls p)) pss (seen_of (after p).processor) × (slice_index_or xss (number p) [] ≡ taken_in (joined pss))
 
     turns-by : (p : ℕ) → (p < length o.calls) ⊎ (length o.calls ≤ p) → (pss : List (List Piece)) × (p < length o.calls → HasTurns p pss)
     turns-by p (inl lt) =
@@ -107,10 +108,10 @@ threads-run leaves merges o xss words number before after machine few codes ran 
         lift (length o.calls) number closed.made (λ p. joined (each-has p).0) no_table closed.table ran.apart (λ p lt. closed.merge (number p) ∙ ((each-has p).1 lt).1)
         (λ k out. closed.merge k ∙ ran.nothing_else k out) closed.plays
 
-    merge : Merge o (leaf_table o.machine o.secrets o.codes) l.is (λ p. seen_of (after p).processor) closed.table
+    merge : Merge o (leaf_table o.machine (given_of o) o.codes) l.is (λ p. seen_of (after p).processor) closed.table
     merge = record { own = λ p. (each-has p).0; turns = λ p lt. ((each-has p).1 lt).0; merge = l.merge; plays = l.plays }
 
     end : let s = run o (order l.is) in IsShownBy o.machine closed.table s × IsWhere o (λ p. seen_of (after p).processor) s
     end =
-        merges.ended o (leaf_table o.machine o.secrets o.codes) l.is (λ p. seen_of (after p).processor) closed.table few (leaves o o.secrets o.codes machine (λ k. refl) (λ t i. refl)) codes merge
+        merges.ended o (leaf_table o.machine (given_of o) o.codes) l.is (λ p. seen_of (after p).processor) closed.table few (leaves o (given_of o) o.codes machine (record { secrets = λ k. refl; bundles = λ slot. refl }) (λ t i. refl)) codes merge
         (λ p lt. over o p (slice_index_or xss (number p) []) (before p) (after p) (ran.each p lt))

@@ -13,7 +13,8 @@ use Rattle.leaf_engine.specs.OwnLists.{WordLp, first_lp, taken_in}
 use Rattle.leaf_engine.specs.Merges.{Item, part, order, AreCodes}
 use Rattle.merge_laws.specs.Merge.{Merge}
 use Rattle.merge_laws.specs.Laws.{IsShownBy, IsWhere}
-use Rattle.leaf_dispatch.specs.Table.{secrets_in, code_in, leaf_table}
+use Rattle.leaf_table.specs.Given.{given_in, given_of}
+use Rattle.leaf_table.specs.Table.{code_in, leaf_table}
 use Rattle.leaf_dispatch.specs.States.{seen_of, Moves}
 use Rattle.leaf_dispatch.specs.declared.states.LpState.{LpState}
 use Rattle.lp_threads.specs.declared.lanes.Lane.{Lane}
@@ -23,7 +24,7 @@ use Rattle.lp_threads.specs.Running.{HasRun}
 -- own list is then this one.
 pub record RanInThread (o : Opening) (p : ℕ) (own : List Taken) (before after : Lane LpState) : Type 0 where
   pub place : before.processor.place ≡ record { machine = o.machine; lp = p }
-  pub secrets : secrets_in before.processor.secrets.now ≡ o.secrets
+  pub given : given_in before.processor.given ≡ given_of o
   pub codes : code_in before.processor.codes.now ≡ o.codes
   pub first : seen_of before.processor ≡ first_lp (calls_of o.calls p)
   pub no_item : (bench_of before.bench).pass.lists ≡ [] ∷ []
@@ -44,7 +45,7 @@ pub record IsOneRun (o : Opening) (lists : List (List Taken)) (number : ℕ → 
   pub made : List Item
   pub table : Table
   pub theirs : (p : ℕ) → p < length o.calls → taken_in (part p made) ≡ slice_index_or lists (number p) []
-  pub merge : Merge o (leaf_table o.machine o.secrets o.codes) made now table
+  pub merge : Merge o (leaf_table o.machine (given_of o) o.codes) made now table
   pub words_are : (n : ℕ) → n < word_count o.machine → slice_index words n ≡ table.words n
   pub shown : IsShownBy o.machine table (run o (order made))
   pub lps : IsWhere o now (run o (order made))

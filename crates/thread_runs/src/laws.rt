@@ -2,7 +2,7 @@
 
 ghost use Rattle.thread_runs.specs.Threads.{ThreadsAreRuns};
 
-use leaf_dispatch::calls_have_leaves;
+use leaf_table::calls_have_leaves;
 use merge_laws::merge_law;
 
 /// Where each of a script's processors ran in a thread to the end of its calls, and the lists of their

@@ -27,15 +27,16 @@ use Rattle.leaf_engine.specs.Merges.{Item, part, order, no_table, IsOperation, A
 use Rattle.access_core.specs.HostTrees.{host_read_tree, host_write_tree}
 use Rattle.merge_laws.specs.Merge.{Merge, MergePlays}
 use Rattle.merge_laws.specs.Laws.{IsShownBy, IsWhere, MergesAreRuns}
-use Rattle.leaf_dispatch.specs.Table.{leaf_table}
-use Rattle.leaf_dispatch.specs.Laws.{CallsHaveLeaves}
+use Rattle.leaf_table.specs.Given.{given_of}
+use Rattle.leaf_table.specs.Table.{leaf_table}
+use Rattle.leaf_table.specs.Laws.{CallsHaveLeaves}
 use Rattle.worked_merges.specs.Worked.{writer_and_reader, lock_word, pamt_word, content_word, load_behind_store, load_before_store, order_behind, order_before, table_left, done_with, ends_reading, RunsAs, Examples}
 
 abbrev m : Machine
 m = writer_and_reader.machine
 
 abbrev leaves_of : ℕ → LeafTable
-leaves_of = leaf_table m writer_and_reader.secrets writer_and_reader.codes
+leaves_of = leaf_table m (given_of writer_and_reader) writer_and_reader.codes
 
 abbrev page_lock : HeldLock
 page_lock = record { name = lock.Page 1; at = lock_word; mode = Shared }
@@ -263,7 +264,7 @@ runs-as law leaves word is schedule zeroth first further plays ordered = record 
     both : IsShownBy m (table_left no_table is) (run writer_and_reader schedule) × IsWhere writer_and_reader (ends_reading word) (run writer_and_reader schedule)
     both =
         subst (λ (ps : List ℕ). IsShownBy m (table_left no_table is) (run writer_and_reader ps) × IsWhere writer_and_reader (ends_reading word) (run writer_and_reader ps)) ordered
-        (law.ended writer_and_reader leaves_of is (ends_reading word) (table_left no_table is) (omega arith) (leaves writer_and_reader writer_and_reader.secrets writer_and_reader.codes in-limits (λ k. refl) (λ t i. refl)) no-codes merge ended)
+        (law.ended writer_and_reader leaves_of is (ends_reading word) (table_left no_table is) (omega arith) (leaves writer_and_reader (given_of writer_and_reader) writer_and_reader.codes in-limits (record { secrets = λ k. refl; bundles = λ slot. refl }) (λ t i. refl)) no-codes merge ended)
 
 -- each answer is what the merge has made
 behind-plays : MergePlays no_table load_behind_store (table_left no_table load_behind_store)

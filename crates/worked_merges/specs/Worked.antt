@@ -17,7 +17,8 @@ use Rattle.leaf_engine.specs.OwnLists.{Unmarked, Marked, WordLp, first_lp}
 use Rattle.leaf_engine.specs.Merges.{Item, order, no_table}
 use Rattle.merge_laws.specs.Merge.{table_after, Merge}
 use Rattle.merge_laws.specs.Laws.{IsShownBy, IsWhere}
-use Rattle.leaf_dispatch.specs.Table.{leaf_table}
+use Rattle.leaf_table.specs.Given.{given_of}
+use Rattle.leaf_table.specs.Table.{leaf_table}
 
 -- a machine of eight pages, where processor 0 writes a word of page 1, and processor 1 reads it
 abbrev pub writer_and_reader : Opening
@@ -81,7 +82,7 @@ ends_reading word (suc (suc p)) = first_lp []
 -- These items are a merge of the processors' own lists up to the end of each, their events have this order, and the flat
 -- machine's run under it is what the words show, and where the processors are.
 pub record RunsAs (o : Opening) (is : List Item) (now : ℕ → WordLp) (schedule : List ℕ) : Type 0 where
-  pub merge : Merge o (leaf_table o.machine o.secrets o.codes) is now (table_left no_table is)
+  pub merge : Merge o (leaf_table o.machine (given_of o) o.codes) is now (table_left no_table is)
   pub ended : (p : ℕ) → p < length o.calls → (now p).lines ≡ []
   pub order_is : order is ≡ schedule
   pub shown : IsShownBy o.machine (table_left no_table is) (run o schedule)

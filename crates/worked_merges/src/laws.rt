@@ -2,7 +2,7 @@
 
 ghost use Rattle.worked_merges.specs.Worked.{Examples};
 
-use leaf_dispatch::calls_have_leaves;
+use leaf_table::calls_have_leaves;
 use merge_laws::merge_law;
 
 /// Two processors share a page, and word steps of one stand inside a turn of the other's: the items

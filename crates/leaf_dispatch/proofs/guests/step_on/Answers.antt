@@ -1,6 +1,7 @@
 use Rattle.std.proofs.Common.{◌∙◌, Some, sym, ap}
 use Rattle.leaf_engine.specs.Guests.{Step, stepped}
-use Rattle.leaf_dispatch.specs.Guests.{step_seen, guest_seen}
+use Rattle.leaf_table.specs.Steps.{step_seen}
+use Rattle.leaf_dispatch.specs.Guests.{guest_seen}
 use Rattle.leaf_dispatch.proofs.guests.step_on.Goals as goal
 
 pub returns-in-Operates-clause-kept : goal.returns-in-Operates-clause-kept

@@ -3,28 +3,29 @@ use Rattle.td_words.specs.declared.machines.Machine.{Machine}
 use Rattle.flat_core.specs.World.{Made}
 use Rattle.leaf_engine.specs.Turns.{Standing}
 use Rattle.leaf_engine.specs.OwnLists.{running}
-use Rattle.leaf_dispatch.specs.Answers.{Ends, call_ends}
+use Rattle.leaf_table.specs.Ends.{Ends, call_ends}
 use Rattle.leaf_dispatch.specs.BundleRooms.{count_of, words_of, payload_words}
 use Rattle.leaf_dispatch.specs.Running.{run_seen, made_in_run, IsKept, LeafTurned}
-use Rattle.leaf_dispatch.specs.Table.{task_of}
+use Rattle.leaf_table.specs.Given.{given_in}
+use Rattle.leaf_table.specs.Table.{task_of}
 use Rattle.leaf_dispatch.proofs.Keeping.{can-turn-at, run-turned}
 use Rattle.leaf_dispatch.proofs.Making.{counts_bundles, counts_words, call-room}
 use Rattle.leaf_dispatch.proofs.PageRooms.{turned-room}
 use Rattle.leaf_dispatch.proofs.running.turn_call.Goals as goal
 
 pub turn_kept-turn-requires : goal.turn_kept-turn-requires
-turn_kept-turn-requires g c = can-turn-at _ _ (call_ends c.args.place.machine c.args.call.now) (running (task_of c.args.place c.args.call.now) (run_seen c.args.kept.now)) c.begin_where_none.new.kept c.requires.at c.begin_where_none.ensures.kept
+turn_kept-turn-requires g c = can-turn-at _ _ (call_ends c.args.place.machine c.args.call.now) (running (task_of (given_in c.args.given) c.args.place c.args.call.now) (run_seen c.args.kept.now)) c.begin_where_none.new.kept c.requires.at c.begin_where_none.ensures.kept
 
 pub add_made-requires-clause-room : goal.add_made-requires-clause-room
 add_made-requires-clause-room g c =
-    let few = call-room count_of length counts_bundles (g.B.Bench.did c.args.bench.now) c.turn_kept-turn.new.bench _ c.args.place c.args.call.now (run_seen c.args.kept.now) c.begin_where_none.new.kept c.turn_kept-turn.new.kept c.turn_kept-turn.result c.requires.at
+    let few = call-room count_of length counts_bundles (g.B.Bench.did c.args.bench.now) c.turn_kept-turn.new.bench _ (given_in c.args.given) c.args.place c.args.call.now (run_seen c.args.kept.now) c.begin_where_none.new.kept c.turn_kept-turn.new.kept c.turn_kept-turn.result c.requires.at
     c.begin_where_none.ensures.kept c.turn_kept-turn.ensures.turned in
     let room = c.requires.room in
     omega (arith, few, room)
 
 pub add_made-requires-clause-word_room : goal.add_made-requires-clause-word_room
 add_made-requires-clause-word_room g c =
-    let few = call-room words_of payload_words counts_words (g.B.Bench.did c.args.bench.now) c.turn_kept-turn.new.bench _ c.args.place c.args.call.now (run_seen c.args.kept.now) c.begin_where_none.new.kept c.turn_kept-turn.new.kept c.turn_kept-turn.result c.requires.at
+    let few = call-room words_of payload_words counts_words (g.B.Bench.did c.args.bench.now) c.turn_kept-turn.new.bench _ (given_in c.args.given) c.args.place c.args.call.now (run_seen c.args.kept.now) c.begin_where_none.new.kept c.turn_kept-turn.new.kept c.turn_kept-turn.result c.requires.at
     c.begin_where_none.ensures.kept c.turn_kept-turn.ensures.turned in
     let room = c.requires.word_room in
     omega (arith, few, room)
@@ -37,7 +38,7 @@ leave_call-requires g c = record {
 pub returns-clause-turned : goal.returns-clause-turned
 returns-clause-turned g c =
     let e : Ends = call_ends c.args.place.machine c.args.call.now in
-    let s : Standing = running (task_of c.args.place c.args.call.now) (run_seen c.args.kept.now) in
+    let s : Standing = running (task_of (given_in c.args.given) c.args.place c.args.call.now) (run_seen c.args.kept.now) in
     let made : List Made = made_in_run c.turn_kept-turn.new.kept c.turn_kept-turn.result.event in
     let k = subst (λ (z : Machine). IsKept z e s c.begin_where_none.new.kept) c.requires.at c.begin_where_none.ensures.kept in (
       made,

@@ -2,22 +2,23 @@ use Rattle.std.proofs.Common.{[], refl, sym, subst}
 use Rattle.td_words.specs.declared.machines.Machine.{Machine}
 use Rattle.leaf_engine.specs.Turns.{Standing}
 use Rattle.leaf_engine.specs.OwnLists.{running}
-use Rattle.leaf_dispatch.specs.Answers.{Ends, step_ends}
-use Rattle.leaf_dispatch.specs.Guests.{step_seen}
+use Rattle.leaf_table.specs.Ends.{Ends, step_ends}
+use Rattle.leaf_table.specs.Steps.{step_seen}
 use Rattle.leaf_dispatch.specs.Running.{run_seen, IsKept, LeafTurned}
-use Rattle.leaf_dispatch.specs.Table.{secrets_in, step_task}
+use Rattle.leaf_table.specs.Given.{given_in}
+use Rattle.leaf_table.specs.Table.{step_task}
 use Rattle.leaf_dispatch.proofs.Keeping.{can-turn-at, run-turned}
 use Rattle.leaf_dispatch.proofs.Making.{step-made}
 use Rattle.leaf_dispatch.proofs.running.turn_step.Goals as goal
 
 pub turn_kept-step_turn-requires : goal.turn_kept-step_turn-requires
 turn_kept-step_turn-requires g c =
-    can-turn-at _ _ (step_ends c.args.tdr c.args.line (step_seen c.args.step)) (running (step_task (secrets_in c.args.secrets.now) c.args.place c.args.tdr c.args.vp c.args.line (step_seen c.args.step)) (run_seen c.args.kept.now)) c.begin_step_where_none.new.kept c.requires.at c.begin_step_where_none.ensures
+    can-turn-at _ _ (step_ends c.args.tdr c.args.line (step_seen c.args.step)) (running (step_task (given_in c.args.given) c.args.place c.args.tdr c.args.vp c.args.line (step_seen c.args.step)) (run_seen c.args.kept.now)) c.begin_step_where_none.new.kept c.requires.at c.begin_step_where_none.ensures
 
 pub returns-clause-turned : goal.returns-clause-turned
 returns-clause-turned g c =
     let e : Ends = step_ends c.args.tdr c.args.line (step_seen c.args.step) in
-    let s : Standing = running (step_task (secrets_in c.args.secrets.now) c.args.place c.args.tdr c.args.vp c.args.line (step_seen c.args.step)) (run_seen c.args.kept.now) in
+    let s : Standing = running (step_task (given_in c.args.given) c.args.place c.args.tdr c.args.vp c.args.line (step_seen c.args.step)) (run_seen c.args.kept.now) in
     let k = subst (λ (z : Machine). IsKept z e s c.begin_step_where_none.new.kept) c.requires.at c.begin_step_where_none.ensures in
     let none = step-made (g.B.Bench.did c.args.bench.now) c.turn_kept-step_turn.new.bench _ e s c.begin_step_where_none.new.kept c.turn_kept-step_turn.new.kept c.turn_kept-step_turn.result refl k c.turn_kept-step_turn.ensures.turned in
     subst (λ (z : Machine). LeafTurned (g.B.Bench.did c.args.bench.now) z e s c.turn_kept-step_turn.new.bench c.leave_step.new.kept c.leave_step.result []) (sym c.requires.at)

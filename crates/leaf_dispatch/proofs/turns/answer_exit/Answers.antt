@@ -1,7 +1,8 @@
 use Rattle.std.proofs.Common.{IfSome, ap, subst}
 use Rattle.leaf_engine.specs.Guests.{Step}
-use Rattle.leaf_dispatch.specs.Answers.{call_ends}
-use Rattle.leaf_dispatch.specs.Guests.{step_seen, IsReplyOf}
+use Rattle.leaf_table.specs.Ends.{call_ends}
+use Rattle.leaf_table.specs.Steps.{step_seen}
+use Rattle.leaf_dispatch.specs.Guests.{IsReplyOf}
 use Rattle.leaf_dispatch.proofs.Exiting.{exits-fit}
 use Rattle.leaf_dispatch.proofs.turns.answer_exit.Goals as goal
 

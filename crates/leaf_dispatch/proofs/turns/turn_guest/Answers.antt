@@ -1,10 +1,11 @@
 use Rattle.std.proofs.Common.{◌∙◌, [], None, refl, sym, ap, subst}
 use Rattle.leaf_engine.specs.Guests.{Step}
 use Rattle.leaf_engine.specs.OwnLists.{running}
-use Rattle.leaf_dispatch.specs.Answers.{step_tries, step_ends}
-use Rattle.leaf_dispatch.specs.Guests.{step_seen}
+use Rattle.leaf_table.specs.Ends.{step_tries, step_ends}
+use Rattle.leaf_table.specs.Steps.{step_seen}
 use Rattle.leaf_dispatch.specs.Running.{run_seen, IsRunOf}
-use Rattle.leaf_dispatch.specs.Table.{secrets_in, step_task}
+use Rattle.leaf_table.specs.Given.{given_in}
+use Rattle.leaf_table.specs.Table.{step_task}
 use Rattle.leaf_dispatch.proofs.Replying.{act-fits, reply-fits, first-trying}
 use Rattle.leaf_dispatch.proofs.turns.turn_guest.Goals as goal
 
@@ -15,21 +16,21 @@ pub cache_by-requires : goal.cache_by-requires
 cache_by-requires g c =
     let s = step_seen c.next_step-step.result in
     act-fits (g.B.Bench.did c.args.bench.now) c.turn_step-turn.new.bench c.args.place.machine c.turn_step-turn.new.kept c.turn_step-turn.result [] (step_ends c.args.guest.tdr c.args.line s)
-    (running (step_task (secrets_in c.args.secrets.now) c.args.place c.args.guest.tdr c.args.guest.vp c.args.line s) (run_seen c.args.kept.now)) c.turn_step-turn.ensures.turned c.turn_step-turn.result.act refl
+    (running (step_task (given_in c.args.given) c.args.place c.args.guest.tdr c.args.guest.vp c.args.line s) (run_seen c.args.kept.now)) c.turn_step-turn.ensures.turned c.turn_step-turn.result.act refl
 
 pub guest_then-requires-clause-fits : goal.guest_then-requires-clause-fits
 guest_then-requires-clause-fits g c =
     let s = step_seen c.next_step-step.result in
     reply-fits (g.B.Bench.did c.args.bench.now) c.turn_step-turn.new.bench c.args.place.machine c.turn_step-turn.new.kept c.turn_step-turn.result [] c.args.guest.tdr c.args.line s
-    (running (step_task (secrets_in c.args.secrets.now) c.args.place c.args.guest.tdr c.args.guest.vp c.args.line s) (run_seen c.args.kept.now)) c.turn_step-turn.ensures.turned
-    (first-trying (secrets_in c.args.secrets.now) c.args.place c.args.guest.tdr c.args.guest.vp c.args.line s c.args.kept.now (λ z. c.requires.alone (sym (ap step_tries (c.next_step-step.ensures.step None)) ∙ z))) c.turn_step-turn.result.reply refl
+    (running (step_task (given_in c.args.given) c.args.place c.args.guest.tdr c.args.guest.vp c.args.line s) (run_seen c.args.kept.now)) c.turn_step-turn.ensures.turned
+    (first-trying (given_in c.args.given) c.args.place c.args.guest.tdr c.args.guest.vp c.args.line s c.args.kept.now (λ z. c.requires.alone (sym (ap step_tries (c.next_step-step.ensures.step None)) ∙ z))) c.turn_step-turn.result.reply refl
 
 pub returns-clause-fits : goal.returns-clause-fits
 returns-clause-fits g c =
     let s = step_seen c.next_step-step.result in
     reply-fits (g.B.Bench.did c.args.bench.now) c.turn_step-turn.new.bench c.args.place.machine c.turn_step-turn.new.kept c.turn_step-turn.result [] c.args.guest.tdr c.args.line s
-    (running (step_task (secrets_in c.args.secrets.now) c.args.place c.args.guest.tdr c.args.guest.vp c.args.line s) (run_seen c.args.kept.now)) c.turn_step-turn.ensures.turned
-    (first-trying (secrets_in c.args.secrets.now) c.args.place c.args.guest.tdr c.args.guest.vp c.args.line s c.args.kept.now (λ z. c.requires.alone (sym (ap step_tries (c.next_step-step.ensures.step None)) ∙ z))) c.turn_step-turn.result.reply refl
+    (running (step_task (given_in c.args.given) c.args.place c.args.guest.tdr c.args.guest.vp c.args.line s) (run_seen c.args.kept.now)) c.turn_step-turn.ensures.turned
+    (first-trying (given_in c.args.given) c.args.place c.args.guest.tdr c.args.guest.vp c.args.line s c.args.kept.now (λ z. c.requires.alone (sym (ap step_tries (c.next_step-step.ensures.step None)) ∙ z))) c.turn_step-turn.result.reply refl
 
 pub returns-clause-cached : goal.returns-clause-cached
 returns-clause-cached g c = c.cache_by.ensures c.args.line

@@ -1,5 +1,5 @@
 use Rattle.std.proofs.Common.{◌≡◌}
-use Rattle.leaf_dispatch.specs.Table.{code_in}
+use Rattle.leaf_table.specs.Table.{code_in}
 use Rattle.leaf_dispatch.specs.Bounds.{events_left}
 use Rattle.leaf_dispatch.specs.States.{seen_of}
 use Rattle.leaf_dispatch_rows.specs.declared.benches.TheConstants.{MACHINE}

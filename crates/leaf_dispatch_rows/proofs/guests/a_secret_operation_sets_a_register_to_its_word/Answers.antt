@@ -5,7 +5,6 @@ invariant_of-lp g c =
     let s = c.visit-lp.result.0 in
     record {
       machine = s.machine;
-      secret_words = s.secret_words;
       limits = s.limits;
       lists_are = s.lists_are;
       few = s.few;
@@ -24,7 +23,6 @@ invariant_of-lp-2 g c =
     let s = c.visit-lp-2.result.0 in
     record {
       machine = s.machine;
-      secret_words = s.secret_words;
       limits = s.limits;
       lists_are = s.lists_are;
       few = s.few;

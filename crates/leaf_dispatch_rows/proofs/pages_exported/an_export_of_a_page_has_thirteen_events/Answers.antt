@@ -5,7 +5,6 @@ invariant_of-lp g c =
     let s = c.turn-2.new.self in
     record {
       machine = s.machine;
-      secret_words = s.secret_words;
       limits = s.limits;
       lists_are = s.lists_are;
       few = s.few;

@@ -5,7 +5,6 @@ invariant_of-first g c =
     let s = c.turn.new.self in
     record {
       machine = s.machine;
-      secret_words = s.secret_words;
       limits = s.limits;
       lists_are = s.lists_are;
       few = s.few;
@@ -24,7 +23,6 @@ invariant_of-second g c =
     let s = c.turn-3.new.self in
     record {
       machine = s.machine;
-      secret_words = s.secret_words;
       limits = s.limits;
       lists_are = s.lists_are;
       few = s.few;

@@ -1,5 +1,5 @@
 use Rattle.std.proofs.Common.{◌≡◌}
-use Rattle.leaf_dispatch.specs.Table.{code_in}
+use Rattle.leaf_table.specs.Table.{code_in}
 use Rattle.leaf_dispatch.specs.Bounds.{events_left}
 use Rattle.leaf_dispatch.specs.States.{seen_of}
 use Rattle.leaf_dispatch_rows.proofs.turns.each_call_is_made_by_its_leaf.Given as goal

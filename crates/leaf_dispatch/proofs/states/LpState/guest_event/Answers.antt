@@ -1,12 +1,14 @@
 use Rattle.std.proofs.Common.{◌∙◌, ◌+◌, map, length, refl, arith, ap, sym, subst, ℕ, List, None}
 use Rattle.td_words.specs.declared.replies.Reply.{Reply}
 use Rattle.leaf_engine.specs.Trees.{added}
-use Rattle.leaf_dispatch.specs.Answers.{step_answer, step_ends, notes_by, tells_by}
+use Rattle.leaf_table.specs.Ends.{step_answer, step_ends}
+use Rattle.leaf_dispatch.specs.Answers.{notes_by, tells_by}
 use Rattle.leaf_dispatch.specs.BundleRooms.{count_of, words_of}
 use Rattle.leaf_dispatch.proofs.Making.{exit-room}
-use Rattle.leaf_dispatch.specs.Guests.{note_seen, step_seen, next_in}
+use Rattle.leaf_table.specs.Steps.{step_seen}
+use Rattle.leaf_dispatch.specs.Guests.{note_seen, next_in}
 use Rattle.leaf_dispatch.specs.Running.{IsRunOf}
-use Rattle.leaf_dispatch.specs.Table.{secrets_in}
+use Rattle.leaf_table.specs.Given.{given_in}
 use Rattle.leaf_dispatch.proofs.Rooming.{notes-few, tells-few}
 use Rattle.leaf_dispatch.proofs.GuestEvents.{kept-of, answered-of, notes-none, tells-none, no-notes, no-tells}
 use Rattle.leaf_dispatch.proofs.Exiting.{still-at}
@@ -25,9 +27,9 @@ add_note-requires g c =
     let l = c.args.self.now in
     let at = ap (λ (rs : List Reply). length rs + 1) c.replies.ensures in
     let s = step_seen c.turn_guest-step.result.step in
-    let steps : StepsAt l.place (secrets_in l.secrets.now) l.codes.now l.replies.items l.told.items (map note_seen l.notes.items) l.cached l.bundles.made (g.B.Bench.did c.args.bench.now) c.turn_guest-step.new.bench c.turn_guest-step.new.kept c.turn_guest-step.result.turn c.turn_guest-step.new.cached s c.args.guest c.turn_guest-step.result.guest l.step_run (length c.replies.result.now + 1) = record { counts = c.turn_guest-step.ensures.counts; low = c.turn_guest-step.ensures.within; is = sym (c.turn_guest-step.ensures.step None); turned = c.turn_guest-step.ensures.turned; cached = c.turn_guest-step.ensures.cached; next = c.turn_guest-step.ensures.next } in
+    let steps : StepsAt l.place (given_in l.given) l.codes.now l.replies.items l.told.items (map note_seen l.notes.items) l.cached l.bundles.made (g.B.Bench.did c.args.bench.now) c.turn_guest-step.new.bench c.turn_guest-step.new.kept c.turn_guest-step.result.turn c.turn_guest-step.new.cached s c.args.guest c.turn_guest-step.result.guest l.step_run (length c.replies.result.now + 1) = record { counts = c.turn_guest-step.ensures.counts; low = c.turn_guest-step.ensures.within; is = sym (c.turn_guest-step.ensures.step None); turned = c.turn_guest-step.ensures.turned; cached = c.turn_guest-step.ensures.cached; next = c.turn_guest-step.ensures.next } in
     let made : ℕ = length (notes_by (step_answer c.args.guest.tdr (length c.replies.result.now + 1) s) c.turn_guest-step.result.turn.act) in
-    let room = guest-room l.place (secrets_in l.secrets.now) l.codes.now l.replies.items l.told.items (map note_seen l.notes.items) l.cached l.bundles.made (g.B.Bench.did c.args.bench.now) c.turn_guest-step.new.bench c.turn_guest-step.new.kept c.turn_guest-step.result.turn c.turn_guest-step.new.cached s c.args.guest c.turn_guest-step.result.guest l.step_run l.lines.now l.guest l.run (length c.replies.result.now + 1) at steps c.requires.lines c.requires.acts l.inside made (notes-few c.args.guest.tdr (length c.replies.result.now + 1) s c.turn_guest-step.result.turn.act) (no-notes c.args.guest.tdr (length c.replies.result.now + 1) s c.turn_guest-step.result.turn.act) (notes-none c.args.guest.tdr (length c.replies.result.now + 1) s c.turn_guest-step.result.turn.act) in
+    let room = guest-room l.place (given_in l.given) l.codes.now l.replies.items l.told.items (map note_seen l.notes.items) l.cached l.bundles.made (g.B.Bench.did c.args.bench.now) c.turn_guest-step.new.bench c.turn_guest-step.new.kept c.turn_guest-step.result.turn c.turn_guest-step.new.cached s c.args.guest c.turn_guest-step.result.guest l.step_run l.lines.now l.guest l.run (length c.replies.result.now + 1) at steps c.requires.lines c.requires.acts l.inside made (notes-few c.args.guest.tdr (length c.replies.result.now + 1) s c.turn_guest-step.result.turn.act) (no-notes c.args.guest.tdr (length c.replies.result.now + 1) s c.turn_guest-step.result.turn.act) (notes-none c.args.guest.tdr (length c.replies.result.now + 1) s c.turn_guest-step.result.turn.act) in
     let had = l.note_room in
     let same = ap length c.turn_guest-step.ensures.notes in
     omega (arith, room, had, same)
@@ -37,9 +39,9 @@ add_word-requires g c =
     let l = c.args.self.now in
     let at = ap (λ (rs : List Reply). length rs + 1) c.replies.ensures in
     let s = step_seen c.turn_guest-step.result.step in
-    let steps : StepsAt l.place (secrets_in l.secrets.now) l.codes.now l.replies.items l.told.items (map note_seen l.notes.items) l.cached l.bundles.made (g.B.Bench.did c.args.bench.now) c.turn_guest-step.new.bench c.turn_guest-step.new.kept c.turn_guest-step.result.turn c.turn_guest-step.new.cached s c.args.guest c.turn_guest-step.result.guest l.step_run (length c.replies.result.now + 1) = record { counts = c.turn_guest-step.ensures.counts; low = c.turn_guest-step.ensures.within; is = sym (c.turn_guest-step.ensures.step None); turned = c.turn_guest-step.ensures.turned; cached = c.turn_guest-step.ensures.cached; next = c.turn_guest-step.ensures.next } in
+    let steps : StepsAt l.place (given_in l.given) l.codes.now l.replies.items l.told.items (map note_seen l.notes.items) l.cached l.bundles.made (g.B.Bench.did c.args.bench.now) c.turn_guest-step.new.bench c.turn_guest-step.new.kept c.turn_guest-step.result.turn c.turn_guest-step.new.cached s c.args.guest c.turn_guest-step.result.guest l.step_run (length c.replies.result.now + 1) = record { counts = c.turn_guest-step.ensures.counts; low = c.turn_guest-step.ensures.within; is = sym (c.turn_guest-step.ensures.step None); turned = c.turn_guest-step.ensures.turned; cached = c.turn_guest-step.ensures.cached; next = c.turn_guest-step.ensures.next } in
     let made : ℕ = length (tells_by (step_answer c.args.guest.tdr (length c.replies.result.now + 1) s) c.turn_guest-step.result.turn.act) in
-    let room = guest-room l.place (secrets_in l.secrets.now) l.codes.now l.replies.items l.told.items (map note_seen l.notes.items) l.cached l.bundles.made (g.B.Bench.did c.args.bench.now) c.turn_guest-step.new.bench c.turn_guest-step.new.kept c.turn_guest-step.result.turn c.turn_guest-step.new.cached s c.args.guest c.turn_guest-step.result.guest l.step_run l.lines.now l.guest l.run (length c.replies.result.now + 1) at steps c.requires.lines c.requires.acts l.inside made (tells-few c.args.guest.tdr (length c.replies.result.now + 1) s c.turn_guest-step.result.turn.act) (no-tells c.args.guest.tdr (length c.replies.result.now + 1) s c.turn_guest-step.result.turn.act) (tells-none c.args.guest.tdr (length c.replies.result.now + 1) s c.turn_guest-step.result.turn.act) in
+    let room = guest-room l.place (given_in l.given) l.codes.now l.replies.items l.told.items (map note_seen l.notes.items) l.cached l.bundles.made (g.B.Bench.did c.args.bench.now) c.turn_guest-step.new.bench c.turn_guest-step.new.kept c.turn_guest-step.result.turn c.turn_guest-step.new.cached s c.args.guest c.turn_guest-step.result.guest l.step_run l.lines.now l.guest l.run (length c.replies.result.now + 1) at steps c.requires.lines c.requires.acts l.inside made (tells-few c.args.guest.tdr (length c.replies.result.now + 1) s c.turn_guest-step.result.turn.act) (no-tells c.args.guest.tdr (length c.replies.result.now + 1) s c.turn_guest-step.result.turn.act) (tells-none c.args.guest.tdr (length c.replies.result.now + 1) s c.turn_guest-step.result.turn.act) in
     let had = l.word_room in
     let same = ap length c.turn_guest-step.ensures.words in
     omega (arith, room, had, same)
@@ -55,9 +57,9 @@ invariant_of-self-clause-inside g c =
     let l = c.args.self.now in
     let at = ap (λ (rs : List Reply). length rs + 1) c.replies.ensures in
     let s = step_seen c.turn_guest-step.result.step in
-    let steps : StepsAt l.place (secrets_in l.secrets.now) l.codes.now l.replies.items l.told.items (map note_seen l.notes.items) l.cached l.bundles.made (g.B.Bench.did c.args.bench.now) c.turn_guest-step.new.bench c.turn_guest-step.new.kept c.turn_guest-step.result.turn c.turn_guest-step.new.cached s c.args.guest c.turn_guest-step.result.guest l.step_run (length c.replies.result.now + 1) = record { counts = c.turn_guest-step.ensures.counts; low = c.turn_guest-step.ensures.within; is = sym (c.turn_guest-step.ensures.step None); turned = c.turn_guest-step.ensures.turned; cached = c.turn_guest-step.ensures.cached; next = c.turn_guest-step.ensures.next } in
+    let steps : StepsAt l.place (given_in l.given) l.codes.now l.replies.items l.told.items (map note_seen l.notes.items) l.cached l.bundles.made (g.B.Bench.did c.args.bench.now) c.turn_guest-step.new.bench c.turn_guest-step.new.kept c.turn_guest-step.result.turn c.turn_guest-step.new.cached s c.args.guest c.turn_guest-step.result.guest l.step_run (length c.replies.result.now + 1) = record { counts = c.turn_guest-step.ensures.counts; low = c.turn_guest-step.ensures.within; is = sym (c.turn_guest-step.ensures.step None); turned = c.turn_guest-step.ensures.turned; cached = c.turn_guest-step.ensures.cached; next = c.turn_guest-step.ensures.next } in
     let answered = answered-of l.place.machine l.codes.now l.cached (length l.replies.items + 1) l.guest l.run c.args.guest l.step_run c.requires.acts l.inside in
-    let done = guest-steps l.place (secrets_in l.secrets.now) l.codes.now l.replies.items l.told.items (map note_seen l.notes.items) l.cached l.bundles.made (g.B.Bench.did c.args.bench.now) c.turn_guest-step.new.bench c.turn_guest-step.new.kept c.turn_guest-step.result.turn c.turn_guest-step.new.cached s c.args.guest c.turn_guest-step.result.guest l.step_run c.answer_exit.new.kept (map note_seen c.add_note.new.notes.items) c.add_word.new.told.items (length c.replies.result.now + 1) at steps (c.add_note.ensures.added ∙ ap (added (map note_seen l.notes.items)) c.turn_guest-step.ensures.notes) (c.add_word.ensures.added ∙ ap (added l.told.items) c.turn_guest-step.ensures.words)
+    let done = guest-steps l.place (given_in l.given) l.codes.now l.replies.items l.told.items (map note_seen l.notes.items) l.cached l.bundles.made (g.B.Bench.did c.args.bench.now) c.turn_guest-step.new.bench c.turn_guest-step.new.kept c.turn_guest-step.result.turn c.turn_guest-step.new.cached s c.args.guest c.turn_guest-step.result.guest l.step_run c.answer_exit.new.kept (map note_seen c.add_note.new.notes.items) c.add_word.new.told.items (length c.replies.result.now + 1) at steps (c.add_note.ensures.added ∙ ap (added (map note_seen l.notes.items)) c.turn_guest-step.ensures.notes) (c.add_word.ensures.added ∙ ap (added l.told.items) c.turn_guest-step.ensures.words)
     (c.answer_exit.ensures.answered answered) c.turn_guest-step.ensures.kept c.turns_in_pieces.ensures l.lines.now l.guest l.run c.requires.lines c.requires.acts l.inside c.answer_exit.ensures.seen in
     done.keeps
 
@@ -66,9 +68,9 @@ invariant_of-self-clause-note_room g c =
     let l = c.args.self.now in
     let at = ap (λ (rs : List Reply). length rs + 1) c.replies.ensures in
     let s = step_seen c.turn_guest-step.result.step in
-    let steps : StepsAt l.place (secrets_in l.secrets.now) l.codes.now l.replies.items l.told.items (map note_seen l.notes.items) l.cached l.bundles.made (g.B.Bench.did c.args.bench.now) c.turn_guest-step.new.bench c.turn_guest-step.new.kept c.turn_guest-step.result.turn c.turn_guest-step.new.cached s c.args.guest c.turn_guest-step.result.guest l.step_run (length c.replies.result.now + 1) = record { counts = c.turn_guest-step.ensures.counts; low = c.turn_guest-step.ensures.within; is = sym (c.turn_guest-step.ensures.step None); turned = c.turn_guest-step.ensures.turned; cached = c.turn_guest-step.ensures.cached; next = c.turn_guest-step.ensures.next } in
+    let steps : StepsAt l.place (given_in l.given) l.codes.now l.replies.items l.told.items (map note_seen l.notes.items) l.cached l.bundles.made (g.B.Bench.did c.args.bench.now) c.turn_guest-step.new.bench c.turn_guest-step.new.kept c.turn_guest-step.result.turn c.turn_guest-step.new.cached s c.args.guest c.turn_guest-step.result.guest l.step_run (length c.replies.result.now + 1) = record { counts = c.turn_guest-step.ensures.counts; low = c.turn_guest-step.ensures.within; is = sym (c.turn_guest-step.ensures.step None); turned = c.turn_guest-step.ensures.turned; cached = c.turn_guest-step.ensures.cached; next = c.turn_guest-step.ensures.next } in
     let answered = answered-of l.place.machine l.codes.now l.cached (length l.replies.items + 1) l.guest l.run c.args.guest l.step_run c.requires.acts l.inside in
-    let done = guest-steps l.place (secrets_in l.secrets.now) l.codes.now l.replies.items l.told.items (map note_seen l.notes.items) l.cached l.bundles.made (g.B.Bench.did c.args.bench.now) c.turn_guest-step.new.bench c.turn_guest-step.new.kept c.turn_guest-step.result.turn c.turn_guest-step.new.cached s c.args.guest c.turn_guest-step.result.guest l.step_run c.answer_exit.new.kept (map note_seen c.add_note.new.notes.items) c.add_word.new.told.items (length c.replies.result.now + 1) at steps (c.add_note.ensures.added ∙ ap (added (map note_seen l.notes.items)) c.turn_guest-step.ensures.notes) (c.add_word.ensures.added ∙ ap (added l.told.items) c.turn_guest-step.ensures.words)
+    let done = guest-steps l.place (given_in l.given) l.codes.now l.replies.items l.told.items (map note_seen l.notes.items) l.cached l.bundles.made (g.B.Bench.did c.args.bench.now) c.turn_guest-step.new.bench c.turn_guest-step.new.kept c.turn_guest-step.result.turn c.turn_guest-step.new.cached s c.args.guest c.turn_guest-step.result.guest l.step_run c.answer_exit.new.kept (map note_seen c.add_note.new.notes.items) c.add_word.new.told.items (length c.replies.result.now + 1) at steps (c.add_note.ensures.added ∙ ap (added (map note_seen l.notes.items)) c.turn_guest-step.ensures.notes) (c.add_word.ensures.added ∙ ap (added l.told.items) c.turn_guest-step.ensures.words)
     (c.answer_exit.ensures.answered answered) c.turn_guest-step.ensures.kept c.turns_in_pieces.ensures l.lines.now l.guest l.run c.requires.lines c.requires.acts l.inside c.answer_exit.ensures.seen in
     let made : ℕ = length (notes_by (step_answer c.args.guest.tdr (length c.replies.result.now + 1) s) c.turn_guest-step.result.turn.act) in
     let room = done.room made (notes-few c.args.guest.tdr (length c.replies.result.now + 1) s c.turn_guest-step.result.turn.act) (no-notes c.args.guest.tdr (length c.replies.result.now + 1) s c.turn_guest-step.result.turn.act) (notes-none c.args.guest.tdr (length c.replies.result.now + 1) s c.turn_guest-step.result.turn.act) in
@@ -83,9 +85,9 @@ invariant_of-self-clause-word_room g c =
     let l = c.args.self.now in
     let at = ap (λ (rs : List Reply). length rs + 1) c.replies.ensures in
     let s = step_seen c.turn_guest-step.result.step in
-    let steps : StepsAt l.place (secrets_in l.secrets.now) l.codes.now l.replies.items l.told.items (map note_seen l.notes.items) l.cached l.bundles.made (g.B.Bench.did c.args.bench.now) c.turn_guest-step.new.bench c.turn_guest-step.new.kept c.turn_guest-step.result.turn c.turn_guest-step.new.cached s c.args.guest c.turn_guest-step.result.guest l.step_run (length c.replies.result.now + 1) = record { counts = c.turn_guest-step.ensures.counts; low = c.turn_guest-step.ensures.within; is = sym (c.turn_guest-step.ensures.step None); turned = c.turn_guest-step.ensures.turned; cached = c.turn_guest-step.ensures.cached; next = c.turn_guest-step.ensures.next } in
+    let steps : StepsAt l.place (given_in l.given) l.codes.now l.replies.items l.told.items (map note_seen l.notes.items) l.cached l.bundles.made (g.B.Bench.did c.args.bench.now) c.turn_guest-step.new.bench c.turn_guest-step.new.kept c.turn_guest-step.result.turn c.turn_guest-step.new.cached s c.args.guest c.turn_guest-step.result.guest l.step_run (length c.replies.result.now + 1) = record { counts = c.turn_guest-step.ensures.counts; low = c.turn_guest-step.ensures.within; is = sym (c.turn_guest-step.ensures.step None); turned = c.turn_guest-step.ensures.turned; cached = c.turn_guest-step.ensures.cached; next = c.turn_guest-step.ensures.next } in
     let answered = answered-of l.place.machine l.codes.now l.cached (length l.replies.items + 1) l.guest l.run c.args.guest l.step_run c.requires.acts l.inside in
-    let done = guest-steps l.place (secrets_in l.secrets.now) l.codes.now l.replies.items l.told.items (map note_seen l.notes.items) l.cached l.bundles.made (g.B.Bench.did c.args.bench.now) c.turn_guest-step.new.bench c.turn_guest-step.new.kept c.turn_guest-step.result.turn c.turn_guest-step.new.cached s c.args.guest c.turn_guest-step.result.guest l.step_run c.answer_exit.new.kept (map note_seen c.add_note.new.notes.items) c.add_word.new.told.items (length c.replies.result.now + 1) at steps (c.add_note.ensures.added ∙ ap (added (map note_seen l.notes.items)) c.turn_guest-step.ensures.notes) (c.add_word.ensures.added ∙ ap (added l.told.items) c.turn_guest-step.ensures.words)
+    let done = guest-steps l.place (given_in l.given) l.codes.now l.replies.items l.told.items (map note_seen l.notes.items) l.cached l.bundles.made (g.B.Bench.did c.args.bench.now) c.turn_guest-step.new.bench c.turn_guest-step.new.kept c.turn_guest-step.result.turn c.turn_guest-step.new.cached s c.args.guest c.turn_guest-step.result.guest l.step_run c.answer_exit.new.kept (map note_seen c.add_note.new.notes.items) c.add_word.new.told.items (length c.replies.result.now + 1) at steps (c.add_note.ensures.added ∙ ap (added (map note_seen l.notes.items)) c.turn_guest-step.ensures.notes) (c.add_word.ensures.added ∙ ap (added l.told.items) c.turn_guest-step.ensures.words)
     (c.answer_exit.ensures.answered answered) c.turn_guest-step.ensures.kept c.turns_in_pieces.ensures l.lines.now l.guest l.run c.requires.lines c.requires.acts l.inside c.answer_exit.ensures.seen in
     let made : ℕ = length (tells_by (step_answer c.args.guest.tdr (length c.replies.result.now + 1) s) c.turn_guest-step.result.turn.act) in
     let room = done.room made (tells-few c.args.guest.tdr (length c.replies.result.now + 1) s c.turn_guest-step.result.turn.act) (no-tells c.args.guest.tdr (length c.replies.result.now + 1) s c.turn_guest-step.result.turn.act) (tells-none c.args.guest.tdr (length c.replies.result.now + 1) s c.turn_guest-step.result.turn.act) in
@@ -100,9 +102,9 @@ returns-clause-moved g c =
     let l = c.args.self.now in
     let at = ap (λ (rs : List Reply). length rs + 1) c.replies.ensures in
     let s = step_seen c.turn_guest-step.result.step in
-    let steps : StepsAt l.place (secrets_in l.secrets.now) l.codes.now l.replies.items l.told.items (map note_seen l.notes.items) l.cached l.bundles.made (g.B.Bench.did c.args.bench.now) c.turn_guest-step.new.bench c.turn_guest-step.new.kept c.turn_guest-step.result.turn c.turn_guest-step.new.cached s c.args.guest c.turn_guest-step.result.guest l.step_run (length c.replies.result.now + 1) = record { counts = c.turn_guest-step.ensures.counts; low = c.turn_guest-step.ensures.within; is = sym (c.turn_guest-step.ensures.step None); turned = c.turn_guest-step.ensures.turned; cached = c.turn_guest-step.ensures.cached; next = c.turn_guest-step.ensures.next } in
+    let steps : StepsAt l.place (given_in l.given) l.codes.now l.replies.items l.told.items (map note_seen l.notes.items) l.cached l.bundles.made (g.B.Bench.did c.args.bench.now) c.turn_guest-step.new.bench c.turn_guest-step.new.kept c.turn_guest-step.result.turn c.turn_guest-step.new.cached s c.args.guest c.turn_guest-step.result.guest l.step_run (length c.replies.result.now + 1) = record { counts = c.turn_guest-step.ensures.counts; low = c.turn_guest-step.ensures.within; is = sym (c.turn_guest-step.ensures.step None); turned = c.turn_guest-step.ensures.turned; cached = c.turn_guest-step.ensures.cached; next = c.turn_guest-step.ensures.next } in
     let answered = answered-of l.place.machine l.codes.now l.cached (length l.replies.items + 1) l.guest l.run c.args.guest l.step_run c.requires.acts l.inside in
-    let done = guest-steps l.place (secrets_in l.secrets.now) l.codes.now l.replies.items l.told.items (map note_seen l.notes.items) l.cached l.bundles.made (g.B.Bench.did c.args.bench.now) c.turn_guest-step.new.bench c.turn_guest-step.new.kept c.turn_guest-step.result.turn c.turn_guest-step.new.cached s c.args.guest c.turn_guest-step.result.guest l.step_run c.answer_exit.new.kept (map note_seen c.add_note.new.notes.items) c.add_word.new.told.items (length c.replies.result.now + 1) at steps (c.add_note.ensures.added ∙ ap (added (map note_seen l.notes.items)) c.turn_guest-step.ensures.notes) (c.add_word.ensures.added ∙ ap (added l.told.items) c.turn_guest-step.ensures.words)
+    let done = guest-steps l.place (given_in l.given) l.codes.now l.replies.items l.told.items (map note_seen l.notes.items) l.cached l.bundles.made (g.B.Bench.did c.args.bench.now) c.turn_guest-step.new.bench c.turn_guest-step.new.kept c.turn_guest-step.result.turn c.turn_guest-step.new.cached s c.args.guest c.turn_guest-step.result.guest l.step_run c.answer_exit.new.kept (map note_seen c.add_note.new.notes.items) c.add_word.new.told.items (length c.replies.result.now + 1) at steps (c.add_note.ensures.added ∙ ap (added (map note_seen l.notes.items)) c.turn_guest-step.ensures.notes) (c.add_word.ensures.added ∙ ap (added l.told.items) c.turn_guest-step.ensures.words)
     (c.answer_exit.ensures.answered answered) c.turn_guest-step.ensures.kept c.turns_in_pieces.ensures l.lines.now l.guest l.run c.requires.lines c.requires.acts l.inside c.answer_exit.ensures.seen in
     ((done.moved.pieces, done.moved.did_them, (refl, refl, refl, done.moved.turn)), done.moved.fewer)
 

@@ -1,0 +1,5 @@
+pub mod Ending
+pub mod Tries
+pub mod Calls
+pub mod NoBundles
+pub mod PageRooms
