@@ -1,15 +1,13 @@
 -- Five words behind the first tell what a line says: no line that counts its words has more than four there.
-use Rattle.std.proofs.Common.{◌≡◌, ℕ, ◌≤◌, List, [], ◌∷◌, length, map, take, Bool, true, false, cond, leb, ◌==◌, ◌&&◌, Option, Some, None, Result, Err, refl, sym, ◌∙◌, arith}
+use Rattle.std.proofs.Common.{◌≡◌, ℕ, ◌≤◌, List, [], ◌∷◌, length, map, take, Bool, true, false, cond, leb, ◌==◌, ◌&&◌, Option, Some, None, Err, refl, sym, ◌∙◌, arith}
 use Rattle.std.specs.List.{list_all}
 use Rattle.std.specs.Str.{bytes_eq}
 use Rattle.std.proofs.lemmas.Bool.{and_parts}
 use Rattle.td_words.specs.declared.machines.Machine.{Machine}
 use Rattle.line_words.specs.declared.mnemonics.CallName.{CallName}
-use Rattle.line_words.specs.declared.mnemonics.CallName.TheVariants as name
 use Rattle.line_words.specs.declared.mnemonics.Mnemonic.{Mnemonic}
 use Rattle.line_words.specs.Mnemonics.{mnemonics, mnemonic_in}
 use Rattle.line_words.specs.Number.{number}
-use Rattle.script_text.specs.declared.faults.Reason.{Reason}
 use Rattle.script_text.specs.declared.faults.Reason.TheVariants as reason
 use Rattle.script_text.specs.declared.lines.Block.{Block}
 use Rattle.script_text.specs.declared.lines.Block.TheVariants as block
@@ -21,7 +19,7 @@ use Rattle.script_text.specs.declared.operations.OpName.{OpName}
 use Rattle.script_text.specs.declared.operations.OpName.TheVariants as op
 use Rattle.script_text.specs.Blocks.{code_of, operation_of, operand_count, operands_of}
 use Rattle.script_text.specs.Counted.{counted_of}
-use Rattle.script_text.specs.Line.{machine_of, block_of, end_of, built_of, judged_of, call_of, first_of, list_of, operation_line_of, outside_of, named_of, inside_of, placed_of, entry_of, keyword_of}
+use Rattle.script_text.specs.Line.{machine_of, block_of, end_of, named_entry, judged_of, call_of, first_of, list_of, operation_line_of, outside_of, named_of, inside_of, placed_of, entry_of, keyword_of}
 
 -- five numbers and more are too many wherever at most four are counted
 miscounted : (n : ℕ) (ns : List (Option ℕ)) → n ≤ 4 → 5 ≤ length ns → counted_of n ns ≡ Err reason.Count
@@ -72,21 +70,11 @@ unfolding operation_line_of
 operation_alike None ns ms h k = refl
 operation_alike (Some o) ns ms h k = rw (operands_miscounted o ns (has_two o) h, operands_miscounted o ms (has_two o) k) refl
 
--- what is left to say of a call whose arguments are too many
-abbrev too_many : Option Entry → Result Entry Reason
-too_many None = Err reason.Unbuilt
-too_many (Some e) = Err reason.Count
-
-judged_too_many : (e : Option Entry) (m : Mnemonic) (ns : List (Option ℕ)) → leb m.most 4 ≡ true → 5 ≤ length ns → judged_of e m ns ≡ too_many e
-judged_too_many None m ns few h = refl
-judged_too_many (Some e) m ns few h =
+-- too many arguments are COUNT, whatever the call
+judged_too_many : (e : Entry) (m : Mnemonic) (ns : List (Option ℕ)) → leb m.most 4 ≡ true → 5 ≤ length ns → judged_of e m ns ≡ Err reason.Count
+judged_too_many e m ns few h =
     let over : (leb m.least (length ns) && leb (length ns) m.most) ≡ false = grind (arith, few) in
     rw over refl
-
-built_alike : (lp : ℕ) (call : CallName) (ns ms : List (Option ℕ)) → 5 ≤ length ns → 5 ≤ length ms → too_many (built_of lp call ns) ≡ too_many (built_of lp call ms)
-built_alike lp name.ExportAbort ns ms h k =
-    let n : (length ns == 2) ≡ false = grind arith in let m : (length ms == 2) ≡ false = grind arith in rw (n, m) refl
-built_alike lp _ ns ms h k = refl
 
 -- what a line says that has five words and more behind its first doesn't hang on which they are
 
@@ -94,7 +82,7 @@ call_alike : (lp : ℕ) (row : Option Mnemonic) (ns ms : List (Option ℕ)) → 
 unfolding call_of
 call_alike lp None ns ms few h k = refl
 call_alike lp (Some m) ns ms few h k =
-    judged_too_many (built_of lp m.call ns) m ns few h ∙ built_alike lp m.call ns ms h k ∙ sym (judged_too_many (built_of lp m.call ms) m ms few k)
+    judged_too_many (named_entry lp m.call ns) m ns few h ∙ sym (judged_too_many (named_entry lp m.call ms) m ms few k)
 
 first_alike : (word : Option Keyword) (ns ms : List (Option ℕ)) → 5 ≤ length ns → 5 ≤ length ms → first_of word ns ≡ first_of word ms
 first_alike (Some keyword.Machine) ns ms h k = machine_miscounted ns h ∙ sym (machine_miscounted ms k)

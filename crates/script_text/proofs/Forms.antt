@@ -35,7 +35,7 @@ use Rattle.script_text.specs.declared.operations.OpName.TheVariants as op
 use Rattle.script_text.specs.declared.schedules.Item.{Item}
 use Rattle.script_text.specs.declared.schedules.Turns.{Turns}
 use Rattle.script_text.specs.Counted.{◌>>=◌, counted_of, number_at, argument}
-use Rattle.script_text.specs.Line.{machine_of, block_of, end_of, abort_of, built_of, are_given, ranged_of, judged_of, call_of, first_of, list_of, operation_line_of, outside_of, named_of, inside_of, placed_of, entry_of, keyword_of}
+use Rattle.script_text.specs.Line.{machine_of, block_of, end_of, abort_of, named_entry, are_given, ranged_of, judged_of, call_of, first_of, list_of, operation_line_of, outside_of, named_of, inside_of, placed_of, entry_of, keyword_of}
 use Rattle.script_text.specs.Blocks.{field_of, slot_place_of, slot_at, fits_slot, with_slot, none_named, code_of, list_place, none_listed, operation_of, operand_count, fit_operands, operands_of, guest_op_of}
 use Rattle.script_text.specs.Schedule.{item_of, in_range_of, turns_in, with_turns, written_of, schedule_of}
 use Rattle.script_text.specs.Reading.{SoFar, nothing_yet, with_call, with_op, closed_of, entered_of, worded_of, line_of, script_of, ended_of, then_on, read_from, read_of}
@@ -254,58 +254,60 @@ within_fits n h = omega (arith, h)
 slot_fits : (ns : List (Option ℕ)) → All FitsNumber ns → All fits (argument ns 0 ∷ slot_at ns 1 ∷ [])
 slot_fits ns h = All-push fits (argument ns 0 ∷ []) (slot_at ns 1) (one_fits ns h) (within_fits (slot_at ns 1) (slot_within ns 1))
 
-abbrev IfBuilt : Machine → List Bool → Option Entry → Type 0
-IfBuilt m listed (Some e) = FitsEntry (Some m) listed e
-IfBuilt m listed None = Unit {0}
-
-abort_fits : (m : Machine) (listed : List Bool) (lp : ℕ) (with_slot : Bool) (ns : List (Option ℕ)) → All FitsNumber ns → IfBuilt m listed (abort_of lp with_slot (argument ns 0))
-abort_fits m listed lp true ns h = tt
+abort_fits : (m : Machine) (listed : List Bool) (lp : ℕ) (with_slot : Bool) (ns : List (Option ℕ)) → All FitsNumber ns → FitsEntry (Some m) listed (abort_of lp with_slot (argument ns 0) (argument ns 1))
+abort_fits m listed lp true ns h = (two_fit ns h, tt)
 abort_fits m listed lp false ns h = (one_fits ns h, tt)
 
-built_fits : (m : Machine) (listed : List Bool) (lp : ℕ) (n : CallName) (ns : List (Option ℕ)) → All FitsNumber ns → IfBuilt m listed (built_of lp n ns)
-built_fits m listed lp name.HostRead ns h = (two_fit ns h, tt)
-built_fits m listed lp name.HostWrite ns h = (three_fit ns h, tt)
-built_fits m listed lp name.PhymemPageRdmd ns h = (one_fits ns h, tt)
-built_fits m listed lp name.PhymemCacheWb ns h = (All-nil fits, tt)
-built_fits m listed lp name.PhymemPageReclaim ns h = (two_fit ns h, tt)
-built_fits m listed lp name.MngCreate ns h = (two_fit ns h, tt)
-built_fits m listed lp name.MngKeyConfig ns h = (one_fits ns h, tt)
-built_fits m listed lp name.MngAddcx ns h = (two_fit ns h, tt)
-built_fits m listed lp name.MngInit ns h = (one_fits ns h, tt)
-built_fits m listed lp name.MngRd ns h = argument_fits ns 0 h
-built_fits m listed lp name.MngVpflushdone ns h = (one_fits ns h, tt)
-built_fits m listed lp name.MngKeyFreeid ns h = (one_fits ns h, tt)
-built_fits m listed lp name.MrExtend ns h = (two_fit ns h, tt)
-built_fits m listed lp name.MrFinalize ns h = (one_fits ns h, tt)
-built_fits m listed lp name.VpCreate ns h = (two_fit ns h, tt)
-built_fits m listed lp name.VpInit ns h = (three_fit ns h, tt)
-built_fits m listed lp name.VpEnter ns h = (three_fit ns h, tt)
-built_fits m listed lp name.VpFlush ns h = (two_fit ns h, tt)
-built_fits m listed lp name.MemSeptAdd ns h = (four_fit ns h, tt)
-built_fits m listed lp name.MemSeptRd ns h = (three_fit ns h, tt)
-built_fits m listed lp name.MemSeptRemove ns h = (three_fit ns h, tt)
-built_fits m listed lp name.MemPageAdd ns h = (four_fit ns h, tt)
-built_fits m listed lp name.MemPageAug ns h = (three_fit ns h, tt)
-built_fits m listed lp name.MemPageRemove ns h = (two_fit ns h, tt)
-built_fits m listed lp name.MemRangeBlock ns h = (three_fit ns h, tt)
-built_fits m listed lp name.MemRangeUnblock ns h = (three_fit ns h, tt)
-built_fits m listed lp name.MemTrack ns h = (one_fits ns h, tt)
-built_fits m listed lp name.MigStreamCreate ns h = (two_fit ns h, tt)
-built_fits m listed lp name.ExportBlockw ns h = (two_fit ns h, tt)
-built_fits m listed lp name.ExportUnblockw ns h = (two_fit ns h, tt)
-built_fits m listed lp name.ExportPause ns h = (one_fits ns h, tt)
-built_fits m listed lp name.ExportAbort ns h = abort_fits m listed lp (length ns == 2) ns h
-built_fits m listed lp name.ExportRestore ns h = (two_fit ns h, tt)
-built_fits m listed lp name.ExportStateImmutable ns h = (slot_fits ns h, slot_within ns 1)
-built_fits m listed lp name.ExportMem ns h = (All-push fits (argument ns 0 ∷ argument ns 1 ∷ argument ns 2 ∷ []) (slot_at ns 3) (three_fit ns h) (within_fits (slot_at ns 3) (slot_within ns 3)), slot_within ns 3)
-built_fits m listed lp name.ExportTrack ns h = (All-push fits (argument ns 0 ∷ slot_at ns 1 ∷ []) (argument ns 2) (slot_fits ns h) (argument_fits ns 2 h), slot_within ns 1)
-built_fits m listed lp name.ExportStateTd ns h = (slot_fits ns h, slot_within ns 1)
-built_fits m listed lp name.ExportStateVp ns h = (All-push fits (argument ns 0 ∷ argument ns 1 ∷ []) (slot_at ns 2) (two_fit ns h) (within_fits (slot_at ns 2) (slot_within ns 2)), slot_within ns 2)
-built_fits m listed lp _ ns h = tt
+named_entry_fits : (m : Machine) (listed : List Bool) (lp : ℕ) (n : CallName) (ns : List (Option ℕ)) → All FitsNumber ns → FitsEntry (Some m) listed (named_entry lp n ns)
+named_entry_fits m listed lp name.HostRead ns h = (two_fit ns h, tt)
+named_entry_fits m listed lp name.HostWrite ns h = (three_fit ns h, tt)
+named_entry_fits m listed lp name.PhymemPageRdmd ns h = (one_fits ns h, tt)
+named_entry_fits m listed lp name.PhymemCacheWb ns h = (All-nil fits, tt)
+named_entry_fits m listed lp name.PhymemPageReclaim ns h = (two_fit ns h, tt)
+named_entry_fits m listed lp name.MngCreate ns h = (two_fit ns h, tt)
+named_entry_fits m listed lp name.MngKeyConfig ns h = (one_fits ns h, tt)
+named_entry_fits m listed lp name.MngAddcx ns h = (two_fit ns h, tt)
+named_entry_fits m listed lp name.MngInit ns h = (one_fits ns h, tt)
+named_entry_fits m listed lp name.MngRd ns h = argument_fits ns 0 h
+named_entry_fits m listed lp name.MngVpflushdone ns h = (one_fits ns h, tt)
+named_entry_fits m listed lp name.MngKeyFreeid ns h = (one_fits ns h, tt)
+named_entry_fits m listed lp name.MrExtend ns h = (two_fit ns h, tt)
+named_entry_fits m listed lp name.MrFinalize ns h = (one_fits ns h, tt)
+named_entry_fits m listed lp name.VpCreate ns h = (two_fit ns h, tt)
+named_entry_fits m listed lp name.VpInit ns h = (three_fit ns h, tt)
+named_entry_fits m listed lp name.VpEnter ns h = (three_fit ns h, tt)
+named_entry_fits m listed lp name.VpFlush ns h = (two_fit ns h, tt)
+named_entry_fits m listed lp name.MemSeptAdd ns h = (four_fit ns h, tt)
+named_entry_fits m listed lp name.MemSeptRd ns h = (three_fit ns h, tt)
+named_entry_fits m listed lp name.MemSeptRemove ns h = (three_fit ns h, tt)
+named_entry_fits m listed lp name.MemPageAdd ns h = (four_fit ns h, tt)
+named_entry_fits m listed lp name.MemPageAug ns h = (three_fit ns h, tt)
+named_entry_fits m listed lp name.MemPageRemove ns h = (two_fit ns h, tt)
+named_entry_fits m listed lp name.MemRangeBlock ns h = (three_fit ns h, tt)
+named_entry_fits m listed lp name.MemRangeUnblock ns h = (three_fit ns h, tt)
+named_entry_fits m listed lp name.MemTrack ns h = (one_fits ns h, tt)
+named_entry_fits m listed lp name.MigStreamCreate ns h = (two_fit ns h, tt)
+named_entry_fits m listed lp name.ExportBlockw ns h = (two_fit ns h, tt)
+named_entry_fits m listed lp name.ExportUnblockw ns h = (two_fit ns h, tt)
+named_entry_fits m listed lp name.ExportPause ns h = (one_fits ns h, tt)
+named_entry_fits m listed lp name.ExportAbort ns h = abort_fits m listed lp (length ns == 2) ns h
+named_entry_fits m listed lp name.ExportRestore ns h = (two_fit ns h, tt)
+named_entry_fits m listed lp name.ExportStateImmutable ns h = (slot_fits ns h, slot_within ns 1)
+named_entry_fits m listed lp name.ExportMem ns h = (All-push fits (argument ns 0 ∷ argument ns 1 ∷ argument ns 2 ∷ []) (slot_at ns 3) (three_fit ns h) (within_fits (slot_at ns 3) (slot_within ns 3)), slot_within ns 3)
+named_entry_fits m listed lp name.ExportTrack ns h = (All-push fits (argument ns 0 ∷ slot_at ns 1 ∷ []) (argument ns 2) (slot_fits ns h) (argument_fits ns 2 h), slot_within ns 1)
+named_entry_fits m listed lp name.ExportStateTd ns h = (slot_fits ns h, slot_within ns 1)
+named_entry_fits m listed lp name.ExportStateVp ns h = (All-push fits (argument ns 0 ∷ argument ns 1 ∷ []) (slot_at ns 2) (two_fit ns h) (within_fits (slot_at ns 2) (slot_within ns 2)), slot_within ns 2)
+named_entry_fits m listed lp name.ImportStateImmutable ns h = (two_fit ns h, tt)
+named_entry_fits m listed lp name.ImportMem ns h = (three_fit ns h, tt)
+named_entry_fits m listed lp name.ImportTrack ns h = (two_fit ns h, tt)
+named_entry_fits m listed lp name.ImportStateTd ns h = (two_fit ns h, tt)
+named_entry_fits m listed lp name.ImportStateVp ns h = (three_fit ns h, tt)
+named_entry_fits m listed lp name.ImportCommit ns h = (one_fits ns h, tt)
+named_entry_fits m listed lp name.ImportEnd ns h = (one_fits ns h, tt)
+named_entry_fits m listed lp name.ImportAbort ns h = (slot_fits ns h, slot_within ns 1)
 
-judged_fits : (m : Machine) (listed : List Bool) (e : Option Entry) (row : Mnemonic) (ns : List (Option ℕ)) → IfBuilt m listed e → IfGiven (FitsEntry (Some m) listed) (judged_of e row ns)
-judged_fits m listed None row ns h = tt
-judged_fits m listed (Some e) row ns h =
+judged_fits : (m : Machine) (listed : List Bool) (e : Entry) (row : Mnemonic) (ns : List (Option ℕ)) → FitsEntry (Some m) listed e → IfGiven (FitsEntry (Some m) listed) (judged_of e row ns)
+judged_fits m listed e row ns h =
     given_if (FitsEntry (Some m) listed) (not (leb row.least (length ns) && leb (length ns) row.most)) _ reason.Count _ refl
     (λ c. given_if (FitsEntry (Some m) listed) (not (are_given row.call ns)) _ reason.Number (ranged_of e row.call ns) refl
     (λ g. given_if (FitsEntry (Some m) listed) (not (fits_slot (slot_place_of row.call) ns)) _ reason.Range (Ok e) refl (λ r. h)))
@@ -313,7 +315,7 @@ judged_fits m listed (Some e) row ns h =
 call_fits : (m : Machine) (listed : List Bool) (lp : ℕ) (row : Option Mnemonic) (ns : List (Option ℕ)) → All FitsNumber ns → IfGiven (FitsEntry (Some m) listed) (call_of lp row ns)
 unfolding call_of
 call_fits m listed lp None ns h = tt
-call_fits m listed lp (Some row) ns h = judged_fits m listed (built_of lp row.call ns) row ns (built_fits m listed lp row.call ns h)
+call_fits m listed lp (Some row) ns h = judged_fits m listed (named_entry lp row.call ns) row ns (named_entry_fits m listed lp row.call ns h)
 
 outside_fits : (m : Machine) (had listed : List Bool) (k : Option Keyword) (ns : List (Option ℕ)) → IfGiven (FitsEntry (Some m) listed) (outside_of m had listed k ns)
 outside_fits m had listed (Some keyword.Machine) ns = tt

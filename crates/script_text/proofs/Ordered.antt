@@ -34,16 +34,16 @@ use Rattle.script_text.specs.declared.operations.OpName.{OpName}
 use Rattle.script_text.specs.declared.schedules.Turns.{Turns}
 use Rattle.script_text.specs.Blocks.{field_of, slot_place_of, slot_at, fits_slot, with_slot, code_of, operation_of, operand_count, fit_operands, operands_of, guest_op_of}
 use Rattle.script_text.specs.Counted.{◌>>=◌, argument}
-use Rattle.script_text.specs.Line.{keyword_of, machine_of, block_of, end_of, abort_of, built_of, are_given, ranged_of, judged_of, call_of, first_of, list_of, operation_line_of, outside_of, named_of, inside_of, placed_of, entry_of}
+use Rattle.script_text.specs.Line.{keyword_of, machine_of, block_of, end_of, abort_of, named_entry, are_given, ranged_of, judged_of, call_of, first_of, list_of, operation_line_of, outside_of, named_of, inside_of, placed_of, entry_of}
 use Rattle.script_text.specs.Reading.{SoFar, entered_of, worded_of, line_of, script_of, ended_of}
-use Rattle.script_text.specs.Reasons.{fault_in, line_reasons, end_reasons, times_of, turns_count, names_no_field, is_built, number_of, is_named, FirstWord, call_word, operation_word, word_in, machine_holds, holds_of, holds_in, holds_at, holds_at_end}
+use Rattle.script_text.specs.Reasons.{fault_in, line_reasons, end_reasons, times_of, turns_count, names_no_field, number_of, is_named, FirstWord, call_word, operation_word, word_in, machine_holds, holds_of, holds_in, holds_at, holds_at_end}
 use Rattle.script_text.specs.Reasons.FirstWord.{Key}
 use Rattle.script_text.specs.Schedule.{item_of, turns_in, written_of, schedule_of}
 use Rattle.script_text.specs.Laws.{ReasonsInOrder}
 
 -- all reasons but BYTE
 abbrev behind_byte : List Reason
-behind_byte = reason.Machine ∷ reason.Place ∷ reason.Word ∷ reason.Unbuilt ∷ reason.Count ∷ reason.Number ∷ reason.Name ∷ reason.Range ∷ reason.Repeated ∷ reason.Full ∷ reason.Slot ∷ []
+behind_byte = reason.Machine ∷ reason.Place ∷ reason.Word ∷ reason.Count ∷ reason.Number ∷ reason.Name ∷ reason.Range ∷ reason.Repeated ∷ reason.Full ∷ reason.Slot ∷ []
 
 -- one test after the other
 fault_if : {A : Type 0} (b : Bool) (r : Reason) (x : Result A Reason) (y : Option Reason) → fault_in x ≡ y → fault_in (cond b (Err r) x) ≡ cond b (Some r) y
@@ -195,7 +195,7 @@ schedule_order m d (w ∷ ws) =
 -- calls
 
 counted_call : (e : Entry) (m : Mnemonic) (ns : List (Option ℕ)) (f : Entry → Result SoFar Reason) (y : Option Reason) → fault_in (ranged_of e m.call ns >>= f) ≡ y
-    → fault_in (judged_of (Some e) m ns >>= f) ≡ cond (not (leb m.least (length ns) && leb (length ns) m.most)) (Some reason.Count) (cond (not (are_given m.call ns)) (Some reason.Number) y)
+    → fault_in (judged_of e m ns >>= f) ≡ cond (not (leb m.least (length ns) && leb (length ns) m.most)) (Some reason.Count) (cond (not (are_given m.call ns)) (Some reason.Number) y)
 counted_call e m ns f y h =
     fault_then (not (leb m.least (length ns) && leb (length ns) m.most)) reason.Count (cond (not (are_given m.call ns)) (Err reason.Number) (ranged_of e m.call ns)) f _
     (λ a. fault_then (not (are_given m.call ns)) reason.Number (ranged_of e m.call ns) f y (λ b. h))
@@ -269,68 +269,68 @@ call_ends call d lp ws =
     (cond (not (fits_slot (slot_place_of call) (map number ws))) (Some reason.Range)
     (cond (crowded d.calls lp) (Some reason.Full) (cond (is_named d.named (slot_place_of call) ws) (Some reason.Slot) None)))
 
-abbrev EntryEnds : Machine → ℕ → SoFar → List (List ℕ) → CallName → Option Entry → Type 0
-EntryEnds m lp d ws call None = is_built call ws ≡ false
-EntryEnds m lp d ws call (Some e) = (is_built call ws ≡ true) × (fault_in (ranged_of e call (map number ws) >>= (λ x. entered_of (state (Some m) (Some (block.Lp lp)) d) x ws)) ≡ call_ends call d lp ws)
+abbrev EntryEnds : Machine → ℕ → SoFar → List (List ℕ) → CallName → Entry → Type 0
+EntryEnds m lp d ws call e = fault_in (ranged_of e call (map number ws) >>= (λ x. entered_of (state (Some m) (Some (block.Lp lp)) d) x ws)) ≡ call_ends call d lp ws
 
-abort_ends : (m : Machine) (lp : ℕ) (d : SoFar) (ws : List (List ℕ)) (with_slot : Bool) (tdr : ℕ) → (length (map number ws) == 2) ≡ with_slot → EntryEnds m lp d ws name.ExportAbort (abort_of lp with_slot tdr)
-abort_ends m lp d ws true tdr e = rw e refl
-abort_ends m lp d ws false tdr e = (rw e refl, call_full m lp d _ ws)
+abort_ends : (m : Machine) (lp : ℕ) (d : SoFar) (ws : List (List ℕ)) (with_slot : Bool) (tdr slot : ℕ) → EntryEnds m lp d ws name.ExportAbort (abort_of lp with_slot tdr slot)
+abort_ends m lp d ws true tdr slot = call_full m lp d _ ws
+abort_ends m lp d ws false tdr slot = call_full m lp d _ ws
 
-entry_ends : (m : Machine) (lp : ℕ) (d : SoFar) (ws : List (List ℕ)) (call : CallName) → EntryEnds m lp d ws call (built_of lp call (map number ws))
-entry_ends m lp d ws name.HostRead = (refl, call_full m lp d _ ws)
-entry_ends m lp d ws name.HostWrite = (refl, call_full m lp d _ ws)
-entry_ends m lp d ws name.PhymemPageRdmd = (refl, call_full m lp d _ ws)
-entry_ends m lp d ws name.PhymemCacheWb = (refl, call_full m lp d _ ws)
-entry_ends m lp d ws name.PhymemPageReclaim = (refl, call_full m lp d _ ws)
-entry_ends m lp d ws name.MngCreate = (refl, call_full m lp d _ ws)
-entry_ends m lp d ws name.MngKeyConfig = (refl, call_full m lp d _ ws)
-entry_ends m lp d ws name.MngAddcx = (refl, call_full m lp d _ ws)
-entry_ends m lp d ws name.MngInit = (refl, call_full m lp d _ ws)
-entry_ends m lp d ws name.MngRd = (refl, read_full m lp _ d ws)
-entry_ends m lp d ws name.MngVpflushdone = (refl, call_full m lp d _ ws)
-entry_ends m lp d ws name.MngKeyFreeid = (refl, call_full m lp d _ ws)
-entry_ends m lp d ws name.MrExtend = (refl, call_full m lp d _ ws)
-entry_ends m lp d ws name.MrFinalize = (refl, call_full m lp d _ ws)
-entry_ends m lp d ws name.VpCreate = (refl, call_full m lp d _ ws)
-entry_ends m lp d ws name.VpInit = (refl, call_full m lp d _ ws)
-entry_ends m lp d ws name.VpEnter = (refl, call_full m lp d _ ws)
-entry_ends m lp d ws name.VpFlush = (refl, call_full m lp d _ ws)
-entry_ends m lp d ws name.MemSeptAdd = (refl, call_full m lp d _ ws)
-entry_ends m lp d ws name.MemSeptRd = (refl, call_full m lp d _ ws)
-entry_ends m lp d ws name.MemSeptRemove = (refl, call_full m lp d _ ws)
-entry_ends m lp d ws name.MemPageAdd = (refl, call_full m lp d _ ws)
-entry_ends m lp d ws name.MemPageAug = (refl, call_full m lp d _ ws)
-entry_ends m lp d ws name.MemPageRemove = (refl, call_full m lp d _ ws)
-entry_ends m lp d ws name.MemRangeBlock = (refl, call_full m lp d _ ws)
-entry_ends m lp d ws name.MemRangeUnblock = (refl, call_full m lp d _ ws)
-entry_ends m lp d ws name.MemTrack = (refl, call_full m lp d _ ws)
-entry_ends m lp d ws name.MigStreamCreate = (refl, call_full m lp d _ ws)
-entry_ends m lp d ws name.ExportBlockw = (refl, call_full m lp d _ ws)
-entry_ends m lp d ws name.ExportUnblockw = (refl, call_full m lp d _ ws)
-entry_ends m lp d ws name.ExportPause = (refl, call_full m lp d _ ws)
-entry_ends m lp d ws name.ExportAbort = abort_ends m lp d ws (length (map number ws) == 2) _ refl
-entry_ends m lp d ws name.ExportRestore = (refl, call_full m lp d _ ws)
-entry_ends m lp d ws name.ExportStateImmutable = (refl, slot_full m lp d (λ slot. calls.ExportStateImmutable (number_of ws 0) slot) 1 ws (λ slot. refl))
-entry_ends m lp d ws name.ExportMem = (refl, slot_full m lp d (λ slot. calls.ExportMem (number_of ws 0) (number_of ws 1) (number_of ws 2) slot) 3 ws (λ slot. refl))
-entry_ends m lp d ws name.ExportTrack = (refl, slot_full m lp d (λ slot. calls.ExportTrack (number_of ws 0) slot (number_of ws 2)) 1 ws (λ slot. refl))
-entry_ends m lp d ws name.ExportStateTd = (refl, slot_full m lp d (λ slot. calls.ExportStateTd (number_of ws 0) slot) 1 ws (λ slot. refl))
-entry_ends m lp d ws name.ExportStateVp = (refl, slot_full m lp d (λ slot. calls.ExportStateVp (number_of ws 0) (number_of ws 1) slot) 2 ws (λ slot. refl))
-entry_ends m lp d ws _ = refl
-
-judged_order : (m : Machine) (lp : ℕ) (d : SoFar) (ws : List (List ℕ)) (row : Mnemonic) (e : Option Entry) → EntryEnds m lp d ws row.call e
-    → fault_in (judged_of e row (map number ws) >>= (λ x. entered_of (state (Some m) (Some (block.Lp lp)) d) x ws))
-    ≡ cond (not (is_built row.call ws)) (Some reason.Unbuilt) (cond (not (leb row.least (length (map number ws)) && leb (length (map number ws)) row.most)) (Some reason.Count) (cond (not (are_given row.call (map number ws))) (Some reason.Number) (call_ends row.call d lp ws)))
-judged_order m lp d ws row None h = rw h refl
-judged_order m lp d ws row (Some e) h =
-    rw h.0 (counted_call e row (map number ws) (λ x. entered_of (state (Some m) (Some (block.Lp lp)) d) x ws) (call_ends row.call d lp ws) h.1)
+entry_ends : (m : Machine) (lp : ℕ) (d : SoFar) (ws : List (List ℕ)) (call : CallName) → EntryEnds m lp d ws call (named_entry lp call (map number ws))
+entry_ends m lp d ws name.HostRead = call_full m lp d _ ws
+entry_ends m lp d ws name.HostWrite = call_full m lp d _ ws
+entry_ends m lp d ws name.PhymemPageRdmd = call_full m lp d _ ws
+entry_ends m lp d ws name.PhymemCacheWb = call_full m lp d _ ws
+entry_ends m lp d ws name.PhymemPageReclaim = call_full m lp d _ ws
+entry_ends m lp d ws name.MngCreate = call_full m lp d _ ws
+entry_ends m lp d ws name.MngKeyConfig = call_full m lp d _ ws
+entry_ends m lp d ws name.MngAddcx = call_full m lp d _ ws
+entry_ends m lp d ws name.MngInit = call_full m lp d _ ws
+entry_ends m lp d ws name.MngRd = read_full m lp _ d ws
+entry_ends m lp d ws name.MngVpflushdone = call_full m lp d _ ws
+entry_ends m lp d ws name.MngKeyFreeid = call_full m lp d _ ws
+entry_ends m lp d ws name.MrExtend = call_full m lp d _ ws
+entry_ends m lp d ws name.MrFinalize = call_full m lp d _ ws
+entry_ends m lp d ws name.VpCreate = call_full m lp d _ ws
+entry_ends m lp d ws name.VpInit = call_full m lp d _ ws
+entry_ends m lp d ws name.VpEnter = call_full m lp d _ ws
+entry_ends m lp d ws name.VpFlush = call_full m lp d _ ws
+entry_ends m lp d ws name.MemSeptAdd = call_full m lp d _ ws
+entry_ends m lp d ws name.MemSeptRd = call_full m lp d _ ws
+entry_ends m lp d ws name.MemSeptRemove = call_full m lp d _ ws
+entry_ends m lp d ws name.MemPageAdd = call_full m lp d _ ws
+entry_ends m lp d ws name.MemPageAug = call_full m lp d _ ws
+entry_ends m lp d ws name.MemPageRemove = call_full m lp d _ ws
+entry_ends m lp d ws name.MemRangeBlock = call_full m lp d _ ws
+entry_ends m lp d ws name.MemRangeUnblock = call_full m lp d _ ws
+entry_ends m lp d ws name.MemTrack = call_full m lp d _ ws
+entry_ends m lp d ws name.MigStreamCreate = call_full m lp d _ ws
+entry_ends m lp d ws name.ExportBlockw = call_full m lp d _ ws
+entry_ends m lp d ws name.ExportUnblockw = call_full m lp d _ ws
+entry_ends m lp d ws name.ExportPause = call_full m lp d _ ws
+entry_ends m lp d ws name.ExportAbort = abort_ends m lp d ws (length (map number ws) == 2) _ _
+entry_ends m lp d ws name.ExportRestore = call_full m lp d _ ws
+entry_ends m lp d ws name.ExportStateImmutable = slot_full m lp d (λ slot. calls.ExportStateImmutable (number_of ws 0) slot) 1 ws (λ slot. refl)
+entry_ends m lp d ws name.ExportMem = slot_full m lp d (λ slot. calls.ExportMem (number_of ws 0) (number_of ws 1) (number_of ws 2) slot) 3 ws (λ slot. refl)
+entry_ends m lp d ws name.ExportTrack = slot_full m lp d (λ slot. calls.ExportTrack (number_of ws 0) slot (number_of ws 2)) 1 ws (λ slot. refl)
+entry_ends m lp d ws name.ExportStateTd = slot_full m lp d (λ slot. calls.ExportStateTd (number_of ws 0) slot) 1 ws (λ slot. refl)
+entry_ends m lp d ws name.ExportStateVp = slot_full m lp d (λ slot. calls.ExportStateVp (number_of ws 0) (number_of ws 1) slot) 2 ws (λ slot. refl)
+entry_ends m lp d ws name.ImportStateImmutable = call_full m lp d _ ws
+entry_ends m lp d ws name.ImportMem = call_full m lp d _ ws
+entry_ends m lp d ws name.ImportTrack = call_full m lp d _ ws
+entry_ends m lp d ws name.ImportStateTd = call_full m lp d _ ws
+entry_ends m lp d ws name.ImportStateVp = call_full m lp d _ ws
+entry_ends m lp d ws name.ImportCommit = call_full m lp d _ ws
+entry_ends m lp d ws name.ImportEnd = call_full m lp d _ ws
+entry_ends m lp d ws name.ImportAbort = slot_full m lp d (λ slot. calls.ImportAbort (number_of ws 0) slot) 1 ws (λ slot. refl)
 
 call_order : (m : Machine) (lp : ℕ) (d : SoFar) (row : Option Mnemonic) (ws : List (List ℕ))
     → fault_in (call_of lp row (map number ws) >>= (λ e. entered_of (state (Some m) (Some (block.Lp lp)) d) e ws)) ≡ find (holds_of (state (Some m) (Some (block.Lp lp)) d) (call_word row) ws) behind_byte
 unfolding call_of
 call_order m lp d None ws = refl
 call_order m lp d (Some row) ws =
-    judged_order m lp d ws row (built_of lp row.call (map number ws)) (entry_ends m lp d ws row.call) ∙ rw length-map refl
+    counted_call (named_entry lp row.call (map number ws)) row (map number ws) (λ e. entered_of (state (Some m) (Some (block.Lp lp)) d) e ws) (call_ends row.call d lp ws) (entry_ends m lp d ws row.call)
+    ∙ rw length-map refl
 
 -- `code`
 

@@ -161,6 +161,15 @@ call_entry s listed m lp (calls.ExportMem a b c slot) fit h k = rw (h, k, slot_i
 call_entry s listed m lp (calls.ExportTrack a slot b) fit h k = rw (h, k, slot_is slot fit) refl
 call_entry s listed m lp (calls.ExportStateTd a slot) fit h k = rw (h, k, slot_is slot fit) refl
 call_entry s listed m lp (calls.ExportStateVp a b slot) fit h k = rw (h, k, slot_is slot fit) refl
+call_entry s listed m lp (calls.ExportAbortByToken a b) fit h k = rw (h, k) refl
+call_entry s listed m lp (calls.ImportStateImmutable a b) fit h k = rw (h, k) refl
+call_entry s listed m lp (calls.ImportMem a b c) fit h k = rw (h, k) refl
+call_entry s listed m lp (calls.ImportTrack a b) fit h k = rw (h, k) refl
+call_entry s listed m lp (calls.ImportStateTd a b) fit h k = rw (h, k) refl
+call_entry s listed m lp (calls.ImportStateVp a b c) fit h k = rw (h, k) refl
+call_entry s listed m lp (calls.ImportCommit a) fit h k = rw (h, k) refl
+call_entry s listed m lp (calls.ImportEnd a) fit h k = rw (h, k) refl
+call_entry s listed m lp (calls.ImportAbort a slot) fit h k = rw (h, k, slot_is slot fit) refl
 
 field_again : (f : ReadField) → field_of (read_text f) ≡ Ok f
 field_again field.Life = refl

@@ -63,52 +63,59 @@ end_of numbers = do
   _ ← counted_of 0 numbers
   Ok entry.End
 
--- EXPORT.ABORT with a slot isn't built
-abbrev pub abort_of : ℕ → (with_slot : Bool) → (tdr : ℕ) → Option Entry
-abort_of lp true tdr = None
-abort_of lp false tdr = Some (entry.Call lp (calls.ExportAbort tdr))
+-- EXPORT.ABORT has a form with a slot and one without
+abbrev pub abort_of : ℕ → (with_slot : Bool) → (tdr slot : ℕ) → Entry
+abort_of lp true tdr slot = entry.Call lp (calls.ExportAbortByToken tdr slot)
+abort_of lp false tdr slot = entry.Call lp (calls.ExportAbort tdr)
 
--- the call of a mnemonic, as far as it is built; the field of MNG.RD isn't looked at here
-abbrev pub built_of : ℕ → CallName → List (Option ℕ) → Option Entry
-built_of lp name.HostRead ns = Some (entry.Call lp (calls.HostRead (argument ns 0) (argument ns 1)))
-built_of lp name.HostWrite ns = Some (entry.Call lp (calls.HostWrite (argument ns 0) (argument ns 1) (argument ns 2)))
-built_of lp name.PhymemPageRdmd ns = Some (entry.Call lp (calls.PhymemPageRdmd (argument ns 0)))
-built_of lp name.PhymemCacheWb ns = Some (entry.Call lp calls.PhymemCacheWb)
-built_of lp name.PhymemPageReclaim ns = Some (entry.Call lp (calls.PhymemPageReclaim (argument ns 0) (argument ns 1)))
-built_of lp name.MngCreate ns = Some (entry.Call lp (calls.MngCreate (argument ns 0) (argument ns 1)))
-built_of lp name.MngKeyConfig ns = Some (entry.Call lp (calls.MngKeyConfig (argument ns 0)))
-built_of lp name.MngAddcx ns = Some (entry.Call lp (calls.MngAddcx (argument ns 0) (argument ns 1)))
-built_of lp name.MngInit ns = Some (entry.Call lp (calls.MngInit (argument ns 0)))
-built_of lp name.MngRd ns = Some (entry.Read lp (argument ns 0))
-built_of lp name.MngVpflushdone ns = Some (entry.Call lp (calls.MngVpflushdone (argument ns 0)))
-built_of lp name.MngKeyFreeid ns = Some (entry.Call lp (calls.MngKeyFreeid (argument ns 0)))
-built_of lp name.MrExtend ns = Some (entry.Call lp (calls.MrExtend (argument ns 0) (argument ns 1)))
-built_of lp name.MrFinalize ns = Some (entry.Call lp (calls.MrFinalize (argument ns 0)))
-built_of lp name.VpCreate ns = Some (entry.Call lp (calls.VpCreate (argument ns 0) (argument ns 1)))
-built_of lp name.VpInit ns = Some (entry.Call lp (calls.VpInit (argument ns 0) (argument ns 1) (argument ns 2)))
-built_of lp name.VpEnter ns = Some (entry.Call lp (calls.VpEnter (argument ns 0) (argument ns 1) (argument ns 2)))
-built_of lp name.VpFlush ns = Some (entry.Call lp (calls.VpFlush (argument ns 0) (argument ns 1)))
-built_of lp name.MemSeptAdd ns = Some (entry.Call lp (calls.MemSeptAdd (argument ns 0) (argument ns 1) (argument ns 2) (argument ns 3)))
-built_of lp name.MemSeptRd ns = Some (entry.Call lp (calls.MemSeptRd (argument ns 0) (argument ns 1) (argument ns 2)))
-built_of lp name.MemSeptRemove ns = Some (entry.Call lp (calls.MemSeptRemove (argument ns 0) (argument ns 1) (argument ns 2)))
-built_of lp name.MemPageAdd ns = Some (entry.Call lp (calls.MemPageAdd (argument ns 0) (argument ns 1) (argument ns 2) (argument ns 3)))
-built_of lp name.MemPageAug ns = Some (entry.Call lp (calls.MemPageAug (argument ns 0) (argument ns 1) (argument ns 2)))
-built_of lp name.MemPageRemove ns = Some (entry.Call lp (calls.MemPageRemove (argument ns 0) (argument ns 1)))
-built_of lp name.MemRangeBlock ns = Some (entry.Call lp (calls.MemRangeBlock (argument ns 0) (argument ns 1) (argument ns 2)))
-built_of lp name.MemRangeUnblock ns = Some (entry.Call lp (calls.MemRangeUnblock (argument ns 0) (argument ns 1) (argument ns 2)))
-built_of lp name.MemTrack ns = Some (entry.Call lp (calls.MemTrack (argument ns 0)))
-built_of lp name.MigStreamCreate ns = Some (entry.Call lp (calls.MigStreamCreate (argument ns 0) (argument ns 1)))
-built_of lp name.ExportBlockw ns = Some (entry.Call lp (calls.ExportBlockw (argument ns 0) (argument ns 1)))
-built_of lp name.ExportUnblockw ns = Some (entry.Call lp (calls.ExportUnblockw (argument ns 0) (argument ns 1)))
-built_of lp name.ExportPause ns = Some (entry.Call lp (calls.ExportPause (argument ns 0)))
-built_of lp name.ExportAbort ns = abort_of lp (length ns == 2) (argument ns 0)
-built_of lp name.ExportRestore ns = Some (entry.Call lp (calls.ExportRestore (argument ns 0) (argument ns 1)))
-built_of lp name.ExportStateImmutable ns = Some (entry.Call lp (calls.ExportStateImmutable (argument ns 0) (slot_at ns 1)))
-built_of lp name.ExportMem ns = Some (entry.Call lp (calls.ExportMem (argument ns 0) (argument ns 1) (argument ns 2) (slot_at ns 3)))
-built_of lp name.ExportTrack ns = Some (entry.Call lp (calls.ExportTrack (argument ns 0) (slot_at ns 1) (argument ns 2)))
-built_of lp name.ExportStateTd ns = Some (entry.Call lp (calls.ExportStateTd (argument ns 0) (slot_at ns 1)))
-built_of lp name.ExportStateVp ns = Some (entry.Call lp (calls.ExportStateVp (argument ns 0) (argument ns 1) (slot_at ns 2)))
-built_of lp _ ns = None
+-- the call of a mnemonic; the field of MNG.RD isn't looked at here
+abbrev pub named_entry : ℕ → CallName → List (Option ℕ) → Entry
+named_entry lp name.HostRead ns = entry.Call lp (calls.HostRead (argument ns 0) (argument ns 1))
+named_entry lp name.HostWrite ns = entry.Call lp (calls.HostWrite (argument ns 0) (argument ns 1) (argument ns 2))
+named_entry lp name.PhymemPageRdmd ns = entry.Call lp (calls.PhymemPageRdmd (argument ns 0))
+named_entry lp name.PhymemCacheWb ns = entry.Call lp calls.PhymemCacheWb
+named_entry lp name.PhymemPageReclaim ns = entry.Call lp (calls.PhymemPageReclaim (argument ns 0) (argument ns 1))
+named_entry lp name.MngCreate ns = entry.Call lp (calls.MngCreate (argument ns 0) (argument ns 1))
+named_entry lp name.MngKeyConfig ns = entry.Call lp (calls.MngKeyConfig (argument ns 0))
+named_entry lp name.MngAddcx ns = entry.Call lp (calls.MngAddcx (argument ns 0) (argument ns 1))
+named_entry lp name.MngInit ns = entry.Call lp (calls.MngInit (argument ns 0))
+named_entry lp name.MngRd ns = entry.Read lp (argument ns 0)
+named_entry lp name.MngVpflushdone ns = entry.Call lp (calls.MngVpflushdone (argument ns 0))
+named_entry lp name.MngKeyFreeid ns = entry.Call lp (calls.MngKeyFreeid (argument ns 0))
+named_entry lp name.MrExtend ns = entry.Call lp (calls.MrExtend (argument ns 0) (argument ns 1))
+named_entry lp name.MrFinalize ns = entry.Call lp (calls.MrFinalize (argument ns 0))
+named_entry lp name.VpCreate ns = entry.Call lp (calls.VpCreate (argument ns 0) (argument ns 1))
+named_entry lp name.VpInit ns = entry.Call lp (calls.VpInit (argument ns 0) (argument ns 1) (argument ns 2))
+named_entry lp name.VpEnter ns = entry.Call lp (calls.VpEnter (argument ns 0) (argument ns 1) (argument ns 2))
+named_entry lp name.VpFlush ns = entry.Call lp (calls.VpFlush (argument ns 0) (argument ns 1))
+named_entry lp name.MemSeptAdd ns = entry.Call lp (calls.MemSeptAdd (argument ns 0) (argument ns 1) (argument ns 2) (argument ns 3))
+named_entry lp name.MemSeptRd ns = entry.Call lp (calls.MemSeptRd (argument ns 0) (argument ns 1) (argument ns 2))
+named_entry lp name.MemSeptRemove ns = entry.Call lp (calls.MemSeptRemove (argument ns 0) (argument ns 1) (argument ns 2))
+named_entry lp name.MemPageAdd ns = entry.Call lp (calls.MemPageAdd (argument ns 0) (argument ns 1) (argument ns 2) (argument ns 3))
+named_entry lp name.MemPageAug ns = entry.Call lp (calls.MemPageAug (argument ns 0) (argument ns 1) (argument ns 2))
+named_entry lp name.MemPageRemove ns = entry.Call lp (calls.MemPageRemove (argument ns 0) (argument ns 1))
+named_entry lp name.MemRangeBlock ns = entry.Call lp (calls.MemRangeBlock (argument ns 0) (argument ns 1) (argument ns 2))
+named_entry lp name.MemRangeUnblock ns = entry.Call lp (calls.MemRangeUnblock (argument ns 0) (argument ns 1) (argument ns 2))
+named_entry lp name.MemTrack ns = entry.Call lp (calls.MemTrack (argument ns 0))
+named_entry lp name.MigStreamCreate ns = entry.Call lp (calls.MigStreamCreate (argument ns 0) (argument ns 1))
+named_entry lp name.ExportBlockw ns = entry.Call lp (calls.ExportBlockw (argument ns 0) (argument ns 1))
+named_entry lp name.ExportUnblockw ns = entry.Call lp (calls.ExportUnblockw (argument ns 0) (argument ns 1))
+named_entry lp name.ExportPause ns = entry.Call lp (calls.ExportPause (argument ns 0))
+named_entry lp name.ExportAbort ns = abort_of lp (length ns == 2) (argument ns 0) (argument ns 1)
+named_entry lp name.ExportRestore ns = entry.Call lp (calls.ExportRestore (argument ns 0) (argument ns 1))
+named_entry lp name.ExportStateImmutable ns = entry.Call lp (calls.ExportStateImmutable (argument ns 0) (slot_at ns 1))
+named_entry lp name.ExportMem ns = entry.Call lp (calls.ExportMem (argument ns 0) (argument ns 1) (argument ns 2) (slot_at ns 3))
+named_entry lp name.ExportTrack ns = entry.Call lp (calls.ExportTrack (argument ns 0) (slot_at ns 1) (argument ns 2))
+named_entry lp name.ExportStateTd ns = entry.Call lp (calls.ExportStateTd (argument ns 0) (slot_at ns 1))
+named_entry lp name.ExportStateVp ns = entry.Call lp (calls.ExportStateVp (argument ns 0) (argument ns 1) (slot_at ns 2))
+named_entry lp name.ImportStateImmutable ns = entry.Call lp (calls.ImportStateImmutable (argument ns 0) (argument ns 1))
+named_entry lp name.ImportMem ns = entry.Call lp (calls.ImportMem (argument ns 0) (argument ns 1) (argument ns 2))
+named_entry lp name.ImportTrack ns = entry.Call lp (calls.ImportTrack (argument ns 0) (argument ns 1))
+named_entry lp name.ImportStateTd ns = entry.Call lp (calls.ImportStateTd (argument ns 0) (argument ns 1))
+named_entry lp name.ImportStateVp ns = entry.Call lp (calls.ImportStateVp (argument ns 0) (argument ns 1) (argument ns 2))
+named_entry lp name.ImportCommit ns = entry.Call lp (calls.ImportCommit (argument ns 0))
+named_entry lp name.ImportEnd ns = entry.Call lp (calls.ImportEnd (argument ns 0))
+named_entry lp name.ImportAbort ns = entry.Call lp (calls.ImportAbort (argument ns 0) (slot_at ns 1))
 
 -- whether those arguments are numbers that must be: all but the field of MNG.RD
 abbrev pub are_given : CallName → List (Option ℕ) → Bool
@@ -120,16 +127,15 @@ abbrev pub ranged_of : Entry → CallName → List (Option ℕ) → Result Entry
 ranged_of e call ns = if not (fits_slot (slot_place_of call) ns) then Err reason.Range else Ok e
 
 -- as many arguments as the mnemonic has, numbers where it has numbers, and an output slot in range
-abbrev pub judged_of : Option Entry → Mnemonic → List (Option ℕ) → Result Entry Reason
-judged_of None m ns = Err reason.Unbuilt
-judged_of (Some e) m ns =
+abbrev pub judged_of : Entry → Mnemonic → List (Option ℕ) → Result Entry Reason
+judged_of e m ns =
     if not (nat_le m.least (length ns) && nat_le (length ns) m.most) then Err reason.Count
     else if not (are_given m.call ns) then Err reason.Number
     else ranged_of e m.call ns
 
 unfoldable pub call_of : ℕ → Option Mnemonic → List (Option ℕ) → Result Entry Reason
 call_of lp None ns = Err reason.Word
-call_of lp (Some m) ns = judged_of (built_of lp m.call ns) m ns
+call_of lp (Some m) ns = judged_of (named_entry lp m.call ns) m ns
 
 -- the first line that isn't skipped
 abbrev pub first_of : Option Keyword → List (Option ℕ) → Result Entry Reason

@@ -20,7 +20,7 @@ use Rattle.script_text.specs.declared.operations.OpName.{OpName}
 use Rattle.script_text.specs.declared.schedules.Turns.{Turns}
 use Rattle.script_text.specs.Blocks.{field_of, slot_place_of, fits_slot, operation_of, operand_count, fit_operands}
 use Rattle.script_text.specs.Counted.{argument}
-use Rattle.script_text.specs.Line.{keyword_of, built_of, are_given}
+use Rattle.script_text.specs.Line.{keyword_of, are_given}
 use Rattle.script_text.specs.Reading.{SoFar}
 use Rattle.script_text.specs.Schedule.{item_of, turns_in}
 
@@ -31,7 +31,7 @@ fault_in (Err r) = Some r
 
 -- the reasons that a line may have, in the order in which they count
 abbrev pub line_reasons : List Reason
-line_reasons = reason.Byte ∷ reason.Machine ∷ reason.Place ∷ reason.Word ∷ reason.Unbuilt ∷ reason.Count ∷ reason.Number ∷ reason.Name ∷ reason.Range ∷ reason.Repeated ∷ reason.Full ∷ reason.Slot ∷ []
+line_reasons = reason.Byte ∷ reason.Machine ∷ reason.Place ∷ reason.Word ∷ reason.Count ∷ reason.Number ∷ reason.Name ∷ reason.Range ∷ reason.Repeated ∷ reason.Full ∷ reason.Slot ∷ []
 
 -- what a first word is where it stands: a keyword anywhere, a call in a processor's block, an operation in a list
 pub data FirstWord : Type 0 where
@@ -70,14 +70,6 @@ place_holds in_block _ = false
 abbrev pub word_holds : FirstWord → Bool
 word_holds Unknown = true
 word_holds _ = false
-
--- a call is built where its mnemonic has a call with as many words; each operation is
-abbrev pub is_built : CallName → List (List ℕ) → Bool
-is_built call ws = is_some (built_of 0 call (map number ws))
-
-abbrev pub unbuilt_holds : FirstWord → List (List ℕ) → Bool
-unbuilt_holds (OfCall m) ws = not (is_built m.call ws)
-unbuilt_holds _ ws = false
 
 -- so many words stand behind the first
 abbrev pub count_holds : FirstWord → ℕ → Bool
@@ -174,7 +166,6 @@ abbrev pub holds_of : SoFar → FirstWord → List (List ℕ) → Reason → Boo
 holds_of d w ws reason.Machine = machine_holds (is_some d.stage.machine) w
 holds_of d w ws reason.Place = place_holds (is_some d.stage.block) w
 holds_of d w ws reason.Word = word_holds w
-holds_of d w ws reason.Unbuilt = unbuilt_holds w ws
 holds_of d w ws reason.Count = count_holds w (length ws)
 holds_of d w ws reason.Number = number_holds w ws
 holds_of d w ws reason.Name = name_holds w ws

@@ -50,6 +50,15 @@ call_word (calls.ExportMem tdr gpa stream slot) = codes "EXPORT.MEM"
 call_word (calls.ExportTrack tdr slot start) = codes "EXPORT.TRACK"
 call_word (calls.ExportStateTd tdr slot) = codes "EXPORT.STATE.TD"
 call_word (calls.ExportStateVp tdr vp slot) = codes "EXPORT.STATE.VP"
+call_word (calls.ExportAbortByToken tdr slot) = codes "EXPORT.ABORT"
+call_word (calls.ImportStateImmutable tdr slot) = codes "IMPORT.STATE.IMMUTABLE"
+call_word (calls.ImportMem tdr slot page) = codes "IMPORT.MEM"
+call_word (calls.ImportTrack tdr slot) = codes "IMPORT.TRACK"
+call_word (calls.ImportStateTd tdr slot) = codes "IMPORT.STATE.TD"
+call_word (calls.ImportStateVp tdr vp slot) = codes "IMPORT.STATE.VP"
+call_word (calls.ImportCommit tdr) = codes "IMPORT.COMMIT"
+call_word (calls.ImportEnd tdr) = codes "IMPORT.END"
+call_word (calls.ImportAbort tdr slot) = codes "IMPORT.ABORT"
 
 abbrev pub call_numbers : Call → List ℕ
 call_numbers (calls.HostRead page word) = page ∷ word ∷ []
@@ -90,6 +99,15 @@ call_numbers (calls.ExportMem tdr gpa stream slot) = tdr ∷ gpa ∷ stream ∷ 
 call_numbers (calls.ExportTrack tdr slot start) = tdr ∷ slot ∷ start ∷ []
 call_numbers (calls.ExportStateTd tdr slot) = tdr ∷ slot ∷ []
 call_numbers (calls.ExportStateVp tdr vp slot) = tdr ∷ vp ∷ slot ∷ []
+call_numbers (calls.ExportAbortByToken tdr slot) = tdr ∷ slot ∷ []
+call_numbers (calls.ImportStateImmutable tdr slot) = tdr ∷ slot ∷ []
+call_numbers (calls.ImportMem tdr slot page) = tdr ∷ slot ∷ page ∷ []
+call_numbers (calls.ImportTrack tdr slot) = tdr ∷ slot ∷ []
+call_numbers (calls.ImportStateTd tdr slot) = tdr ∷ slot ∷ []
+call_numbers (calls.ImportStateVp tdr vp slot) = tdr ∷ vp ∷ slot ∷ []
+call_numbers (calls.ImportCommit tdr) = tdr ∷ []
+call_numbers (calls.ImportEnd tdr) = tdr ∷ []
+call_numbers (calls.ImportAbort tdr slot) = tdr ∷ slot ∷ []
 
 -- MNG.RD names its field behind its numbers
 abbrev pub call_names : Call → List (List ℕ)

@@ -21,8 +21,6 @@ pub enum Reason {
     Place,
     /// The first word is none that may stand there.
     Word,
-    /// It is a call, or a line, that isn't built yet.
-    Unbuilt,
     /// There are too few or too many words.
     Count,
     /// A word that must be a number isn't one.
@@ -89,7 +87,6 @@ impl fmt::Display for Reason {
             Reason::Machine => write!(f, "MACHINE"),
             Reason::Place => write!(f, "PLACE"),
             Reason::Word => write!(f, "WORD"),
-            Reason::Unbuilt => write!(f, "UNBUILT"),
             Reason::Count => write!(f, "COUNT"),
             Reason::Number => write!(f, "NUMBER"),
             Reason::Name => write!(f, "NAME"),

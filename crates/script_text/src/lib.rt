@@ -7,7 +7,7 @@
 //! (`scripts_read_again`), a fault names the first bad line (`faults_are_first`), and the first reason
 //! that holds of it (`reasons_in_order`). In form no two calls name one output slot, and
 //! `proofs/Slots.antt` says it of any two places of calls. `needs_keys` says whether a script seals
-//! bundles. Thirty-seven calls and all guest operations are built; any other mnemonic is UNBUILT.
+//! or opens bundles.
 #![tactic(auto)]
 
 mod code_blocks;

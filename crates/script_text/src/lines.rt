@@ -4,7 +4,7 @@ ghost use Rattle.std.specs.Prelude.{◌≡◌, None, is_some, slice_index_or, fa
 ghost use Rattle.std.specs.List.{list_all};
 ghost use Rattle.line_words.specs.Mnemonics.{mnemonics, mnemonic_in};
 ghost use Rattle.script_text.specs.Counted.{counted_of, number_at, argument};
-ghost use Rattle.script_text.specs.Line.{keyword_of, machine_in, machine_of, block_in, block_of, end_of, built_of, are_given, judged_of, call_of, list_of, operation_line_of, outside_of, named_of, inside_of, entry_of};
+ghost use Rattle.script_text.specs.Line.{keyword_of, machine_in, machine_of, block_in, block_of, end_of, named_entry, are_given, judged_of, call_of, list_of, operation_line_of, outside_of, named_of, inside_of, entry_of};
 
 use crate::code_blocks::{CodePlace, code_line};
 use crate::faults::Reason;
@@ -164,15 +164,15 @@ pub fn argument(numbers: &[Option<u64>], i: usize) -> u64
     given(numbers, i).unwrap_or(0)
 }
 
-fn built(lp: u8, call: CallName, numbers: &[Option<u64>]) -> Option<Entry>
-    ensures { result ≡ built_of lp call numbers.now }
+fn named_entry(lp: u8, call: CallName, numbers: &[Option<u64>]) -> Entry
+    ensures { result ≡ named_entry lp call numbers.now }
 {
     let (first, second) = (argument(numbers, 0), argument(numbers, 1));
     let (third, fourth) = (argument(numbers, 2), argument(numbers, 3));
     let (page, tdr, word, vp, gpa) = (first, first, second, second, second);
     let (value, max, level, augmented, start) = (third, third, third, third, third);
     let (slot, last_slot) = (slot_at(numbers, 1), slot_at(numbers, 2));
-    let page_slot = slot_at(numbers, 3);
+    let (page_slot, destination) = (slot_at(numbers, 3), third);
     let call = match call {
         CallName::HostRead => Call::HostRead { page, word },
         CallName::HostWrite => Call::HostWrite { page, word, value },
@@ -183,7 +183,7 @@ fn built(lp: u8, call: CallName, numbers: &[Option<u64>]) -> Option<Entry>
         CallName::MngKeyConfig => Call::MngKeyConfig { tdr },
         CallName::MngAddcx => Call::MngAddcx { tdr, page: second },
         CallName::MngInit => Call::MngInit { tdr },
-        CallName::MngRd => return Some(Entry::Read(lp, tdr)),
+        CallName::MngRd => return Entry::Read(lp, tdr),
         CallName::MngVpflushdone => Call::MngVpflushdone { tdr },
         CallName::MngKeyFreeid => Call::MngKeyFreeid { tdr },
         CallName::MrExtend => Call::MrExtend { tdr, gpa },
@@ -221,9 +221,10 @@ fn built(lp: u8, call: CallName, numbers: &[Option<u64>]) -> Option<Entry>
         CallName::ExportPause => Call::ExportPause { tdr },
         CallName::ExportAbort => {
             if numbers.len() == 2 {
-                return None;
+                Call::ExportAbortByToken { tdr, slot: second }
+            } else {
+                Call::ExportAbort { tdr }
             }
-            Call::ExportAbort { tdr }
         }
         CallName::ExportRestore => Call::ExportRestore { tdr, gpa },
         CallName::ExportStateImmutable => Call::ExportStateImmutable { tdr, slot },
@@ -240,9 +241,24 @@ fn built(lp: u8, call: CallName, numbers: &[Option<u64>]) -> Option<Entry>
             vp,
             slot: last_slot,
         },
-        _ => return None,
+        CallName::ImportStateImmutable => Call::ImportStateImmutable { tdr, slot: second },
+        CallName::ImportMem => Call::ImportMem {
+            tdr,
+            slot: second,
+            page: destination,
+        },
+        CallName::ImportTrack => Call::ImportTrack { tdr, slot: second },
+        CallName::ImportStateTd => Call::ImportStateTd { tdr, slot: second },
+        CallName::ImportStateVp => Call::ImportStateVp {
+            tdr,
+            vp,
+            slot: third,
+        },
+        CallName::ImportCommit => Call::ImportCommit { tdr },
+        CallName::ImportEnd => Call::ImportEnd { tdr },
+        CallName::ImportAbort => Call::ImportAbort { tdr, slot },
     };
-    Some(Entry::Call(lp, call))
+    Entry::Call(lp, call)
 }
 
 pub fn are_numbers(numbers: &[Option<u64>]) -> bool
@@ -260,10 +276,9 @@ fn are_given(call: CallName, numbers: &[Option<u64>]) -> bool
     }
 }
 
-fn judged(entry: Option<Entry>, row: Mnemonic, numbers: &[Option<u64>]) -> Said
+fn judged(entry: Entry, row: Mnemonic, numbers: &[Option<u64>]) -> Said
     ensures { result ≡ judged_of entry row numbers.now }
 {
-    let entry = entry.ok_or(Reason::Unbuilt)?;
     if numbers.len() < row.least || numbers.len() > row.most {
         return Err(Reason::Count);
     }
@@ -281,7 +296,7 @@ fn call_line(lp: u8, mnemonic: Option<Mnemonic>, numbers: &[Option<u64>]) -> Sai
     ensures { result ≡ call_of lp mnemonic numbers.now }
 {
     let mnemonic = mnemonic.ok_or(Reason::Word)?;
-    judged(built(lp, mnemonic.call, numbers), mnemonic, numbers)
+    judged(named_entry(lp, mnemonic.call, numbers), mnemonic, numbers)
 }
 
 fn list_line(machine: Machine, listed: &[bool], numbers: &[Option<u64>]) -> Said

@@ -96,7 +96,7 @@ pub fn read_script(alloc: Global, bytes: &[u8]) -> Result<Script, ScriptFault>
 fn names_a_slot(calls: &[Call]) -> bool
     ensures { result ≡ names_a_slot calls.now }
 {
-    calls.iter().any(|call| call.output_slot().is_some())
+    calls.iter().any(|call| call.output_slot().is_some() || call.input_slot().is_some())
 }
 
 fn some_names_a_slot(lists: &[Vec<Call>]) -> bool
@@ -105,7 +105,8 @@ fn some_names_a_slot(lists: &[Vec<Call>]) -> bool
     lists.iter().any(|calls| names_a_slot(calls))
 }
 
-/// Whether a call of the script makes a bundle, which is sealed under the keys of a key file.
+/// Whether a call of the script makes a bundle or takes one: they are sealed and opened under the keys
+/// of a key file.
 #[tactic(auto, using(crate::proofs::Calls::some_of_items))]
 pub fn needs_keys(script: &Script) -> bool
     ensures { result ≡ needs_keys script.now.calls }

@@ -3,6 +3,7 @@
 use line_words::{CallName, mnemonic_at};
 use script_text::{ScriptFault, needs_keys, read_script, slot_place};
 use std::alloc::Global;
+use std::process::Abort;
 use std::test::Fail;
 
 /// The line and the reason of a bad script; of a good one processor 0's first call, if any, else the
@@ -45,6 +46,7 @@ const WHOLE_SCRIPTS: &[&str] = &[
     "2 RANGE | machine 2 8 1\nlp 2\n | machine 2 8 1\nschedule 0 2\n",
     "4 REPEATED | machine 2 8 1\nlp 1\nend\nlp 1\n",
     "6 SLOT | machine 2 8 1\nlp 1\nEXPORT.TRACK 1 5 0\nend\nlp 0\nEXPORT.STATE.TD 1 0x5\nend\n",
+    "6 SLOT | machine 2 8 1\nlp 1\nEXPORT.TRACK 1 5 0\nend\nlp 0\nIMPORT.ABORT 1 5\nend\n",
 ];
 
 const ON_ONE_PROCESSOR: &[&str] = &[
@@ -71,11 +73,25 @@ const IN_BLOCK: &[&str] = &[
     "good |  |  # end",
     "3 PLACE | lp | lp 0 | schedule 0 | schedule x | code 9 | code 1 0",
     "3 WORD | host.read 5 0 | HOST.READX 5 | set 0 0 | vmcall 0 | secret 0 0",
-    "3 UNBUILT | IMPORT.MEM | IMPORT.MEM x | EXPORT.ABORT 1 2 | IMPORT.END 1 2 3 4 5 6",
-    "3 UNBUILT | IMPORT.TRACK 1 4096 | IMPORT.ABORT 1 4096 | IMPORT.MEM 1 0 8",
-    "3 UNBUILT | EXPORT.ABORT x 2 | EXPORT.ABORT 1 x | EXPORT.ABORT x y",
+    "3 WORD | IMPORT.MEMS 1 0 8 | IMPORT.STATE 1 0 | import.mem 1 0 8 | IMPORT.PAUSE 1 | EXPORT.END 1",
+    "3 RANGE | EXPORT.STATE.IMMUTABLE 1 4096 | EXPORT.TRACK 1 4096 0 | EXPORT.STATE.TD 1 0x1000",
+    "3 RANGE | EXPORT.STATE.VP 1 4 4096 | EXPORT.TRACK 1 18446744073709551615 0",
+    "3 RANGE | EXPORT.STATE.VP 1 4 65536 | EXPORT.STATE.TD 1 65536 | EXPORT.MEM 1 0 0 4096",
+    "3 RANGE | EXPORT.MEM 1 0 0 65536 | EXPORT.MEM 99 1 9 0x1000",
+    "3 RANGE | IMPORT.ABORT 1 4096 | IMPORT.ABORT 99 0x1000 | IMPORT.ABORT 1 18446744073709551615",
+    "4 SLOT | EXPORT.MEM 1 0 0 9\nEXPORT.MEM 1 4096 1 0x9 | EXPORT.TRACK 1 0 0\nEXPORT.MEM 1 0 0 0",
+    "4 SLOT | EXPORT.STATE.IMMUTABLE 1 0\nEXPORT.TRACK 1 0 0 | EXPORT.TRACK 1 7 0\nEXPORT.TRACK 2 7 0",
+    "4 SLOT | EXPORT.STATE.TD 1 4095\nEXPORT.STATE.VP 1 4 0xfff | EXPORT.TRACK 1 3 0\nEXPORT.STATE.TD 1 3",
+    "6 SLOT | EXPORT.STATE.TD 1 3\nEXPORT.STATE.TD 1 4\n\nEXPORT.STATE.TD 1 03",
+    "4 SLOT | IMPORT.ABORT 1 3\nIMPORT.ABORT 2 3 | IMPORT.ABORT 1 0\nEXPORT.MEM 1 0 0 0",
+    // A slot of an input is any, and names no output.
+    "5 SLOT | EXPORT.TRACK 1 3 0\nIMPORT.TRACK 1 3\nIMPORT.ABORT 1 3",
+    "4 RANGE | EXPORT.TRACK 1 0 0\nEXPORT.TRACK 1 4096 0",
+    "3 NAME | MNG.RD 1 NAME | MNG.RD 1 life | MNG.RD 1 EPOCHS | MNG.RD 1 OPS | MNG.RD 1 1 | MNG.RD 1 #",
+];
+
+const COUNTED_IN_BLOCK: &[&str] = &[
     "3 COUNT | end 0 | HOST.READ 5 | HOST.READ x 0 0 | HOST.WRITE 0 0 0 0 0 0 0 | PHYMEM.PAGE.RDMD",
-    "3 NUMBER | MNG.CREATE 1 0x | MNG.CREATE 0X1 1 | MNG.CREATE -1 1 | HOST.READ 0xfg 1",
     "3 COUNT | PHYMEM.CACHE.WB 0 | PHYMEM.PAGE.RECLAIM 1 | PHYMEM.PAGE.RECLAIM 1 2 3 | MNG.KEY.CONFIG",
     "3 COUNT | MNG.KEY.CONFIG 1 2 | MNG.ADDCX 1 | MNG.ADDCX 1 2 3 | MNG.INIT | MNG.INIT 1 2 | MNG.RD",
     "3 COUNT | MNG.RD 1 | MNG.RD NAME | MNG.RD 1 LIFE 1 | MNG.RD x NAME 1 | MNG.VPFLUSHDONE",
@@ -99,6 +115,17 @@ const IN_BLOCK: &[&str] = &[
     "3 COUNT | EXPORT.STATE.TD 1 | EXPORT.STATE.TD 1 2 3 | EXPORT.STATE.VP 1 4 | EXPORT.STATE.VP x",
     "3 COUNT | EXPORT.STATE.VP 1 4 2 0 | EXPORT.STATE.VP 1 4 4096 x | EXPORT.STATE.TD",
     "3 COUNT | EXPORT.MEM | EXPORT.MEM 1 0 0 | EXPORT.MEM 1 0 4096 | EXPORT.MEM 1 0 0 4096 0 | EXPORT.MEM x y",
+    "3 COUNT | IMPORT.STATE.IMMUTABLE | IMPORT.STATE.IMMUTABLE 1 | IMPORT.STATE.IMMUTABLE 1 0 0",
+    "3 COUNT | IMPORT.MEM | IMPORT.MEM x | IMPORT.MEM 1 0 | IMPORT.MEM 1 0 8 1 | IMPORT.MEM x 0 9 4096",
+    "3 COUNT | IMPORT.TRACK 1 | IMPORT.TRACK 1 0 0 | IMPORT.TRACK | IMPORT.STATE.TD 1",
+    "3 COUNT | IMPORT.STATE.TD 1 2 3 | IMPORT.STATE.VP 1 4 | IMPORT.STATE.VP 1 4 2 0 | IMPORT.STATE.VP",
+    "3 COUNT | IMPORT.COMMIT | IMPORT.COMMIT 1 2 | IMPORT.COMMIT x y | IMPORT.END",
+    "3 COUNT | IMPORT.END 1 2 3 4 5 6 | IMPORT.ABORT | IMPORT.ABORT 1 | IMPORT.ABORT 1 4096 0",
+    "4 COUNT | EXPORT.STATE.TD 1 3\nEXPORT.STATE.TD 1 3 0",
+];
+
+const NUMBERS_IN_BLOCK: &[&str] = &[
+    "3 NUMBER | MNG.CREATE 1 0x | MNG.CREATE 0X1 1 | MNG.CREATE -1 1 | HOST.READ 0xfg 1",
     "3 NUMBER | VP.ENTER x 4 1 | VP.ENTER 1 x 1 | VP.ENTER 1 4 x | VP.ENTER 1 4 0x | VP.ENTER 1 4 #",
     "3 NUMBER | VP.ENTER 18446744073709551616 4 1 | VP.ENTER 1 18446744073709551616 1",
     "3 NUMBER | VP.ENTER 1 4 18446744073709551616 | VP.ENTER 1 4 0x10000000000000000",
@@ -107,28 +134,24 @@ const IN_BLOCK: &[&str] = &[
     "3 NUMBER | MEM.RANGE.BLOCK 1 0 x | MEM.RANGE.BLOCK x 0 3 | MEM.RANGE.UNBLOCK 1 x 3",
     "3 NUMBER | MIG.STREAM.CREATE 1 x | MIG.STREAM.CREATE x 2 | EXPORT.BLOCKW 1 x | EXPORT.BLOCKW x 0",
     "3 NUMBER | EXPORT.UNBLOCKW 1 0x | EXPORT.PAUSE x | EXPORT.ABORT x | EXPORT.RESTORE 1 #",
+    "3 NUMBER | EXPORT.ABORT x 2 | EXPORT.ABORT 1 x | EXPORT.ABORT x y | EXPORT.ABORT 1 -1",
     "3 NUMBER | EXPORT.STATE.IMMUTABLE 1 x | EXPORT.STATE.IMMUTABLE x 4096 | EXPORT.TRACK 1 4096 x",
     "3 NUMBER | EXPORT.TRACK x 4096 0 | EXPORT.TRACK 1 0x 0 | EXPORT.STATE.TD x 4096",
     "3 NUMBER | EXPORT.STATE.TD 1 # | EXPORT.STATE.VP 1 x 4096 | EXPORT.STATE.VP 1 4 -1",
     "3 NUMBER | EXPORT.STATE.TD 1 18446744073709551616 | EXPORT.MEM x 0 0 4096 | EXPORT.MEM 1 x 0 4096",
     "3 NUMBER | EXPORT.MEM 1 0 x 4096 | EXPORT.MEM 1 0 0 x | EXPORT.MEM 1 0 0 18446744073709551616",
-    "3 RANGE | EXPORT.STATE.IMMUTABLE 1 4096 | EXPORT.TRACK 1 4096 0 | EXPORT.STATE.TD 1 0x1000",
-    "3 RANGE | EXPORT.STATE.VP 1 4 4096 | EXPORT.TRACK 1 18446744073709551615 0",
-    "3 RANGE | EXPORT.STATE.VP 1 4 65536 | EXPORT.STATE.TD 1 65536 | EXPORT.MEM 1 0 0 4096",
-    "3 RANGE | EXPORT.MEM 1 0 0 65536 | EXPORT.MEM 99 1 9 0x1000",
-    "4 SLOT | EXPORT.MEM 1 0 0 9\nEXPORT.MEM 1 4096 1 0x9 | EXPORT.TRACK 1 0 0\nEXPORT.MEM 1 0 0 0",
-    "4 SLOT | EXPORT.STATE.IMMUTABLE 1 0\nEXPORT.TRACK 1 0 0 | EXPORT.TRACK 1 7 0\nEXPORT.TRACK 2 7 0",
-    "4 SLOT | EXPORT.STATE.TD 1 4095\nEXPORT.STATE.VP 1 4 0xfff | EXPORT.TRACK 1 3 0\nEXPORT.STATE.TD 1 3",
-    "6 SLOT | EXPORT.STATE.TD 1 3\nEXPORT.STATE.TD 1 4\n\nEXPORT.STATE.TD 1 03",
-    "4 COUNT | EXPORT.STATE.TD 1 3\nEXPORT.STATE.TD 1 3 0",
+    "3 NUMBER | IMPORT.STATE.IMMUTABLE 1 x | IMPORT.STATE.IMMUTABLE x 0 | IMPORT.MEM x 0 8",
+    "3 NUMBER | IMPORT.MEM 1 x 8 | IMPORT.MEM 1 0 x | IMPORT.TRACK x 0 | IMPORT.TRACK 1 0x",
+    "3 NUMBER | IMPORT.TRACK 1 18446744073709551616 | IMPORT.STATE.TD 1 # | IMPORT.STATE.TD x 0",
+    "3 NUMBER | IMPORT.STATE.VP x 4 0 | IMPORT.STATE.VP 1 x 0 | IMPORT.STATE.VP 1 4 x",
+    "3 NUMBER | IMPORT.COMMIT x | IMPORT.END x | IMPORT.ABORT x 4096 | IMPORT.ABORT 1 x",
+    "5 NUMBER | IMPORT.TRACK 1 3\nIMPORT.TRACK 1 3\nIMPORT.TRACK 1 x",
     "4 NUMBER | EXPORT.TRACK 1 3 0\nEXPORT.TRACK 1 3 x",
-    "4 RANGE | EXPORT.TRACK 1 0 0\nEXPORT.TRACK 1 4096 0",
     "3 NUMBER | MEM.SEPT.ADD 1 0 3 x | MEM.SEPT.RD 1 0 x | MEM.PAGE.ADD 1 0 8 x | MR.EXTEND 1 x",
     "3 NUMBER | MEM.PAGE.AUG 1 0 x | MEM.PAGE.AUG x 0 8 | MEM.PAGE.AUG 1 0x 8",
     "3 NUMBER | PHYMEM.PAGE.RECLAIM 1 x | MNG.KEY.CONFIG x | MNG.ADDCX x 1 | MNG.INIT x",
     "3 NUMBER | MNG.RD x NAME | MNG.RD x LIFE | MNG.RD LIFE 1 | MNG.VPFLUSHDONE x | MNG.KEY.FREEID x",
     "3 NUMBER | MR.FINALIZE x | VP.CREATE 1 x | VP.INIT 1 4 x | VP.INIT x 4 0",
-    "3 NAME | MNG.RD 1 NAME | MNG.RD 1 life | MNG.RD 1 EPOCHS | MNG.RD 1 OPS | MNG.RD 1 1 | MNG.RD 1 #",
     "3 NUMBER | HOST.READ 18446744073709551616 1 | HOST.READ 184467440737095516150 1",
     "3 NUMBER | HOST.READ 0x10000000000000000 1 | HOST.READ 1844674407370955161x 1 | HOST.READ 1a 1",
 ];
@@ -170,11 +193,17 @@ const CALLS: &[&str] = &[
     "MemRangeUnblock { tdr: 1, gpa: 18, level: 3 } | MEM.RANGE.UNBLOCK 1 18 3",
     "MemRangeUnblock { tdr: 1, gpa: 18, level: 3 } | MEM.RANGE.UNBLOCK 0x1 0x12 0x3",
     "MemTrack { tdr: 10 } | MEM.TRACK 10 | MEM.TRACK 0xA",
+    "MrExtend { tdr: 1, gpa: 256 } | MR.EXTEND 1 256 | MR.EXTEND 0x1 0x100",
+];
+
+const MIGRATION_CALLS: &[&str] = &[
     "MigStreamCreate { tdr: 1, page: 18 } | MIG.STREAM.CREATE 1 18 | MIG.STREAM.CREATE 0x1 0x12",
     "ExportBlockw { tdr: 1, gpa: 18 } | EXPORT.BLOCKW 1 18 | EXPORT.BLOCKW 0x1 0x12",
     "ExportUnblockw { tdr: 1, gpa: 18 } | EXPORT.UNBLOCKW 1 18 | EXPORT.UNBLOCKW 0x1 0x12",
     "ExportPause { tdr: 10 } | EXPORT.PAUSE 10 | EXPORT.PAUSE 0xA",
     "ExportAbort { tdr: 10 } | EXPORT.ABORT 10 | EXPORT.ABORT 0xA",
+    "ExportAbortByToken { tdr: 10, slot: 18 } | EXPORT.ABORT 10 18 | EXPORT.ABORT 0xA 0x12",
+    "ExportAbortByToken { tdr: 0, slot: 18446744073709551615 } | EXPORT.ABORT 0 18446744073709551615",
     "ExportRestore { tdr: 1, gpa: 18 } | EXPORT.RESTORE 1 18 | EXPORT.RESTORE 0x1 0x12",
     "ExportStateImmutable { tdr: 1, slot: 0 } | EXPORT.STATE.IMMUTABLE 1 0\nEXPORT.TRACK 1 1 0",
     "ExportStateImmutable { tdr: 4096, slot: 4095 } | EXPORT.STATE.IMMUTABLE 4096 4095",
@@ -185,7 +214,19 @@ const CALLS: &[&str] = &[
     "ExportStateTd { tdr: 1, slot: 1 } | EXPORT.STATE.TD 1 1 | EXPORT.STATE.TD 0x1 001",
     "ExportStateVp { tdr: 1, vp: 4, slot: 18 } | EXPORT.STATE.VP 1 4 18 | EXPORT.STATE.VP 1 4 0x12",
     "ExportStateVp { tdr: 1, vp: 4096, slot: 0 } | EXPORT.STATE.VP 1 4096 0",
-    "MrExtend { tdr: 1, gpa: 256 } | MR.EXTEND 1 256 | MR.EXTEND 0x1 0x100",
+    "ImportStateImmutable { tdr: 1, slot: 18 } | IMPORT.STATE.IMMUTABLE 1 18 | IMPORT.STATE.IMMUTABLE 01 0x12",
+    "ImportStateImmutable { tdr: 0, slot: 4096 } | IMPORT.STATE.IMMUTABLE 0 4096",
+    "ImportMem { tdr: 1, slot: 18, page: 8 } | IMPORT.MEM 1 18 8 | IMPORT.MEM 0x1 0x12 0x8",
+    "ImportMem { tdr: 1, slot: 8, page: 18446744073709551615 } | IMPORT.MEM 1 8 0xffffffffFFFFFFFF",
+    "ImportTrack { tdr: 1, slot: 18446744073709551615 } | IMPORT.TRACK 1 18446744073709551615",
+    "ImportTrack { tdr: 18, slot: 3 } | IMPORT.TRACK 18 3 | IMPORT.TRACK 0x12 3\nIMPORT.TRACK 18 3",
+    "ImportStateTd { tdr: 1, slot: 18 } | IMPORT.STATE.TD 1 18 | IMPORT.STATE.TD 0x1 0x12",
+    "ImportStateVp { tdr: 1, vp: 4, slot: 18 } | IMPORT.STATE.VP 1 4 18 | IMPORT.STATE.VP 1 4 0x12",
+    "ImportStateVp { tdr: 1, vp: 4096, slot: 65536 } | IMPORT.STATE.VP 1 4096 65536",
+    "ImportCommit { tdr: 10 } | IMPORT.COMMIT 10 | IMPORT.COMMIT 0xA",
+    "ImportEnd { tdr: 10 } | IMPORT.END 10 | IMPORT.END 0xA",
+    "ImportAbort { tdr: 1, slot: 4095 } | IMPORT.ABORT 1 4095 | IMPORT.ABORT 0x1 0xfff",
+    "ImportAbort { tdr: 4096, slot: 0 } | IMPORT.ABORT 4096 0\nEXPORT.ABORT 1 0\nIMPORT.TRACK 1 0",
 ];
 
 const IN_LIST: &[&str] = &[
@@ -226,29 +267,52 @@ const OPERATIONS: &[&str] = &[
     "Vmcall { register: 7 } | vmcall 7 | vmcall 07",
 ];
 
-// What stands before the scripts of a table, the table, and what stands behind them.
-const TABLES: &[(&str, &[&str], &str)] = &[
-    ("", WHOLE_SCRIPTS, ""),
-    ("machine 1 8 1\n", ON_ONE_PROCESSOR, "\n"),
-    ("machine 1 8 1\nlp 0\n", IN_BLOCK, "\nend\n"),
-    ("machine 1 8 1\nlp 0\n", CALLS, "\nend\n"),
-    ("machine 1 8 1\ncode 7 7\n", IN_LIST, "\nend\n"),
-    ("machine 1 8 1\ncode 7 7\n", OPERATIONS, "\nend\n"),
-];
-
-#[test]
-fn names_the_first_bad_line(rt: HostRuntime) -> Result<(), Fail> {
-    let alloc = rt.alloc();
-    for (front, rows, back) in TABLES {
-        for row in *rows {
-            let (want, scripts) = row.split_once(" | ").ok_or("no bar")?;
-            for script in scripts.split(" | ") {
-                let text = format!(in alloc; "{front}{script}{back}")?;
-                assert_eq!(rt; answer(alloc, text.as_bytes())?.as_str(), want, "at {text}");
-            }
+// Each script of these rows, between what stands before it and behind it, has its row's answer.
+fn have_answers<R: Abort>(
+    rt: &R,
+    alloc: Global,
+    front: &str,
+    rows: &[&str],
+    back: &str,
+) -> Result<(), Fail> {
+    for row in rows {
+        let (want, scripts) = row.split_once(" | ").ok_or("no bar")?;
+        for script in scripts.split(" | ") {
+            let text = format!(in alloc; "{front}{script}{back}")?;
+            assert_eq!(rt; answer(alloc, text.as_bytes())?.as_str(), want, "at {text}");
         }
     }
     Ok(())
+}
+
+#[test]
+fn names_the_first_bad_line(rt: HostRuntime) -> Result<(), Fail> {
+    have_answers(&rt, rt.alloc(), "", WHOLE_SCRIPTS, "")?;
+    have_answers(&rt, rt.alloc(), "machine 1 8 1\n", ON_ONE_PROCESSOR, "\n")?;
+    for rows in [IN_BLOCK, COUNTED_IN_BLOCK, NUMBERS_IN_BLOCK] {
+        have_answers(&rt, rt.alloc(), "machine 1 8 1\nlp 0\n", rows, "\nend\n")?;
+    }
+    have_answers(
+        &rt,
+        rt.alloc(),
+        "machine 1 8 1\ncode 7 7\n",
+        IN_LIST,
+        "\nend\n",
+    )
+}
+
+#[test]
+fn reads_each_call_and_operation(rt: HostRuntime) -> Result<(), Fail> {
+    for rows in [CALLS, MIGRATION_CALLS] {
+        have_answers(&rt, rt.alloc(), "machine 1 8 1\nlp 0\n", rows, "\nend\n")?;
+    }
+    have_answers(
+        &rt,
+        rt.alloc(),
+        "machine 1 8 1\ncode 7 7\n",
+        OPERATIONS,
+        "\nend\n",
+    )
 }
 
 const FIRST_CALL: &str = "MngCreate { tdr: 3, hkid: 10 }";
@@ -257,7 +321,10 @@ const FIRST_CALL: &str = "MngCreate { tdr: 3, hkid: 10 }";
 const AT_LIMITS: &[(u32, &str, &str)] = &[
     (4096, "end\n", FIRST_CALL),
     (4095, "HOST.READ 1 1\nend\n", FIRST_CALL),
-    (4096, "IMPORT.MEM 1\n", "4099 UNBUILT"),
+    (4096, "IMPORT.MEM 1\n", "4099 COUNT"),
+    (4096, "IMPORT.MEM 1 0 8\n", "4099 FULL"),
+    (4096, "IMPORT.ABORT 1 4096\n", "4099 RANGE"),
+    (4095, "IMPORT.ABORT 1 4095\nend\n", FIRST_CALL),
     (4096, "EXPORT.MEM 1 0 0 4096\n", "4099 RANGE"),
     (4096, "EXPORT.TRACK 1 4096 0\n", "4099 RANGE"),
     (4096, "EXPORT.TRACK 1 5 0\n", "4099 FULL"),
@@ -395,6 +462,14 @@ fn says_whether_keys_are_needed(rt: HostRuntime) -> Result<(), Fail> {
         ("EXPORT.STATE.TD 1 0\nEXPORT.PAUSE 1\n", true),
         ("EXPORT.STATE.VP 1 4 0\n", true),
         ("EXPORT.MEM 1 0 0 0\n", true),
+        ("IMPORT.COMMIT 1\nIMPORT.END 1\n", false),
+        ("IMPORT.STATE.IMMUTABLE 1 0\n", true),
+        ("IMPORT.COMMIT 1\nIMPORT.MEM 1 0 8\n", true),
+        ("IMPORT.TRACK 1 4096\nIMPORT.END 1\n", true),
+        ("IMPORT.STATE.TD 1 0\n", true),
+        ("IMPORT.STATE.VP 1 4 0\n", true),
+        ("IMPORT.ABORT 1 0\n", true),
+        ("EXPORT.PAUSE 1\nEXPORT.ABORT 1 0\n", true),
     ] {
         let text = format!(in alloc; "machine 2 8 1\nlp 1\n{calls}end\n")?;
         let script = read_script(alloc, text.as_bytes())?;
@@ -431,8 +506,15 @@ fn reads_what_stands_there(rt: HostRuntime) -> Result<(), Fail> {
 }
 
 #[test]
-fn reads_what_comes_later(rt: HostRuntime) -> Result<(), Fail> {
-    assert_eq!(rt; slot_place(CallName::ExportMem), Some(3));
+fn tells_forms_and_output_slots(rt: HostRuntime) -> Result<(), Fail> {
+    for (call, place) in [
+        (CallName::ExportMem, Some(3)),
+        (CallName::ImportAbort, Some(1)),
+        (CallName::ExportAbort, None),
+        (CallName::ImportTrack, None),
+    ] {
+        assert_eq!(rt; slot_place(call), place);
+    }
     let abort = mnemonic_at(b"EXPORT.ABORT").ok_or("absent")?;
     assert_eq!(rt; (abort.least, abort.most), (1, 2));
     Ok(())
