@@ -1,1 +1,2 @@
+mod Containers
 mod Taken

@@ -11,7 +11,7 @@ use Rattle.command_files.specs.declared.inputs.InputFault.{InputFault}
 use Rattle.command_files.specs.declared.inputs.InputFault.TheVariants as fault
 use Rattle.command_files.specs.declared.inputs.Inputs.{Inputs}
 use Rattle.command_files.specs.Commands.{NamedSeen}
-use Rattle.command_files.specs.Inputs.{Reads, LoadsNamed, LoadsNext, TakesInputs, AreSecrets, IsDue, load_fault, keys_fault, form_fault, unread_fault, due, first, keys_in, HasKeys}
+use Rattle.command_files.specs.Inputs.{Reads, LoadsNamed, LoadsNext, TakesInputs, AreSecrets, IsDue, load_fault, keys_fault, form_fault, unread_fault, due, first, bundles_in, keys_in, HasKeys}
 
 -- so many words of 0 are those of no file
 zero_at : (n i : ℕ) → slice_index (replicate n 0) i ≡ 0
@@ -60,6 +60,7 @@ module _ (contents : Option (List ℕ → Option (List ℕ))) (needed : Bool) (c
     keys_loaded = subst (λ (x : Option InputFault). LoadsNext contents x c.keys mid None mid) (sym h) (refl, refl);
     secrets_loaded = subst (λ (x : Option InputFault). LoadsNext contents (first x (load_fault input.Keys None)) c.secrets mid None mid) (sym h) (refl, refl);
     is_due = due_err (due needed b None None) f (ap (λ (x : Option InputFault). first (first x (first (load_fault input.Keys None) (load_fault input.Secrets None))) (form_fault needed b None None)) h);
+    bundle_list = tt;
     key_bytes = tt;
     words = tt;
   }
@@ -84,6 +85,7 @@ module _ (contents : Option (List ℕ → Option (List ℕ))) (needed : Bool) (c
           keys_loaded = next_keys;
           secrets_loaded = subst (λ (x : Option InputFault). LoadsNext contents x c.secrets far None far) (sym both) (refl, refl);
           is_due = due_err (due needed b k None) f (ap (λ (x : Option InputFault). first x (form_fault needed b k None)) unread);
+          bundle_list = tt;
           key_bytes = tt;
           words = tt;
         }
@@ -111,13 +113,14 @@ module _ (contents : Option (List ℕ → Option (List ℕ))) (needed : Bool) (c
         keys_loaded = next_keys;
         secrets_loaded = next_secrets;
         is_due = due_err (due needed b k s) f (ap (λ (x : Option InputFault). first x (form_fault needed b k s)) (unread_is ∙ h));
+        bundle_list = tt;
         key_bytes = tt;
         words = tt;
       }
 
       -- all were read
-      pub all_read : (r : Result Inputs InputFault) → load_fault input.Secrets s ≡ None → IsDue (form_fault needed b k s) r → IfOk r (λ inputs. inputs.keys ≡ keys_in k) → IfOk r (λ inputs. AreSecrets s inputs.secrets.items) → TakesInputs contents needed c old new r
-      all_read r none'' is bytes words = record {
+      pub all_read : (r : Result Inputs InputFault) → load_fault input.Secrets s ≡ None → IsDue (form_fault needed b k s) r → IfOk r (λ inputs. inputs.bundles.items ≡ bundles_in b) → IfOk r (λ inputs. inputs.keys ≡ keys_in k) → IfOk r (λ inputs. AreSecrets s inputs.secrets.items) → TakesInputs contents needed c old new r
+      all_read r none'' is listed bytes words = record {
         bundles = b;
         keys = k;
         secrets = s;
@@ -127,6 +130,7 @@ module _ (contents : Option (List ℕ → Option (List ℕ))) (needed : Bool) (c
         keys_loaded = next_keys;
         secrets_loaded = next_secrets;
         is_due = due_next (unread_fault b k s) (form_fault needed b k s) r (unread_is ∙ none'') is;
+        bundle_list = listed;
         key_bytes = bytes;
         words = words;
       }

@@ -1,4 +1,4 @@
--- The input files that a command names: what is loaded, the fault that is due by it, and the secret words.
+-- The input files that a command names: what is loaded, the fault that is due by it, and what they hand out.
 use Rattle.std.specs.Prelude.{◌≡◌, ◌≤◌, ℕ, ◌^◌, ◌*◌, List, [], ◌∷◌, ◌++◌, length, take, drop, slice_index, Bool, true, false, Option, Some, None, IfSome, IfNone, Result, Ok, Err, IfOk, ◌==◌, if◌then◌else◌}
 use Rattle.std.specs.Global.{Vec}
 use Rattle.byteorder.specs.Endian.{little_number}
@@ -99,6 +99,17 @@ due needed bundles keys secrets = first (unread_fault bundles keys secrets) (for
 
 -- ---- what is handed out
 
+-- the bundles that were read, each in its slot; none where the bytes are no container
+abbrev pub bundles_read : Result (List BundleSeen) ℕ → List BundleSeen
+bundles_read (Ok bundles) = bundles
+bundles_read (Err place) = []
+
+-- those of a container that was loaded; without one there are none
+abbrev pub bundles_in : Option (Result (Vec ℕ) LoadFault) → List BundleSeen
+bundles_in None = []
+bundles_in (Some (Ok given)) = bundles_read (container_in given.items)
+bundles_in (Some (Err f)) = []
+
 -- the keys of a key file: the first 32 bytes from source to destination, and the others back
 abbrev pub keys_of : List ℕ → KeyBytes
 keys_of bytes = record { forward = take 32 bytes; backward = drop 32 bytes }
@@ -142,7 +153,7 @@ LoadsNext contents None name old answer new = LoadsNamed contents (2 ^ 16) name 
 LoadsNext contents (Some f) name old answer new = (answer ≡ None) × (new ≡ old)
 
 -- Each named input is loaded once, the container first, then the key file and then the secrets file, and nothing else; the
--- answer is the fault that is due by these loads, and where there is none it is the keys and the secret words.
+-- answer is the fault that is due by these loads, and where there is none it is the bundles, the keys and the secret words.
 pub record TakesInputs (contents : Option (List ℕ → Option (List ℕ))) (needed : Bool) (c : NamedSeen) (old new : Reads) (result : Result Inputs InputFault) : Type 0 where
   pub bundles : Option (Result (Vec ℕ) LoadFault)
   pub keys : Option (Result (Vec ℕ) LoadFault)
@@ -153,5 +164,6 @@ pub record TakesInputs (contents : Option (List ℕ → Option (List ℕ))) (nee
   pub keys_loaded : LoadsNext contents (load_fault input.Bundles bundles) c.keys behind_bundles keys behind_keys
   pub secrets_loaded : LoadsNext contents (first (load_fault input.Bundles bundles) (load_fault input.Keys keys)) c.secrets behind_keys secrets new
   pub is_due : IsDue (due needed bundles keys secrets) result
+  pub bundle_list : IfOk result (λ inputs. inputs.bundles.items ≡ bundles_in bundles)
   pub key_bytes : IfOk result (λ inputs. inputs.keys ≡ keys_in keys)
   pub words : IfOk result (λ inputs. AreSecrets secrets inputs.secrets.items)

@@ -2,14 +2,16 @@
 
 ghost use Rattle.std.specs.Prelude.{◌≡◌, ◌≤◌, length, replicate, None, option_map, IfOk, OnOk};
 ghost use Rattle.byteorder.specs.Endian.{little_number, IsRead};
+ghost use Rattle.bundle_store.specs.Containers.{container_in, AreInOrder};
 ghost use Rattle.command_files.specs.declared.inputs.Input.TheVariants.{Bundles, Keys};
 ghost use Rattle.command_files.specs.Commands.{named_seen};
-ghost use Rattle.command_files.specs.Inputs.{LoadsNamed, load_fault, container_fault, length_fault, keys_fault, secrets_fault, form_fault, keys_of, keys_in, HasKeys, AreSecrets, IsDue, TakesInputs};
+ghost use Rattle.command_files.specs.Inputs.{LoadsNamed, load_fault, place_fault, container_fault, length_fault, keys_fault, secrets_fault, form_fault, bundles_read, bundles_in, keys_of, keys_in, HasKeys, AreSecrets, IsDue, TakesInputs};
 
 use crate::commands::Named;
 use bundle_store::{ContainerFault, Files, LoadFault, read_container};
 use byteorder::{ByteOrder, LittleEndian};
 use std::alloc::{AllocError, Global};
+use td_words::SlotBundle;
 
 /// An input beside the script.
 #[derive(Clone, Copy, Debug, PartialEq, Eq)]
@@ -25,7 +27,7 @@ pub enum InputFault {
     Unread(Input),
     /// The bytes are no container, from this place on.
     Container(u64),
-    /// The key file hasn't 64 bytes, or none is named where bundles are sealed.
+    /// The key file hasn't 64 bytes, or none is named where bundles are sealed or opened.
     Keys,
     /// The secrets file hasn't 4,096 bytes.
     Secrets,
@@ -39,10 +41,11 @@ pub struct KeyBytes {
     pub backward: [u8; 32],
 }
 
-/// What the inputs hand out: the keys, where a key file is named, and the 512 secret words. No call
-/// takes a bundle yet.
+/// What the inputs hand out: the bundles of the container, in the order of their slots and sealed; the
+/// keys, where a key file is named; and the 512 secret words.
 #[derive(Drop)]
 pub struct Inputs {
+    pub bundles: Vec<SlotBundle>,
     pub keys: Option<KeyBytes>,
     pub secrets: Vec<u64>,
 }
@@ -87,20 +90,32 @@ fn load_fault(input: Input, answer: &Option<Result<Vec<u8>, LoadFault>>) -> Opti
     }
 }
 
-fn container_fault(
+// The bundles of a container, where its bytes are one.
+fn bundles_of(alloc: Global, bytes: &[u8]) -> Result<Vec<SlotBundle>, InputFault>
+    ensures due { IsDue (place_fault (container_in bytes.now)) result }
+    ensures read { IfOk result (λ v. v.items ≡ bundles_read (container_in bytes.now)) }
+    ensures order { IfOk result (λ v. AreInOrder 0 v.items) }
+{
+    match read_container(alloc, bytes) {
+        Ok(bundles) => Ok(bundles),
+        Err(ContainerFault::At(place)) => Err(InputFault::Container(place)),
+        Err(ContainerFault::OutOfMemory) => Err(InputFault::OutOfMemory),
+    }
+}
+
+// The bundles of the container that was loaded, if one was, or its fault.
+fn bundles_in(
     alloc: Global,
     answer: &Option<Result<Vec<u8>, LoadFault>>,
-) -> Result<(), InputFault>
-    ensures { IsDue (container_fault answer.now) result }
+) -> Result<Vec<SlotBundle>, InputFault>
+    ensures due { IsDue (container_fault answer.now) result }
+    ensures read { IfOk result (λ v. v.items ≡ bundles_in answer.now) }
+    ensures order { IfOk result (λ v. AreInOrder 0 v.items) }
 {
     match answer {
-        Some(Ok(bytes)) => match read_container(alloc, bytes) {
-            Ok(_) => Ok(()),
-            Err(ContainerFault::At(place)) => Err(InputFault::Container(place)),
-            Err(ContainerFault::OutOfMemory) => Err(InputFault::OutOfMemory),
-        },
+        Some(Ok(bytes)) => bundles_of(alloc, bytes),
         Some(Err(LoadFault::TooLong)) => Err(InputFault::Container(MOST_CONTAINER)),
-        _ => Ok(()),
+        _ => Ok(Vec::new(alloc)),
     }
 }
 
@@ -216,13 +231,13 @@ fn inputs_of(
 ) -> Result<Inputs, InputFault>
     requires { load_fault Keys keys.now ≡ None }
     ensures due { IsDue (form_fault needed bundles.now keys.now secrets.now) result }
+    ensures listed { IfOk result (λ inputs. inputs.bundles.items ≡ bundles_in bundles.now) }
+    ensures order { IfOk result (λ inputs. AreInOrder 0 inputs.bundles.items) }
     ensures key_bytes { IfOk result (λ inputs. inputs.keys ≡ keys_in keys.now) }
     ensures keyed { IfOk result (λ inputs. HasKeys needed inputs.keys) }
     ensures words { IfOk result (λ inputs. AreSecrets secrets.now inputs.secrets.items) }
 {
-    if let Err(fault) = container_fault(alloc, bundles) {
-        return Err(fault);
-    }
+    let bundles = bundles_in(alloc, bundles)?;
     if let Some(fault) = keys_fault(needed, keys) {
         return Err(fault);
     }
@@ -231,7 +246,11 @@ fn inputs_of(
     }
     let keys = keys_in(needed, keys);
     match secret_words(alloc, secrets) {
-        Ok(secrets) => Ok(Inputs { keys, secrets }),
+        Ok(secrets) => Ok(Inputs {
+            bundles,
+            keys,
+            secrets,
+        }),
         Err(_) => Err(InputFault::OutOfMemory),
     }
 }
@@ -245,6 +264,7 @@ pub fn take_inputs<F: Files>(
     files: &mut F,
 ) -> Result<Inputs, InputFault>
     ensures takes { TakesInputs (F.contents files.old) needed (named_seen named.now) (record { loads = F.loads files.old; faults = F.read_faults files.old; bytes = F.bytes_read files.old }) (record { loads = F.loads files.new; faults = F.read_faults files.new; bytes = F.bytes_read files.new }) result }
+    ensures order { IfOk result (λ inputs. AreInOrder 0 inputs.bundles.items) }
     ensures keyed { IfOk result (λ inputs. HasKeys needed inputs.keys) }
     ensures secrets { IfOk result (λ inputs. length inputs.secrets.items ≡ 512) }
     ensures same { F.contents files.new ≡ F.contents files.old }

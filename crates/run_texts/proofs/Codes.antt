@@ -1,5 +1,5 @@
 -- The lists of operations of a script that is read are within the limits of the grammar.
-use Rattle.std.proofs.Common.{◌≡◌, sym, subst, map, ℕ, suc, ◌<◌, ◌≤◌, ◌^◌, List, [], ◌∷◌, length, get_or, Bool, true, false, ◌==◌, ◌&&◌, if◌then◌else◌, arith}
+use Rattle.std.proofs.Common.{◌≡◌, sym, subst, map, ℕ, suc, ◌<◌, ◌≤◌, ◌^◌, List, [], ◌∷◌, length, get_or, Option, None, Bool, true, false, ◌==◌, ◌&&◌, if◌then◌else◌, arith}
 use Rattle.std.specs.List.{All}
 use Rattle.std.specs.Global.{Vec}
 use Rattle.std.proofs.lemmas.List.Elements.{All-nil, All-cons, All-head, All-tail}
@@ -12,7 +12,8 @@ use Rattle.script_text.specs.Seen.{ScriptSeen}
 use Rattle.script_text.specs.Laws.{IsInForm}
 use Rattle.leaf_engine.specs.Merges.{IsOperation, AreCodes}
 use Rattle.leaf_dispatch.specs.Inside.{AreOperations}
-use Rattle.leaf_dispatch.specs.Table.{code_in}
+use Rattle.leaf_table.specs.Given.{Given}
+use Rattle.leaf_table.specs.Table.{code_in}
 use Rattle.run_texts.specs.Openings.{opening_of}
 
 fits : (g : GuestOp) → FitsOp g → IsOperation g
@@ -34,15 +35,15 @@ first-list P none (c ∷ cs) each t i = by (c.tdr == t && c.index == i) (first-l
     by true h = each 0 c (omega arith)
     by false h = h
 
-pub codes-of : (secrets : ℕ → ℕ) (script : ScriptSeen) → IsInForm script → AreCodes (opening_of secrets script)
-codes-of secrets script form = record {
+pub codes-of : (given : Given) (script : ScriptSeen) → IsInForm script → AreCodes (opening_of given script)
+codes-of given script form = record {
   few = first-list (λ ops. length ops ≤ 256) (omega arith) script.codes (λ i d inside. (form.codes i d inside).few);
   each = first-list (All IsOperation) (All-nil IsOperation) script.codes (λ i d inside. λ k g within. fits _ ((form.codes i d inside).operands k g within));
 }
 
 -- and so are those of the same lists as they lie in memory
 pub operations-of : (script : ScriptSeen) (codes : List CodeSeen) → IsInForm script → codes ≡ script.codes → AreOperations codes
-operations-of script codes form is = subst AreOperations (sym is) (codes-of (λ k. 0) script form).each
+operations-of script codes form is = subst AreOperations (sym is) (codes-of (record { secrets = λ k. 0; bundles = λ slot. None }) script form).each
 
 -- lists of calls, as they lie in memory, are short
 

@@ -43,7 +43,8 @@ use Rattle.leaf_engine.specs.OwnLists.{Piece, taken_in, WordLp, first_lp, LpTurn
 use Rattle.leaf_engine.specs.Merges.{Item, order, no_table, AreLeaves, AreCodes}
 use Rattle.merge_laws.specs.Merge.{Merge}
 use Rattle.merge_laws.specs.Laws.{AreBundlesOf, IsWhere}
-use Rattle.leaf_dispatch.specs.Table.{secrets_in, code_in, place_table, leaf_table}
+use Rattle.leaf_table.specs.Given.{Given, given_in, given_of}
+use Rattle.leaf_table.specs.Table.{code_in, place_table, leaf_table}
 use Rattle.leaf_dispatch.specs.States.{seen_of, Moves}
 use Rattle.leaf_dispatch.specs.Bounds.{events_left}
 use Rattle.leaf_dispatch.specs.declared.states.LpState.{LpState}
@@ -57,7 +58,7 @@ use Rattle.run_texts.proofs.Codes.{codes-of}
 use Rattle.run_texts.proofs.Making.{fit-run, fits-there, seals-there}
 use Rattle.run_texts.proofs.RunningOut.{one-more-item, idle-item}
 use Rattle.run_texts.proofs.Turning.{made_by, one-event, merge-more, order-more}
-use Rattle.run_texts.proofs.Places.{seen-at, seen-own, seen-other, place-at, secrets-at, codes-at, numbered-set, first-count, first-numbered, first-seen, first-more}
+use Rattle.run_texts.proofs.Places.{seen-at, seen-own, seen-other, place-at, given-at, codes-at, numbered-set, first-count, first-numbered, first-seen, first-more}
 
 -- of a machine that a script may have, with lists of operations within the limits, and with lines of different output slots
 pub record IsOpen (o : Opening) : Type 0 where
@@ -68,12 +69,12 @@ pub record IsOpen (o : Opening) : Type 0 where
   pub apart : AllPairs (λ a b. a ≢ b) (output_slots o.calls)
 
 -- at the start the whole schedule is left
-at-start : (o : Opening) (secrets : List ℕ) (codes : List CodeSeen) (schedule : List ℕ) (lps : List LpState) (t : Table) → AreFirst o.machine secrets codes 0 lps o.calls → PlaysTo no_table [] t → IsMidway o schedule schedule lps t
-at-start o secrets codes schedule lps t h play = record {
+at-start : (o : Opening) (given : Given) (codes : List CodeSeen) (schedule : List ℕ) (lps : List LpState) (t : Table) → AreFirst o.machine given codes 0 lps o.calls → PlaysTo no_table [] t → IsMidway o schedule schedule lps t
+at-start o given codes schedule lps t h play = record {
   made = [];
   merge = record {
     own = λ p. [];
-    turns = λ p inside. first-seen o.machine secrets codes 0 lps o.calls p h;
+    turns = λ p inside. first-seen o.machine given codes 0 lps o.calls p h;
     merge = record { each = λ p inside. refl; nothing_else = λ p out. refl };
     plays = play;
   };
@@ -88,12 +89,12 @@ between t v (Swapped k put taken ∷ xs) ys h = let r = between (record t { slot
 between t v (Missed k ∷ xs) ys h = absurd h
 
 -- each call and each step of a guest has its leaf
-pub are-leaves : TurnsAreEvents → (o : Opening) → IsOpen o → AreLeaves o (leaf_table o.machine o.secrets o.codes)
-are-leaves ls o op = ls.leaves o o.secrets o.codes op.machine (λ k. refl) (λ t i. refl)
+pub are-leaves : TurnsAreEvents → (o : Opening) → IsOpen o → AreLeaves o (leaf_table o.machine (given_of o) o.codes)
+are-leaves ls o op = ls.leaves o (given_of o) o.codes op.machine (record { secrets = λ k. refl; bundles = λ slot. refl }) (λ t i. refl)
 
 -- where the flat machine is after the events of a merge
-where-now : TurnsAreEvents → (o : Opening) (made : List Item) (now : ℕ → WordLp) (u : Table) → IsOpen o → Merge o (leaf_table o.machine o.secrets o.codes) made now u → IsWhere o now (play o (order made) (start o None))
-where-now ls o made now u op m = (ls.merges.turns o (leaf_table o.machine o.secrets o.codes) made now u op.few (are-leaves ls o op) op.codes m).1
+where-now : TurnsAreEvents → (o : Opening) (made : List Item) (now : ℕ → WordLp) (u : Table) → IsOpen o → Merge o (leaf_table o.machine (given_of o) o.codes) made now u → IsWhere o now (play o (order made) (start o None))
+where-now ls o made now u op m = (ls.merges.turns o (leaf_table o.machine (given_of o) o.codes) made now u op.few (are-leaves ls o op) op.codes m).1
 
 -- a processor without lines has none in the flat machine
 ended-flat : TurnsAreEvents → (o : Opening) (schedule left : List ℕ) (lps : List LpState) (t : Table) (p : ℕ) → IsOpen o → (l : IsMidway o schedule left lps t) → p < length o.calls → (seen_at lps p).lines ≡ []
@@ -139,18 +140,18 @@ module _ (ls : TurnsAreEvents) (o : Opening) (schedule rest : List ℕ) (lps : L
   moved t t' l e ps did moves = record {
     made = l.made ++ made_by p ps;
     merge =
-        merge-more o (leaf_table o.machine o.secrets o.codes) l.made (seen_at lps) (seen_at (set lps p s')) t t' p e ps l.merge (omega (arith, count)) turns
+        merge-more o (leaf_table o.machine (given_of o) o.codes) l.made (seen_at lps) (seen_at (set lps p s')) t t' p e ps l.merge (omega (arith, count)) turns
         (λ q ne. seen-other lps p s' q ne) did;
-    same = ap (run o) (order-more l.made p ps rest (one-event ls.pieces (place_table s.place (secrets_in s.secrets.now) (code_in s.codes.now)) s.place.machine (seen_of s) (seen_of s') e ps moves.3)) ∙ l.same;
+    same = ap (run o) (order-more l.made p ps rest (one-event ls.pieces (place_table s.place (given_in s.given) (code_in s.codes.now)) s.place.machine (seen_of s) (seen_of s') e ps moves.3)) ∙ l.same;
   }
     where
-      turns : LpTurns (leaf_table o.machine o.secrets o.codes p) o.machine (seen_at lps p) e ps (seen_at (set lps p s') p)
+      turns : LpTurns (leaf_table o.machine (given_of o) o.codes p) o.machine (seen_at lps p) e ps (seen_at (set lps p s') p)
       turns =
-          subst (λ (x : WordLp). LpTurns (leaf_table o.machine o.secrets o.codes p) o.machine x e ps (seen_at (set lps p s') p)) (sym (seen-at lps p d inside))
-          (subst (λ (x : WordLp). LpTurns (leaf_table o.machine o.secrets o.codes p) o.machine (seen_of s) e ps x) (sym (seen-own lps p s' inside))
-          (subst (λ (w : ℕ → ℕ). LpTurns (leaf_table o.machine w o.codes p) o.machine (seen_of s) e ps (seen_of s')) (secrets-at o 0 lps p d numbered inside)
-          (subst (λ (x : ℕ → ℕ → List GuestOp). LpTurns (leaf_table o.machine (secrets_in s.secrets.now) x p) o.machine (seen_of s) e ps (seen_of s')) (codes-at o 0 lps p d numbered inside)
-          (subst (λ (z : Place). LpTurns (place_table z (secrets_in s.secrets.now) (code_in s.codes.now)) z.machine (seen_of s) e ps (seen_of s')) place moves.3))))
+          subst (λ (x : WordLp). LpTurns (leaf_table o.machine (given_of o) o.codes p) o.machine x e ps (seen_at (set lps p s') p)) (sym (seen-at lps p d inside))
+          (subst (λ (x : WordLp). LpTurns (leaf_table o.machine (given_of o) o.codes p) o.machine (seen_of s) e ps x) (sym (seen-own lps p s' inside))
+          (subst (λ (w : Given). LpTurns (leaf_table o.machine w o.codes p) o.machine (seen_of s) e ps (seen_of s')) (given-at o 0 lps p d numbered inside)
+          (subst (λ (x : ℕ → ℕ → List GuestOp). LpTurns (leaf_table o.machine (given_in s.given) x p) o.machine (seen_of s) e ps (seen_of s')) (codes-at o 0 lps p d numbered inside)
+          (subst (λ (z : Place). LpTurns (place_table z (given_in s.given) (code_in s.codes.now)) z.machine (seen_of s) e ps (seen_of s')) place moves.3))))
 
   -- or nothing, where it has ended
   ended : (t : Table) → IsMidway o schedule (p ∷ rest) lps t → s' ≡ s → (seen_at lps p).lines ≡ [] → IsMidway o schedule rest (set lps p s') t
@@ -159,9 +160,9 @@ module _ (ls : TurnsAreEvents) (o : Opening) (schedule rest : List ℕ) (lps : L
       subst (λ (z : List LpState). IsMidway o schedule rest z t) (sym stay)
       (record { made = l.made; merge = l.merge; same = sym (idle-item o (order l.made) rest p (ended-flat ls o schedule (p ∷ rest) lps t p op l (omega (arith, count)) none)) ∙ l.same })
 
-  numbered-now : s'.place ≡ s.place → s'.secrets.now ≡ s.secrets.now → s'.codes.now ≡ s.codes.now → AreNumbered o 0 (set lps p s')
-  numbered-now same secrets has =
-      numbered-set o 0 lps p s' numbered (same ∙ place-at o 0 lps p d numbered inside) (ap secrets_in secrets ∙ secrets-at o 0 lps p d numbered inside) (ap code_in has ∙ codes-at o 0 lps p d numbered inside)
+  numbered-now : s'.place ≡ s.place → given_in s'.given ≡ given_in s.given → s'.codes.now ≡ s.codes.now → AreNumbered o 0 (set lps p s')
+  numbered-now same given has =
+      numbered-set o 0 lps p s' numbered (same ∙ place-at o 0 lps p d numbered inside) (given ∙ given-at o 0 lps p d numbered inside) (ap code_in has ∙ codes-at o 0 lps p d numbered inside)
 
 -- after a turn its items are the bench's
 pub after-turn : TurnsAreEvents → (o : Opening) (schedule rest : List ℕ) (lps : List LpState) (p : ℕ) (d s' : LpState) (id : TableId) (b b' : SharedBench) → IsOpen o → p < length lps → IsAtBench o schedule (p ∷ rest) lps id (bench_of b)
@@ -179,7 +180,7 @@ after-turn ls o schedule rest lps p d s' id b b' op inside l turn.Ended t h = re
   own = l.own;
   is = t.0 ∙ (ap (λ (z : BenchSeen). with_items z []) l.is ∙ ap (only_bench o.machine id) (append-nil l.own));
   count = length-set lps p s' ∙ l.count;
-  numbered = numbered-now ls o schedule rest lps p d s' op inside l.count l.numbered (ap (λ (z : LpState). z.place) t.1) (ap (λ (z : LpState). z.secrets.now) t.1) (ap (λ (z : LpState). z.codes.now) t.1);
+  numbered = numbered-now ls o schedule rest lps p d s' op inside l.count l.numbered (ap (λ (z : LpState). z.place) t.1) (ap (λ (z : LpState). given_in z.given) t.1) (ap (λ (z : LpState). z.codes.now) t.1);
   midway = λ u play. ended ls o schedule rest lps p d s' op inside l.count l.numbered u (l.midway u play) t.1 (ap (λ (z : WordLp). z.lines) (seen-at lps p d inside) ∙ no-lines (get_or lps p d).lines.now h);
 }
 
@@ -191,9 +192,9 @@ pub table-stays : (o : Opening) (schedule left : List ℕ) (lps : List LpState) 
 table-stays o schedule left lps id b l = ap (λ (z : BenchSeen). z.pass.table) l.is
 
 -- the item of the schedule whose turn it is
-pub item-inside : (secrets : ℕ → ℕ) (script : ScriptSeen) (left : List ℕ) (lps : List LpState) (id : TableId) (b : BenchSeen) (i d p : ℕ) → IsInForm script → IsAtBench (opening_of secrets script) script.schedule left lps id b → i < length script.schedule
+pub item-inside : (given : Given) (script : ScriptSeen) (left : List ℕ) (lps : List LpState) (id : TableId) (b : BenchSeen) (i d p : ℕ) → IsInForm script → IsAtBench (opening_of given script) script.schedule left lps id b → i < length script.schedule
     → p ≡ get_or script.schedule i d → p < length lps
-item-inside secrets script left lps id b i d p form l inside is =
+item-inside given script left lps id b i d p form l inside is =
     let below : get_or script.schedule i d < script.machine.lps = form.items i d inside in
     omega (arith, is, l.count, form.lists)
 
@@ -203,8 +204,8 @@ item-next o schedule lps id b i d p l inside is =
     let next : drop i schedule ≡ p ∷ drop (i + 1) schedule = rw add-one (drop-cons schedule i d inside ∙ ap (λ (x : ℕ). x ∷ drop (suc i) schedule) (sym is)) in
     subst (λ (z : List ℕ). IsAtBench o schedule z lps id b) next l
 
-pub open-of : (secrets : ℕ → ℕ) (script : ScriptSeen) → IsInForm script → IsOpen (opening_of secrets script)
-open-of secrets script form = record { machine = form.machine; few = omega (arith, form.machine.lps.1, form.lists); codes = codes-of secrets script form; slots = form.slots; apart = form.apart }
+pub open-of : (given : Given) (script : ScriptSeen) → IsInForm script → IsOpen (opening_of given script)
+open-of given script form = record { machine = form.machine; few = omega (arith, form.machine.lps.1, form.lists); codes = codes-of given script form; slots = form.slots; apart = form.apart }
 
 -- those before a processor stay at their ends
 pub still-ended : (lps : List LpState) (p : ℕ) (s' : LpState) → HaveEnded p lps → HaveEnded p (set lps p s')
@@ -257,16 +258,16 @@ same-notes (suc n) p f (s ∷ ss) e h =
     ∙ ap (λ zs. map (note_line p) (map note_told (seen_of s).beside.notes) ++ zs) (same-notes n (p + 1) f ss (omega (arith, e)) (λ q i. ap (λ (k : ℕ). (f k).notes) (omega arith) ∙ h (suc q) (omega arith)))
 
 -- one processor more
-pub first-next : (m : Machine) (secrets : List ℕ) (codes : List CodeSeen) (lps : List LpState) (lists : List (Vec Call)) (i : ℕ) (v : Vec Call) (s : LpState) (cs : List Call) → i < length lists → v ≡ get_or lists i v → cs ≡ v.items
-    → AreFirst m secrets codes 0 lps (map (λ list. list.items) (take i lists)) → s.place ≡ record { machine = m; lp = i } → s.secrets.now ≡ secrets → s.codes.now ≡ codes → seen_of s ≡ first_lp cs
-    → AreFirst m secrets codes 0 (lps ++ s ∷ []) (map (λ list. list.items) (take (i + 1) lists))
-first-next m secrets codes lps lists i v s cs inside is calls h place same has seen =
+pub first-next : (m : Machine) (given : Given) (codes : List CodeSeen) (lps : List LpState) (lists : List (Vec Call)) (i : ℕ) (v : Vec Call) (s : LpState) (cs : List Call) → i < length lists → v ≡ get_or lists i v → cs ≡ v.items
+    → AreFirst m given codes 0 lps (map (λ list. list.items) (take i lists)) → s.place ≡ record { machine = m; lp = i } → given_in s.given ≡ given → s.codes.now ≡ codes → seen_of s ≡ first_lp cs
+    → AreFirst m given codes 0 (lps ++ s ∷ []) (map (λ list. list.items) (take (i + 1) lists))
+first-next m given codes lps lists i v s cs inside is calls h place same has seen =
     let items : Vec Call → List Call = λ list. list.items in
-    let count : length lps ≡ i = first-count m secrets codes 0 lps (map items (take i lists)) h ∙ (length-map (take i lists) items ∙ length-take-le i lists (omega arith)) in
+    let count : length lps ≡ i = first-count m given codes 0 lps (map items (take i lists)) h ∙ (length-map (take i lists) items ∙ length-take-le i lists (omega arith)) in
     let all : map items (take (i + 1) lists) ≡ map items (take i lists) ++ cs ∷ [] =
     ap (map items) (take_more lists i v inside) ∙ (map_push items (take i lists) (get_or lists i v) ∙ ap (λ (x : List Call). map items (take i lists) ++ x ∷ []) (ap items (sym is) ∙ sym calls)) in
-    subst (AreFirst m secrets codes 0 (lps ++ s ∷ [])) (sym all)
-    (first-more m secrets codes 0 lps (map items (take i lists)) s cs h (place ∙ ap (λ (k : ℕ). record { machine = m; lp = k }) (omega (arith, count))) same has seen)
+    subst (AreFirst m given codes 0 (lps ++ s ∷ [])) (sym all)
+    (first-more m given codes 0 lps (map items (take i lists)) s cs h (place ∙ ap (λ (k : ℕ). record { machine = m; lp = k }) (omega (arith, count))) same has seen)
 
 -- the lines of one processor more
 pub lines-next : (lps : List LpState) (i : ℕ) (d : LpState) (text lines all : List ℕ) (rs : List Reply) → i < length lps → rs ≡ (seen_of (get_or lps i d)).replies → lines ≡ concat (reply_lines i 1 rs)
@@ -293,21 +294,21 @@ pub first-bench : (b : BenchSeen) (m : Machine) (id : TableId) → b.machine ≡
 first-bench b m id machine pass = λ i. record { machine = machine i; pass = pass i }
 
 -- of a script that was read
-pub starts : (secrets : List ℕ) (script : ScriptSeen) (m : Machine) (codes : List CodeSeen) (lists : List (List Call)) (lps now : List LpState) (id : TableId) (b : BenchSeen) → m ≡ script.machine → codes ≡ script.codes → lists ≡ script.calls → now ≡ lps → b ≡ only_bench m id []
-    → AreFirst m secrets codes 0 lps lists
-    → IsAtBench (opening_of (secrets_in secrets) script) script.schedule script.schedule now b.pass.table b
-starts secrets script m codes lists lps now id b machine has calls same new h =
-    let o : Opening = opening_of (secrets_in secrets) script in
-    let first : AreFirst script.machine secrets script.codes 0 now script.calls =
-    subst (λ (x : List LpState). AreFirst script.machine secrets script.codes 0 x script.calls) (sym same)
-    (subst (AreFirst script.machine secrets script.codes 0 lps) calls (subst (λ (x : List CodeSeen). AreFirst script.machine secrets x 0 lps lists) has (subst (λ (x : Machine). AreFirst x secrets codes 0 lps lists) machine h))) in
+pub starts : (given : Given) (script : ScriptSeen) (m : Machine) (codes : List CodeSeen) (lists : List (List Call)) (lps now : List LpState) (id : TableId) (b : BenchSeen) → m ≡ script.machine → codes ≡ script.codes → lists ≡ script.calls → now ≡ lps → b ≡ only_bench m id []
+    → AreFirst m given codes 0 lps lists
+    → IsAtBench (opening_of given script) script.schedule script.schedule now b.pass.table b
+starts given script m codes lists lps now id b machine has calls same new h =
+    let o : Opening = opening_of given script in
+    let first : AreFirst script.machine given script.codes 0 now script.calls =
+    subst (λ (x : List LpState). AreFirst script.machine given script.codes 0 x script.calls) (sym same)
+    (subst (AreFirst script.machine given script.codes 0 lps) calls (subst (λ (x : List CodeSeen). AreFirst script.machine given x 0 lps lists) has (subst (λ (x : Machine). AreFirst x given codes 0 lps lists) machine h))) in
     let named : b ≡ only_bench m b.pass.table [] = new ∙ ap (λ (z : TableId). only_bench m z []) (sym (ap (λ (z : BenchSeen). z.pass.table) new)) in
     record {
       own = [];
       is = named ∙ ap (λ (x : Machine). only_bench x b.pass.table []) machine;
-      count = first-count o.machine secrets script.codes 0 now o.calls first;
-      numbered = first-numbered o secrets script.codes 0 now o.calls refl refl first;
-      midway = λ t play. at-start o secrets script.codes script.schedule now t first play;
+      count = first-count o.machine given script.codes 0 now o.calls first;
+      numbered = first-numbered o given script.codes 0 now o.calls refl refl first;
+      midway = λ t play. at-start o given script.codes script.schedule now t first play;
     }
 
 pub tells : {E : Type 0} (r : Result Texts E) (out_bundles guest_out : Option (List ℕ)) (lines all container made notes told : List ℕ) → IfOk r (λ t. TellAll out_bundles guest_out lines container notes t) → lines ≡ all → container ≡ made → notes ≡ told
@@ -331,7 +332,7 @@ module _ (ls : TurnsAreEvents) (o : Opening) (schedule : List ℕ) (lps : List L
   end = run o (order now.made)
 
   there : IsWhere o (seen_at lps) end
-  there = (ls.merges.ended o (leaf_table o.machine o.secrets o.codes) now.made (seen_at lps) plays.0 op.few (are-leaves ls o op) op.codes now.merge (λ p i. ended p (omega (arith, l.count)))).1
+  there = (ls.merges.ended o (leaf_table o.machine (given_of o) o.codes) now.made (seen_at lps) plays.0 op.few (are-leaves ls o op) op.codes now.merge (λ p i. ended p (omega (arith, l.count)))).1
 
   count : end.lp_count ≡ length o.calls
   count = counts_stay o (order now.made ++ to_the_end 0 o.calls) (start o None)

@@ -28,7 +28,8 @@ use Rattle.leaf_engine.specs.OwnLists.{Piece, Unmarked, Marked, Wordless, taken_
 use Rattle.leaf_engine.specs.Merges.{Item, part, event_before, step_before, steps_taken, order, no_table}
 use Rattle.merge_laws.specs.Merge.{table_after, MergePlays, Merge}
 use Rattle.merge_laws.specs.Laws.{IsWhere}
-use Rattle.leaf_dispatch.specs.Table.{secrets_in, code_in, leaf_table}
+use Rattle.leaf_table.specs.Given.{Given, given_in, given_of}
+use Rattle.leaf_table.specs.Table.{code_in, leaf_table}
 use Rattle.leaf_dispatch.specs.States.{seen_of, Moves}
 use Rattle.leaf_dispatch.specs.declared.states.LpState.{LpState}
 use Rattle.script_text.specs.Seen.{ScriptSeen}
@@ -43,7 +44,7 @@ use Rattle.run_texts.specs.Replaying.{AreFirst, TurnsAreEvents, seen_at, lines_s
 use Rattle.run_texts.specs.Lanes.{processors_of, benches_of, has_out, IsOther, with_all}
 use Rattle.run_texts.specs.Threaded.{AreOfSomeRun, AreOfThreads}
 use Rattle.run_texts.proofs.Making.{fit-run, fits-there, seals-there}
-use Rattle.run_texts.proofs.Places.{seen-at, place-at, secrets-at, codes-at, first-count, first-numbered, first-seen}
+use Rattle.run_texts.proofs.Places.{seen-at, place-at, given-at, codes-at, first-count, first-numbered, first-seen}
 use Rattle.run_texts.proofs.Replayed.{IsOpen, are-leaves, same-lines, same-notes}
 use Rattle.run_texts.proofs.Lanes.{lists_in, with-all-lists, with-all-out, with-all-table, with-all-first, HasOne, one-at, none-beyond}
 
@@ -117,33 +118,33 @@ empty-list xs e = by (eqb_tells (length xs) 0)
 
 -- Lanes of a script's processors, at benches that the first one made, ran to their ends, and the lists that the first bench then
 -- keeps merge to these words.
-pub record HaveAllRun (o : Opening) (secrets : List ℕ) (codes : List CodeSeen) (first : BenchSeen) (before after : List (Lane LpState)) (words : List ℕ) : Type 0 where
-  pub secret : secrets_in secrets ≡ o.secrets
+pub record HaveAllRun (o : Opening) (given : Given) (codes : List CodeSeen) (first : BenchSeen) (before after : List (Lane LpState)) (words : List ℕ) : Type 0 where
+  pub is_given : given ≡ given_of o
   pub coded : code_in codes ≡ o.codes
-  pub begin : AreFirst o.machine secrets codes 0 (processors_of before) o.calls
+  pub begin : AreFirst o.machine given codes 0 (processors_of before) o.calls
   pub new : All (λ a. bench_of a.bench ≡ new_bench first) before
   pub run : HaveRun (λ s. length s.lines.now == 0) Moves before after
   pub count : length after ≡ length before
   pub closed : MergesTo o.machine ([] ∷ lists_in (benches_of after)) words
 
 -- each lane is at a bench of its processor's machine
-pub fits : (m : Machine) (secrets : List ℕ) (codes : List CodeSeen) (n : ℕ) (first : BenchSeen) (lanes : List (Lane LpState)) (css : List (List Call)) → first.machine ≡ m → AreFirst m secrets codes n (processors_of lanes) css
+pub fits : (m : Machine) (given : Given) (codes : List CodeSeen) (n : ℕ) (first : BenchSeen) (lanes : List (Lane LpState)) (css : List (List Call)) → first.machine ≡ m → AreFirst m given codes n (processors_of lanes) css
     → All (λ a. bench_of a.bench ≡ new_bench first) lanes → All (FitsBench (λ s. s.place.machine)) lanes
-fits m secrets codes n first [] css e h new = All-nil (FitsBench (λ s. s.place.machine))
-fits m secrets codes n first (a ∷ more) [] e h new = absurd h
-fits m secrets codes n first (a ∷ more) (cs ∷ css) e h new =
+fits m given codes n first [] css e h new = All-nil (FitsBench (λ s. s.place.machine))
+fits m given codes n first (a ∷ more) [] e h new = absurd h
+fits m given codes n first (a ∷ more) (cs ∷ css) e h new =
     let here : bench_of a.bench ≡ new_bench first = All-head (λ a. bench_of a.bench ≡ new_bench first) a more new in
     All-cons (FitsBench (λ s. s.place.machine)) a more (ap (λ (z : Place). z.machine) h.0 ∙ (sym e ∙ sym (ap (λ (z : BenchSeen). z.machine) here)))
-    (fits m secrets codes (suc n) first more css e h.4 (All-tail (λ a. bench_of a.bench ≡ new_bench first) a more new))
+    (fits m given codes (suc n) first more css e h.4 (All-tail (λ a. bench_of a.bench ≡ new_bench first) a more new))
 
 -- there is a lane, where there are processors
-pub one-lane : (o : Opening) (secrets : List ℕ) (codes : List CodeSeen) (first : BenchSeen) (before after : List (Lane LpState)) (words : List ℕ) → HaveAllRun o secrets codes first before after words → 0 < length o.calls → Lane LpState
-one-lane o secrets codes first [] after words h some = absurd (let none = first-count o.machine secrets codes 0 [] o.calls h.begin in omega (arith, none, some))
-one-lane o secrets codes first (a ∷ more) after words h some = a
+pub one-lane : (o : Opening) (given : Given) (codes : List CodeSeen) (first : BenchSeen) (before after : List (Lane LpState)) (words : List ℕ) → HaveAllRun o given codes first before after words → 0 < length o.calls → Lane LpState
+one-lane o given codes first [] after words h some = absurd (let none = first-count o.machine given codes 0 [] o.calls h.begin in omega (arith, none, some))
+one-lane o given codes first (a ∷ more) after words h some = a
 
-module _ (ls : TurnsAreEvents) (threads : ThreadsAreRuns) (o : Opening) (op : IsOpen o) (secrets : List ℕ) (codes : List CodeSeen) (first : BenchSeen) (before after : List (Lane LpState)) (words : List ℕ) (h : HaveAllRun o secrets codes first before after words) (some : 0 < length o.calls) where
+module _ (ls : TurnsAreEvents) (threads : ThreadsAreRuns) (o : Opening) (op : IsOpen o) (given : Given) (codes : List CodeSeen) (first : BenchSeen) (before after : List (Lane LpState)) (words : List ℕ) (h : HaveAllRun o given codes first before after words) (some : 0 < length o.calls) where
   abbrev d : Lane LpState
-  d = one-lane o secrets codes first before after words h some
+  d = one-lane o given codes first before after words h some
 
   abbrev was : ℕ → Lane LpState
   was p = slice_index_or before p d
@@ -155,7 +156,7 @@ module _ (ls : TurnsAreEvents) (threads : ThreadsAreRuns) (o : Opening) (op : Is
   lists = [] ∷ lists_in (benches_of after)
 
   counted-before : length before ≡ length o.calls
-  counted-before = sym (length-map before (λ a. a.processor)) ∙ first-count o.machine secrets codes 0 (processors_of before) o.calls h.begin
+  counted-before = sym (length-map before (λ a. a.processor)) ∙ first-count o.machine given codes 0 (processors_of before) o.calls h.begin
 
   counted-after : length after ≡ length o.calls
   counted-after = h.count ∙ counted-before
@@ -191,12 +192,12 @@ module _ (ls : TurnsAreEvents) (threads : ThreadsAreRuns) (o : Opening) (op : Is
   each-ran : (p : ℕ) → p < length o.calls → RanInThread o p (slice_index_or lists (suc p) []) (was p) (is_now p)
   each-ran p lt =
       let inside : p < length (processors_of before) = omega (arith, length-map before (λ a. a.processor), counted-before, lt) in
-      let numbered = first-numbered o secrets codes 0 (processors_of before) o.calls h.secret h.coded h.begin in
+      let numbered = first-numbered o given codes 0 (processors_of before) o.calls h.is_given h.coded h.begin in
       record {
         place = ap (λ (s : LpState). s.place) (sym (processor-was p lt)) ∙ place-at o 0 (processors_of before) p d.processor numbered inside ∙ ap (λ (k : ℕ). record { machine = o.machine; lp = k }) (omega arith);
-        secrets = ap (λ (s : LpState). secrets_in s.secrets.now) (sym (processor-was p lt)) ∙ secrets-at o 0 (processors_of before) p d.processor numbered inside;
+        given = ap (λ (s : LpState). given_in s.given) (sym (processor-was p lt)) ∙ given-at o 0 (processors_of before) p d.processor numbered inside;
         codes = ap (λ (s : LpState). code_in s.codes.now) (sym (processor-was p lt)) ∙ codes-at o 0 (processors_of before) p d.processor numbered inside;
-        first = ap seen_of (sym (processor-was p lt)) ∙ (sym (seen-at (processors_of before) p d.processor inside) ∙ sym (first-seen o.machine secrets codes 0 (processors_of before) o.calls p h.begin));
+        first = ap seen_of (sym (processor-was p lt)) ∙ (sym (seen-at (processors_of before) p d.processor inside) ∙ sym (first-seen o.machine given codes 0 (processors_of before) o.calls p h.begin));
         no_item = ap (λ (b : BenchSeen). b.pass.lists) (h.new p d (omega (arith, counted-before, lt)));
         run = ran p lt;
         list = kept p lt;
@@ -271,28 +272,28 @@ module _ (ls : TurnsAreEvents) (threads : ThreadsAreRuns) (o : Opening) (op : Is
       lists = λ p lt. record { turns = one-run.merge.own p; last = now p; lead = one-run.merge.turns p lt; over = over p lt; is = refl };
       made = one-run.made;
       table = one-run.table;
-      ordered = record { merge = one-run.merge.merge; plays = ls.merges.none_misses o (leaf_table o.machine o.secrets o.codes) one-run.made now one-run.table op.few (are-leaves ls o op) op.codes one-run.merge };
+      ordered = record { merge = one-run.merge.merge; plays = ls.merges.none_misses o (leaf_table o.machine (given_of o) o.codes) one-run.made now one-run.table op.few (are-leaves ls o op) op.codes one-run.merge };
       each = λ made u ordered.
-          let merge : Merge o (leaf_table o.machine o.secrets o.codes) made now u =
+          let merge : Merge o (leaf_table o.machine (given_of o) o.codes) made now u =
           record { own = one-run.merge.own; turns = one-run.merge.turns; merge = ordered.merge; plays = plays-alone made no_table u ordered.plays } in
-          tells-run (order made) (ls.merges.ended o (leaf_table o.machine o.secrets o.codes) made now u op.few (are-leaves ls o op) op.codes merge over).1;
+          tells-run (order made) (ls.merges.ended o (leaf_table o.machine (given_of o) o.codes) made now u op.few (are-leaves ls o op) op.codes merge over).1;
     }
 
 -- of a script that was read
-pub begins : (script : ScriptSeen) (m : Machine) (secrets : List ℕ) (codes : List CodeSeen) (lists : List (List Call)) (lps now : List LpState) → m ≡ script.machine → codes ≡ script.codes → lists ≡ script.calls → now ≡ lps → AreFirst m secrets codes 0 lps lists
-    → AreFirst script.machine secrets script.codes 0 now script.calls
-begins script m secrets codes lists lps now machine has calls same h =
-    subst (λ (x : List LpState). AreFirst script.machine secrets script.codes 0 x script.calls) (sym same)
-    (subst (AreFirst script.machine secrets script.codes 0 lps) calls (subst (λ (x : List CodeSeen). AreFirst script.machine secrets x 0 lps lists) has (subst (λ (x : Machine). AreFirst x secrets codes 0 lps lists) machine h)))
+pub begins : (script : ScriptSeen) (m : Machine) (given : Given) (codes : List CodeSeen) (lists : List (List Call)) (lps now : List LpState) → m ≡ script.machine → codes ≡ script.codes → lists ≡ script.calls → now ≡ lps → AreFirst m given codes 0 lps lists
+    → AreFirst script.machine given script.codes 0 now script.calls
+begins script m given codes lists lps now machine has calls same h =
+    subst (λ (x : List LpState). AreFirst script.machine given script.codes 0 x script.calls) (sym same)
+    (subst (AreFirst script.machine given script.codes 0 lps) calls (subst (λ (x : List CodeSeen). AreFirst script.machine given x 0 lps lists) has (subst (λ (x : Machine). AreFirst x given codes 0 lps lists) machine h)))
 
 pub told-of : {E : Type 0} (P Q : Texts → Type 0) (r : Result Texts E) → ((t : Texts) → P t → Q t) → IfOk r P → IfOk r Q
 told-of P Q (Ok t) f h = f t h
 told-of P Q (Err e) f h = tt
 
 -- how many processors there are
-pub few-first : (script : ScriptSeen) (m : Machine) (secrets : List ℕ) (codes : List CodeSeen) (lists : List (List Call)) (lps : List LpState) → IsInForm script → lists ≡ script.calls → AreFirst m secrets codes 0 lps lists → length lps ≤ 8
-few-first script m secrets codes lists lps form calls h =
-    let count = first-count m secrets codes 0 lps lists h in
+pub few-first : (script : ScriptSeen) (m : Machine) (given : Given) (codes : List CodeSeen) (lists : List (List Call)) (lps : List LpState) → IsInForm script → lists ≡ script.calls → AreFirst m given codes 0 lps lists → length lps ≤ 8
+few-first script m given codes lists lps form calls h =
+    let count = first-count m given codes 0 lps lists h in
     let all : length lists ≡ length script.calls = ap length calls in
     omega (arith, count, all, form.lists, form.machine.lps.1)
 
@@ -334,14 +335,14 @@ closes pass first out all id bs n begin made took count is =
     let none : pass.out ≡ 0 = ap (λ (q : PassSeen). q.out) whole ∙ with-all-out out bs (count ∙ sym (ap (λ (q : PassSeen). q.out) had)) in
     λ i. record { table = table i; first = is_first i; lists = lists i; out = none i }
 
-pub all-have-run : (script : ScriptSeen) (m m' : Machine) (secrets : List ℕ) (codes : List CodeSeen) (lists : List (List Call)) (states : List LpState) (first : BenchSeen) (lanes before after now : List (Lane LpState)) (kept : List (List Taken)) (words : List ℕ)
-    → m ≡ script.machine → codes ≡ script.codes → lists ≡ script.calls → AreFirst m secrets codes 0 states lists → processors_of lanes ≡ states → All (λ a. bench_of a.bench ≡ new_bench first) lanes
+pub all-have-run : (script : ScriptSeen) (m m' : Machine) (given : Given) (codes : List CodeSeen) (lists : List (List Call)) (states : List LpState) (first : BenchSeen) (lanes before after now : List (Lane LpState)) (kept : List (List Taken)) (words : List ℕ)
+    → m ≡ script.machine → codes ≡ script.codes → lists ≡ script.calls → AreFirst m given codes 0 states lists → processors_of lanes ≡ states → All (λ a. bench_of a.bench ≡ new_bench first) lanes
     → before ≡ lanes → HaveRun (λ s. length s.lines.now == 0) Moves before after → length after ≡ length before → now ≡ after → m' ≡ m → kept ≡ [] ∷ lists_in (benches_of now) → MergesTo m' kept words
-    → HaveAllRun (opening_of (secrets_in secrets) script) secrets script.codes first lanes now words
-all-have-run script m m' secrets codes lists states first lanes before after now kept words machine has calls begin same new were run count is machine' lists' closed = record {
-  secret = refl;
+    → HaveAllRun (opening_of given script) given script.codes first lanes now words
+all-have-run script m m' given codes lists states first lanes before after now kept words machine has calls begin same new were run count is machine' lists' closed = record {
+  is_given = refl;
   coded = refl;
-  begin = begins script m secrets codes lists states (processors_of lanes) machine has calls same begin;
+  begin = begins script m given codes lists states (processors_of lanes) machine has calls same begin;
   new = new;
   run = subst (λ (zs : List (Lane LpState)). HaveRun (λ s. length s.lines.now == 0) Moves lanes zs) (sym is) (subst (λ (zs : List (Lane LpState)). HaveRun (λ s. length s.lines.now == 0) Moves zs after) were run);
   count = ap length is ∙ (count ∙ ap length were);

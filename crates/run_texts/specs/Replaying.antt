@@ -19,24 +19,25 @@ use Rattle.leaf_engine.specs.OwnLists.{TurnsInPieces, WordLp, first_lp}
 use Rattle.leaf_engine.specs.Merges.{Item, order}
 use Rattle.merge_laws.specs.Merge.{Merge}
 use Rattle.merge_laws.specs.Laws.{MergesAreRuns}
-use Rattle.leaf_dispatch.specs.Table.{secrets_in, code_in, leaf_table}
-use Rattle.leaf_dispatch.specs.Laws.{CallsHaveLeaves}
+use Rattle.leaf_table.specs.Given.{Given, given_in, given_of}
+use Rattle.leaf_table.specs.Table.{code_in, leaf_table}
+use Rattle.leaf_table.specs.Laws.{CallsHaveLeaves}
 use Rattle.leaf_dispatch.specs.States.{seen_of}
 use Rattle.leaf_dispatch.specs.declared.states.LpState.{LpState}
 use Rattle.run_texts.specs.declared.replay.Texts.{Texts}
 
--- these are a machine's processors from number n on, with the opening's secret words and lists of operations
+-- these are a machine's processors from number n on, with the opening's secret words, bundles and lists of operations
 abbrev pub AreNumbered : Opening → ℕ → List LpState → Type 0
 AreNumbered o n [] = Unit {0}
-AreNumbered o n (s ∷ ss) = (s.place ≡ record { machine = o.machine; lp = n }) × (secrets_in s.secrets.now ≡ o.secrets) × (code_in s.codes.now ≡ o.codes) × AreNumbered o (suc n) ss
+AreNumbered o n (s ∷ ss) = (s.place ≡ record { machine = o.machine; lp = n }) × (given_in s.given ≡ given_of o) × (code_in s.codes.now ≡ o.codes) × AreNumbered o (suc n) ss
 
 -- and each is at the first of its calls
-abbrev pub AreFirst : Machine → (secrets : List ℕ) → List CodeSeen → ℕ → List LpState → List (List Call) → Type 0
-AreFirst m secrets codes n [] [] = Unit {0}
-AreFirst m secrets codes n [] (cs ∷ css) = ⊥
-AreFirst m secrets codes n (s ∷ ss) [] = ⊥
-AreFirst m secrets codes n (s ∷ ss) (cs ∷ css) =
-    (s.place ≡ record { machine = m; lp = n }) × (s.secrets.now ≡ secrets) × (s.codes.now ≡ codes) × (seen_of s ≡ first_lp cs) × AreFirst m secrets codes (suc n) ss css
+abbrev pub AreFirst : Machine → Given → List CodeSeen → ℕ → List LpState → List (List Call) → Type 0
+AreFirst m given codes n [] [] = Unit {0}
+AreFirst m given codes n [] (cs ∷ css) = ⊥
+AreFirst m given codes n (s ∷ ss) [] = ⊥
+AreFirst m given codes n (s ∷ ss) (cs ∷ css) =
+    (s.place ≡ record { machine = m; lp = n }) × (given_in s.given ≡ given) × (s.codes.now ≡ codes) × (seen_of s ≡ first_lp cs) × AreFirst m given codes (suc n) ss css
 
 -- what is seen of them, by number
 abbrev pub seen_at : List LpState → ℕ → WordLp
@@ -67,7 +68,7 @@ TellAll out_bundles guest_out replies container notes t =
 -- are left, lead to the end of the flat machine's run under the schedule.
 pub record IsMidway (o : Opening) (schedule left : List ℕ) (lps : List LpState) (t : Table) : Type 0 where
   pub made : List Item
-  pub merge : Merge o (leaf_table o.machine o.secrets o.codes) made (seen_at lps) t
+  pub merge : Merge o (leaf_table o.machine (given_of o) o.codes) made (seen_at lps) t
   pub same : run o (order made ++ left) ≡ run o schedule
 
 -- the first bench of a table, with this list of its own and none that it took in or has out

@@ -8,7 +8,8 @@ use Rattle.flat_core.specs.GuestText.{guest_text}
 use Rattle.step_core.specs.Items.{Table, PlaysTo}
 use Rattle.leaf_engine.specs.OwnLists.{Piece, joined, WordLp, first_lp, OwnTurns}
 use Rattle.leaf_engine.specs.Merges.{Item, IsMerge, steps_taken, order, no_table}
-use Rattle.leaf_dispatch.specs.Table.{leaf_table}
+use Rattle.leaf_table.specs.Given.{given_of}
+use Rattle.leaf_table.specs.Table.{leaf_table}
 use Rattle.run_texts.specs.declared.replay.Texts.{Texts}
 use Rattle.run_texts.specs.Sealing.{bundles_text}
 use Rattle.run_texts.specs.Replaying.{TellAll}
@@ -25,7 +26,7 @@ pub record AreOfSomeRun (o : Opening) (forward backward : List ℕ) (out_bundles
 pub record IsOwnList (o : Opening) (p : ℕ) (own : List Piece) : Type 0 where
   pub turns : List (List Piece)
   pub last : WordLp
-  pub lead : OwnTurns (leaf_table o.machine o.secrets o.codes p) o.machine (first_lp (calls_of o.calls p)) turns last
+  pub lead : OwnTurns (leaf_table o.machine (given_of o) o.codes p) o.machine (first_lp (calls_of o.calls p)) turns last
   pub over : last.lines ≡ []
   pub is : own ≡ joined turns
 

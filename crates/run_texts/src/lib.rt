@@ -4,7 +4,8 @@
 //! Stands on `leaf_dispatch`, whose `LpState` makes a processor's turns, on `trace_table`, whose table
 //! they are made on, on `merge_laws`, by which turns over words are a run of the flat machine, and on
 //! `bundle_texts`, which seals its bundles. A layer above may use that the texts of `replay_texts` are
-//! those of the flat machine's run under the script's schedule.
+//! those of the flat machine's run under the script's schedule, from the opening that has what the run
+//! is given: secret words, and the bundles that come in.
 #![tactic(auto)]
 
 mod key_pairs;

@@ -10,7 +10,7 @@ ghost use Rattle.script_text.specs.Laws.{IsInForm};
 ghost use Rattle.leaf_dispatch.specs.Inside.{AreOperations};
 ghost use Rattle.leaf_dispatch.specs.FirstLists.{AreFirstLists};
 ghost use Rattle.trace_table.specs.Benches.{bench_of};
-ghost use Rattle.leaf_dispatch.specs.Table.{secrets_in};
+ghost use Rattle.leaf_table.specs.Given.{given_in};
 ghost use Rattle.run_texts.specs.Openings.{opening_of};
 ghost use Rattle.run_texts.specs.Sealing.{bundles_seen, bundles_text};
 ghost use Rattle.run_texts.specs.Replaying.{AreFirst, IsAtBench, HaveEnded, TurnsAreEvents, lines_seen, notes_seen, TellAll};
@@ -20,8 +20,9 @@ use crate::noted::noted_lines;
 use crate::sealed::sealed_bundles;
 use flat_bundles::bundle_law;
 use flat_core::{end_laws, event_laws};
-use leaf_dispatch::{FirstLists, LpState, calls_have_leaves};
+use leaf_dispatch::{FirstLists, LpState};
 use leaf_engine::{Processor, Turn, turns_in_pieces};
+use leaf_table::{Given, calls_have_leaves};
 use merge_laws::merge_law;
 use report_text::host_lines;
 use script_text::Script;
@@ -41,13 +42,13 @@ pub(crate) fn laws_of_turns()
     bundle_law();
 }
 
-// The processors of a machine, each at the first of its calls, with the secret words, and with the lists
-// of operations and where they stand.
+// The processors of a machine, each at the first of its calls, with what the run is given, and with the
+// lists of operations and where they stand.
 pub(crate) fn processors<'a>(
     alloc: Global,
     machine: Machine,
     codes: &'a [Code],
-    secrets: &'a [u64],
+    given: Given<'a>,
     first_lists: &'a FirstLists,
     lists: &'a [Vec<Call>],
 ) -> Result<Vec<LpState<'a>>, OutOfMemory>
@@ -55,9 +56,8 @@ pub(crate) fn processors<'a>(
     requires few { length lists.now ≤ 8 }
     requires short { All (λ list. length list.items < 2 ^ 32) lists.now }
     requires limits { AreOperations codes.now }
-    requires secrets { length secrets.now ≡ 512 }
     requires first_lists { AreFirstLists codes.now first_lists.now }
-    ensures { IfOk result (λ v. AreFirst machine secrets.now codes.now 0 v.items (map (λ list. list.items) lists.now)) }
+    ensures { IfOk result (λ v. AreFirst machine (given_in given.entry) codes.now 0 v.items (map (λ list. list.items) lists.now)) }
 {
     let Ok(mut lps) = Vec::with_capacity(alloc, lists.len()) else {
         return Err(OutOfMemory);
@@ -68,7 +68,7 @@ pub(crate) fn processors<'a>(
             machine,
             lp as u8,
             codes,
-            secrets,
+            given,
             first_lists,
             &lists[lp],
         )?;
@@ -82,15 +82,15 @@ pub(crate) fn processors<'a>(
 // One turn for each item of the schedule.
 fn follow_schedule(
     script: &Script,
-    secrets: &[u64],
+    given: Given<'_>,
     lps: &mut [LpState<'_>],
     bench: &mut SharedBench<'_>,
 )
     requires form { IsInForm script.now }
-    requires left { IsAtBench (opening_of (secrets_in secrets.now) script.now) script.now.schedule script.now.schedule lps.old (bench_of bench.old).pass.table (bench_of bench.old) }
-    ensures { IsAtBench (opening_of (secrets_in secrets.now) script.now) script.now.schedule [] lps.new (bench_of bench.old).pass.table (bench_of bench.new) }
+    requires left { IsAtBench (opening_of (given_in given) script.now) script.now.schedule script.now.schedule lps.old (bench_of bench.old).pass.table (bench_of bench.old) }
+    ensures { IsAtBench (opening_of (given_in given.entry) script.now) script.now.schedule [] lps.new (bench_of bench.old).pass.table (bench_of bench.new) }
 {
-    let _words = secrets.len();
+    let _secrets = given.secrets;
     laws_of_turns();
     for item in 0..script.schedule.len() {
         lps[usize::from(script.schedule[item])].turn(bench);
@@ -100,7 +100,7 @@ fn follow_schedule(
 // The turns of a processor up to its end, where those before it have ended.
 fn finish(
     script: &Script,
-    secrets: &[u64],
+    given: Given<'_>,
     lps: &mut [LpState<'_>],
     lp: usize,
     bench: &mut SharedBench<'_>,
@@ -108,12 +108,12 @@ fn finish(
     requires form { IsInForm script.now }
     requires lp { lp < length lps.old }
     requires ended { HaveEnded lp lps.old }
-    requires left { IsAtBench (opening_of (secrets_in secrets.now) script.now) script.now.schedule [] lps.old (bench_of bench.old).pass.table (bench_of bench.old) }
+    requires left { IsAtBench (opening_of (given_in given) script.now) script.now.schedule [] lps.old (bench_of bench.old).pass.table (bench_of bench.old) }
     ensures count { length lps.new ≡ length lps.old }
     ensures ended { HaveEnded (lp + 1) lps.new }
-    ensures left { IsAtBench (opening_of (secrets_in secrets.now) script.now) script.now.schedule [] lps.new (bench_of bench.old).pass.table (bench_of bench.new) }
+    ensures left { IsAtBench (opening_of (given_in given.entry) script.now) script.now.schedule [] lps.new (bench_of bench.old).pass.table (bench_of bench.new) }
 {
-    let _words = secrets.len();
+    let _secrets = given.secrets;
     laws_of_turns();
     while let Turn::Moved(_) = lps[lp].turn(bench) {}
 }
@@ -121,17 +121,17 @@ fn finish(
 // Each processor to its end, in number order.
 fn finish_all(
     script: &Script,
-    secrets: &[u64],
+    given: Given<'_>,
     lps: &mut [LpState<'_>],
     bench: &mut SharedBench<'_>,
 )
     requires form { IsInForm script.now }
-    requires left { IsAtBench (opening_of (secrets_in secrets.now) script.now) script.now.schedule [] lps.old (bench_of bench.old).pass.table (bench_of bench.old) }
+    requires left { IsAtBench (opening_of (given_in given) script.now) script.now.schedule [] lps.old (bench_of bench.old).pass.table (bench_of bench.old) }
     ensures ended { HaveEnded (length lps.new) lps.new }
-    ensures left { IsAtBench (opening_of (secrets_in secrets.now) script.now) script.now.schedule [] lps.new (bench_of bench.old).pass.table (bench_of bench.new) }
+    ensures left { IsAtBench (opening_of (given_in given.entry) script.now) script.now.schedule [] lps.new (bench_of bench.old).pass.table (bench_of bench.new) }
 {
     for lp in 0..lps.len() {
-        finish(script, secrets, lps, lp, bench);
+        finish(script, given, lps, lp, bench);
     }
 }
 
@@ -210,19 +210,18 @@ pub(crate) fn all_texts(
     })
 }
 
-/// The texts of a script's run under its schedule, with 512 secret words, and with two keys for its
-/// bundles.
+/// The texts of a script's run under its schedule, with secret words and bundles that come in, and with
+/// two keys for the bundles that it makes.
 pub fn replay_texts(
     alloc: Global,
     script: &Script,
-    secrets: &[u64],
+    given: Given<'_>,
     keys: &KeyPair,
     out_bundles: Option<&str>,
     guest_out: Option<&str>,
 ) -> Result<Texts, OutOfMemory>
     requires form { IsInForm script.now }
-    requires secrets { length secrets.now ≡ 512 }
-    ensures { IfOk result (λ t. TellAll (option_map (λ name. name.now) out_bundles.entry) (option_map (λ name. name.now) guest_out.entry) (host_text (opening_of (secrets_in secrets.now) script.now) script.now.schedule) (bundles_text keys.now.forward keys.now.backward (opening_of (secrets_in secrets.now) script.now) script.now.schedule) (guest_text (opening_of (secrets_in secrets.now) script.now) script.now.schedule) t) }
+    ensures { IfOk result (λ t. TellAll (option_map (λ name. name.now) out_bundles.entry) (option_map (λ name. name.now) guest_out.entry) (host_text (opening_of (given_in given.entry) script.now) script.now.schedule) (bundles_text keys.now.forward keys.now.backward (opening_of (given_in given.entry) script.now) script.now.schedule) (guest_text (opening_of (given_in given.entry) script.now) script.now.schedule) t) }
 {
     laws_of_turns();
     let codes: &[Code] = &script.codes;
@@ -231,15 +230,15 @@ pub fn replay_texts(
         alloc,
         script.machine,
         codes,
-        secrets,
+        given,
         &first_lists,
         &script.calls,
     )?;
     let lps = states.as_mut_slice();
     let (table, pass) = SharedTable::start(alloc, script.machine)?;
     let mut bench = SharedBench::new(&table, pass);
-    follow_schedule(script, secrets, lps, &mut bench);
-    finish_all(script, secrets, lps, &mut bench);
+    follow_schedule(script, given, lps, &mut bench);
+    finish_all(script, given, lps, &mut bench);
     let pass = bench.into_pass();
     table.close(pass);
     all_texts(alloc, keys, out_bundles, guest_out, lps)

@@ -4,7 +4,7 @@ ghost use Rattle.std.specs.Prelude.{◌≡◌, ◌≤◌, true, length, option_m
 ghost use Rattle.std.specs.List.{All};
 ghost use Rattle.script_text.specs.Laws.{IsInForm};
 ghost use Rattle.trace_table.specs.Benches.{bench_of, new_bench};
-ghost use Rattle.leaf_dispatch.specs.Table.{secrets_in};
+ghost use Rattle.leaf_table.specs.Given.{given_in};
 ghost use Rattle.run_texts.specs.Openings.{opening_of};
 ghost use Rattle.run_texts.specs.Lanes.{processors_of, benches_of, has_out, IsOther, with_all};
 ghost use Rattle.run_texts.specs.Threaded.{AreOfSomeRun, AreOfThreads};
@@ -13,6 +13,7 @@ use crate::key_pairs::KeyPair;
 use crate::replay::{Texts, all_texts, laws_of_turns, processors};
 use leaf_dispatch::{FirstLists, LpState};
 use leaf_engine::Gate;
+use leaf_table::Given;
 use lp_threads::{Lane, run_all};
 use script_text::Script;
 use std::alloc::Global;
@@ -78,22 +79,21 @@ fn taken_in<'t, 'a>(
 }
 
 /// The texts of a script's run with a thread for each of its processors, or as far as threads can be
-/// made, with 512 secret words, and with two keys for its bundles. Each processor runs to the end of its
-/// calls; before each of its turns the gate is asked.
+/// made, with secret words and bundles that come in, and with two keys for the bundles that it makes.
+/// Each processor runs to the end of its calls; before each of its turns the gate is asked.
 pub fn threaded_texts<R: Threads + Sync, G: Gate + Sync>(
     threads: &R,
     alloc: Global,
     script: &Script,
-    secrets: &[u64],
+    given: Given<'_>,
     keys: &KeyPair,
     out_bundles: Option<&str>,
     guest_out: Option<&str>,
     gate: &G,
 ) -> Result<Texts, OutOfMemory>
     requires form { IsInForm script.now }
-    requires secrets { length secrets.now ≡ 512 }
-    ensures some { IfOk result (λ t. AreOfSomeRun (opening_of (secrets_in secrets.now) script.now) keys.now.forward keys.now.backward (option_map (λ name. name.now) out_bundles.entry) (option_map (λ name. name.now) guest_out.entry) t) }
-    ensures each { IfOk result (λ t. AreOfThreads (opening_of (secrets_in secrets.now) script.now) keys.now.forward keys.now.backward (option_map (λ name. name.now) out_bundles.entry) (option_map (λ name. name.now) guest_out.entry) t) }
+    ensures some { IfOk result (λ t. AreOfSomeRun (opening_of (given_in given.entry) script.now) keys.now.forward keys.now.backward (option_map (λ name. name.now) out_bundles.entry) (option_map (λ name. name.now) guest_out.entry) t) }
+    ensures each { IfOk result (λ t. AreOfThreads (opening_of (given_in given.entry) script.now) keys.now.forward keys.now.backward (option_map (λ name. name.now) out_bundles.entry) (option_map (λ name. name.now) guest_out.entry) t) }
 {
     laws_of_turns();
     threads_are_runs();
@@ -103,7 +103,7 @@ pub fn threaded_texts<R: Threads + Sync, G: Gate + Sync>(
         alloc,
         script.machine,
         codes,
-        secrets,
+        given,
         &first_lists,
         &script.calls,
     )?;

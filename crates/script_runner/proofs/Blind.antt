@@ -7,21 +7,22 @@ use Rattle.isol_laws.specs.Worlds.{BlindRunsPrintTheSame, BlindRunsMakeTheSameBu
 use Rattle.bundle_store.specs.History.{Loaded, Put}
 use Rattle.script_text.specs.Seen.{ScriptSeen}
 use Rattle.command_files.specs.Commands.{CommandSeen, Replay, Run, Check}
-use Rattle.run_texts.specs.Openings.{opening_of}
-use Rattle.script_runner.specs.Ending.{success_end, handed_held, HandedOut}
+use Rattle.script_runner.specs.Ending.{success_end, handed_held, HandedOut, opening_by}
 use Rattle.script_runner.specs.Saving.{Writes}
 use Rattle.script_runner.specs.Blind.{IsBlind, HasBlindText}
 use Rattle.script_runner.specs.Ends.{OneRun, ShowsBlind}
 use Rattle.script_runner.specs.Done.{PutsRun, PutsAndSaved, PutsBlind, PutsHeadline}
+use Rattle.mig_laws.specs.Image.{ImageLaw}
 use Rattle.script_runner.proofs.Accesses.{own-accesses}
+use Rattle.script_runner.proofs.Images.{starts-from-pauses}
 
 module _ (prints : BlindRunsPrintTheSame) (bundles : BlindRunsMakeTheSameBundles) (agreeing : AgreeingRunsShowTheSame) where
   blind_text : (o : Opening) (order : List ℕ) → IsBlind o order (host_text o order)
   blind_text o order = record { zeros = prints o order; bundles = bundles o order; others = λ q agree told. (agreeing o q order agree told).0 }
 
   has_blind_text : (k : CommandSeen) (s : ScriptSeen) (handed : HandedOut) (order : List ℕ) → HasBlindText k s handed order (success_end k s handed order).text
-  has_blind_text (Replay n) s handed order = blind_text (opening_of handed.secrets s) order
-  has_blind_text (Run n) s handed order = blind_text (opening_of handed.secrets s) order
+  has_blind_text (Replay n) s handed order = blind_text (opening_by handed s) order
+  has_blind_text (Run n) s handed order = blind_text (opening_by handed s) order
   has_blind_text (Check name) s handed order = tt
 
   pub put-blind : (c : Option CommandSeen) (loads loads' : List Loaded) (puts puts' : List Put) → PutsRun c loads loads' puts puts' (Ok tt) → PutsBlind c loads loads' puts puts'
@@ -34,9 +35,15 @@ module _ (prints : BlindRunsPrintTheSame) (bundles : BlindRunsMakeTheSameBundles
   one-blind (Some k) c old new w w' h =
       (h, has_blind_text h.command h.script (handed_held k h.command) h.order)
 
-  -- of the same run, with its accesses
-  pub headline : AccessesAreOwn → (c : Option CommandSeen) (loads loads' : List Loaded) (puts puts' : List Put) (w w' : Writes) → PutsAndSaved c loads loads' puts puts' w w'
+  -- of the same run, with its accesses and with what it committed
+  pub headline : AccessesAreOwn → ImageLaw → (c : Option CommandSeen) (loads loads' : List Loaded) (puts puts' : List Put) (w w' : Writes) → PutsAndSaved c loads loads' puts puts' w w'
       → PutsHeadline c loads loads' puts puts' w w'
-  headline law c loads loads' puts puts' w w' h =
+  headline law image c loads loads' puts puts' w w' h =
       let r = h.0 in
-      record { run = r; saved = h.1; accesses = own-accesses law (opening_of r.handed.secrets r.script) r.order; blind = has_blind_text r.command r.script r.handed r.order }
+      record {
+        run = r;
+        saved = h.1;
+        accesses = own-accesses law (opening_by r.handed r.script) r.order;
+        blind = has_blind_text r.command r.script r.handed r.order;
+        images = starts-from-pauses image (opening_by r.handed r.script) r.order;
+      }

@@ -23,16 +23,15 @@ use Rattle.command_files.specs.declared.inputs.InputFault.{InputFault}
 use Rattle.command_files.specs.declared.inputs.InputFault.TheVariants as fault
 use Rattle.command_files.specs.declared.inputs.Inputs.{Inputs}
 use Rattle.command_files.specs.Commands.{NamedSeen, CommandSeen, Replay, Run, Check, named_of, script_name}
-use Rattle.command_files.specs.Inputs.{Reads, Loads, LoadsNamed, LoadsNext, TakesInputs, AreSecrets, IsDue, due, load_fault, unread_fault, form_fault, container_fault, length_fault, keys_fault, secrets_fault, place_fault, first, keys_in}
+use Rattle.command_files.specs.Inputs.{Reads, Loads, LoadsNamed, LoadsNext, TakesInputs, AreSecrets, IsDue, due, load_fault, unread_fault, form_fault, container_fault, length_fault, keys_fault, secrets_fault, place_fault, first, bundles_read, bundles_in, keys_in}
 use Rattle.script_runner.specs.declared.ending.Ending.{Ending}
-use Rattle.run_texts.specs.Openings.{opening_of}
-use Rattle.script_runner.specs.Ending.{ToSave, Ended, ending_seen, file_named, usage_end, bad_end, unread_end, memory_end, container_end, keys_end, secrets_end, run_end, success_end, name_in, input_name, IsOrderOf, HandedOut, keys_or_none, no_keys}
+use Rattle.script_runner.specs.Ending.{ToSave, Ended, ending_seen, file_named, usage_end, bad_end, unread_end, memory_end, container_end, keys_end, secrets_end, run_end, success_end, name_in, input_name, IsOrderOf, HandedOut, opening_by, keys_or_none, no_keys}
 use Rattle.script_runner.specs.Saving.{named_once, outs_of, out_names}
 use Rattle.script_runner.specs.Ends.{IsRead}
 use Rattle.script_runner.specs.Threads.{ThreadsOf}
-use Rattle.script_runner.specs.Done.{LoadsOnce, LoadsFirst, IsFirstFault, IsUnread, AreHandedOut, AreWordsHandedOut, AreKeysHandedOut}
+use Rattle.script_runner.specs.Done.{LoadsOnce, LoadsFirst, IsFirstFault, IsUnread, AreHandedOut, AreWordsHandedOut, AreKeysHandedOut, AreBundlesHandedOut}
 use Rattle.script_runner.specs.Commanded.{Comes, AnswerEnd, ReadEnd, ScriptEnd, NamedEnd, InputsEnd, EndsRun, handed_in}
-use Rattle.script_runner.proofs.Named.{secrets_of, input_of, success_of, keys_of_command}
+use Rattle.script_runner.proofs.Named.{secrets_of, input_of, success_of, keys_of_command, bundles_of_command}
 use Rattle.script_runner.proofs.Due.{first_cases}
 use Rattle.command_files.specs.declared.inputs.KeyBytes.{KeyBytes}
 use Rattle.run_texts.specs.Sealing.{bundles_text}
@@ -300,6 +299,33 @@ keys_handed contents needed (Some n) old (Some (Err load.TooLong)) new r' l fine
 keys_handed contents needed (Some n) old (Some (Err load.Failed)) new r' l fine right loads more later grew after = absurd (cc)
 keys_handed contents needed (Some n) old (Some (Err load.OutOfMemory)) new r' l fine right loads more later grew after = absurd (cc)
 
+-- ---- bundles
+
+read_is : (r : Result (List BundleSeen) ℕ) → place_fault r ≡ None → r ≡ Ok (bundles_read r)
+read_is (Ok bundles) h = refl
+read_is (Err place) h = absurd (cc)
+
+-- the bundles that were taken are those of the container that a load handed out
+bundles_handed : (contents : Option (List ℕ → Option (List ℕ))) (name : Option (List ℕ)) (old : Reads) (a : Option (Result (Vec ℕ) LoadFault)) (new r' : Reads) → LoadsNamed contents (2 ^ 29) name old a new
+    → load_fault input.Bundles a ≡ None → container_fault a ≡ None → (loads more later : List Loaded) → old.loads ≡ loads ++ more → r'.loads ≡ new.loads ++ later
+    → AreBundlesHandedOut name loads r'.loads (bundles_in a)
+bundles_handed contents None old None new r' l fine right loads more later grew after = refl
+bundles_handed contents None old (Some x) new r' l fine right loads more later grew after = absurd l
+bundles_handed contents (Some n) old None new r' l fine right loads more later grew after = absurd l
+bundles_handed contents (Some n) old (Some (Ok v)) new r' l fine right loads more later grew after = (
+  more,
+  v,
+  (
+    later,
+    after ∙ ap (λ (z : List Loaded). z ++ later) (l.noted ∙ ap (λ (z : List Loaded). z ++ record { name = n; answer = Ok v } ∷ []) grew) ∙ append_assoc (loads ++ more) (record { name = n; answer = Ok v } ∷ []) later,
+  ),
+  read_is (container_in v.items) right,
+)
+bundles_handed contents (Some n) old (Some (Err load.Absent)) new r' l fine right loads more later grew after = absurd (cc)
+bundles_handed contents (Some n) old (Some (Err load.TooLong)) new r' l fine right loads more later grew after = absurd (cc)
+bundles_handed contents (Some n) old (Some (Err load.Failed)) new r' l fine right loads more later grew after = absurd (cc)
+bundles_handed contents (Some n) old (Some (Err load.OutOfMemory)) new r' l fine right loads more later grew after = absurd (cc)
+
 -- ---- the whole
 
 module _ (contents : Option (List ℕ → Option (List ℕ))) (k : CommandSeen) (c : NamedSeen) (has : named_of k ≡ Some c) (r b r' : Reads) (given : Vec ℕ)
@@ -346,7 +372,7 @@ module _ (contents : Option (List ℕ → Option (List ℕ))) (k : CommandSeen) 
 
   -- what the inputs of a script came to
   inputs_came : (s : ScriptSeen) (res : Result Inputs InputFault) (e : Ended) → read_of given.items ≡ Ok s → TakesInputs contents (needs_keys s.calls) c b r' res → InputsEnd k c s res e → Came contents (Some k) r r' e
-  inputs_came s res e reads t ends = by res t.is_due t.words t.key_bytes ends
+  inputs_came s res e reads t ends = by res t.is_due t.words t.key_bytes t.bundle_list ends
     where
       bundles_more : (more : List Loaded) × (t.behind_bundles.loads ≡ b.loads ++ more)
       bundles_more = more_loads contents (2 ^ 29) c.bundles b t.bundles t.behind_bundles t.bundles_loaded
@@ -393,8 +419,8 @@ module _ (contents : Option (List ℕ → Option (List ℕ))) (k : CommandSeen) 
           let h : LoadsNext contents (Some f) c.secrets t.behind_keys t.secrets r' = subst (λ (x : Option InputFault). LoadsNext contents x c.secrets t.behind_keys t.secrets r') some t.secrets_loaded in
           h.1
 
-      run : (inputs : Inputs) → due (needs_keys s.calls) t.bundles t.keys t.secrets ≡ None → AreSecrets t.secrets inputs.secrets.items → inputs.keys ≡ keys_in t.keys → EndsRun k c s (handed_in inputs) e → Came contents (Some k) r r' e
-      run inputs none words key_bytes (order, is_order, is, threads) =
+      run : (inputs : Inputs) → due (needs_keys s.calls) t.bundles t.keys t.secrets ≡ None → AreSecrets t.secrets inputs.secrets.items → inputs.keys ≡ keys_in t.keys → inputs.bundles.items ≡ bundles_in t.bundles → EndsRun k c s (handed_in inputs) e → Came contents (Some k) r r' e
+      run inputs none words key_bytes listed (order, is_order, is, threads) =
           let (unread, form) = first_none _ _ none in
           let (fine, fine', fine'') = all_read t.bundles t.keys t.secrets unread in
           let lengths = (first_none _ _ form).1 in
@@ -410,6 +436,11 @@ module _ (contents : Option (List ℕ → Option (List ℕ))) (k : CommandSeen) 
                 (subst (λ (x : Option KeyBytes). AreKeysHandedOut c.keys r.loads r'.loads (keys_or_none x)) (sym key_bytes)
                 (keys_handed contents (needs_keys s.calls) c.keys t.behind_bundles t.keys t.behind_keys r' (keys_named fine) fine' (first_none _ _ lengths).0 r.loads (script_load ∷ bundles_more.0) secrets_more.0
                 (bundles_more.1 ∙ ap (λ (z : List Loaded). z ++ bundles_more.0) loaded.noted ∙ append_assoc r.loads (script_load ∷ []) bundles_more.0) secrets_more.1));
+            bundle_list =
+                subst (λ (x : Option (List ℕ)). AreBundlesHandedOut x r.loads r'.loads inputs.bundles.items) (sym (bundles_of_command k c has))
+                (subst (AreBundlesHandedOut c.bundles r.loads r'.loads) (sym listed)
+                (bundles_handed contents c.bundles b t.bundles t.behind_bundles r' t.bundles_loaded fine (first_none _ _ form).0 r.loads (script_load ∷ []) (keys_more.0 ++ secrets_more.0) loaded.noted
+                (secrets_more.1 ∙ ap (λ (z : List Loaded). z ++ secrets_more.0) keys_more.1 ∙ append_assoc t.behind_bundles.loads keys_more.0 secrets_more.0)));
           })
           order is_order (is ∙ sym (success_of k c s (handed_in inputs) order has)) threads
 
@@ -486,13 +517,13 @@ module _ (contents : Option (List ℕ → Option (List ℕ))) (k : CommandSeen) 
           (loading contents (2 ^ 16) c.secrets t.behind_keys t.secrets r' (secrets_named_at fine fine')) (sym (append-nil r'.loads)) h is)))
           (ap (λ (x : Ended). x.status) is) (ap (λ (x : Ended). x.files) is)
 
-      by : (q : Result Inputs InputFault) → IsDue (due (needs_keys s.calls) t.bundles t.keys t.secrets) q → IfOk q (λ inputs. AreSecrets t.secrets inputs.secrets.items) → IfOk q (λ inputs. inputs.keys ≡ keys_in t.keys) → InputsEnd k c s q e → Came contents (Some k) r r' e
-      by (Ok inputs) d words key_bytes is = run inputs d words key_bytes is
-      by (Err (fault.Unread i)) d words key_bytes is = unread i (faulty (needs_keys s.calls) t.bundles t.keys t.secrets _ d) is
-      by (Err (fault.Container place)) d words key_bytes is = container place (faulty (needs_keys s.calls) t.bundles t.keys t.secrets _ d) is
-      by (Err fault.Keys) d words key_bytes is = keys (faulty (needs_keys s.calls) t.bundles t.keys t.secrets _ d) is
-      by (Err fault.Secrets) d words key_bytes is = secrets (faulty (needs_keys s.calls) t.bundles t.keys t.secrets _ d) is
-      by (Err fault.OutOfMemory) d words key_bytes is = absurd is
+      by : (q : Result Inputs InputFault) → IsDue (due (needs_keys s.calls) t.bundles t.keys t.secrets) q → IfOk q (λ inputs. AreSecrets t.secrets inputs.secrets.items) → IfOk q (λ inputs. inputs.keys ≡ keys_in t.keys) → IfOk q (λ inputs. inputs.bundles.items ≡ bundles_in t.bundles) → InputsEnd k c s q e → Came contents (Some k) r r' e
+      by (Ok inputs) d words key_bytes listed is = run inputs d words key_bytes listed is
+      by (Err (fault.Unread i)) d words key_bytes listed is = unread i (faulty (needs_keys s.calls) t.bundles t.keys t.secrets _ d) is
+      by (Err (fault.Container place)) d words key_bytes listed is = container place (faulty (needs_keys s.calls) t.bundles t.keys t.secrets _ d) is
+      by (Err fault.Keys) d words key_bytes listed is = keys (faulty (needs_keys s.calls) t.bundles t.keys t.secrets _ d) is
+      by (Err fault.Secrets) d words key_bytes listed is = secrets (faulty (needs_keys s.calls) t.bundles t.keys t.secrets _ d) is
+      by (Err fault.OutOfMemory) d words key_bytes listed is = absurd is
 
 module _ (contents : Option (List ℕ → Option (List ℕ))) (c : CommandSeen) (r b r' : Reads) (e : Ended) where
   -- what a script in the grammar came to
@@ -501,7 +532,7 @@ module _ (contents : Option (List ℕ → Option (List ℕ))) (c : CommandSeen) 
   script_came (Replay n) given s loaded reads (res, takes, ends) = inputs_came contents (Replay n) n refl r b r' given loaded s res e reads takes ends
   script_came (Run n) given s loaded reads (res, takes, ends) = inputs_came contents (Run n) n refl r b r' given loaded s res e reads takes ends
   script_came (Check name) given s loaded reads (same, is) =
-      Success (Check name) refl given ([], ap (λ (z : Reads). z.loads) same ∙ loaded.noted) s reads (record { secrets = λ i. 0; keys = no_keys }) (record { words = λ i. refl; key_bytes = refl }) [] tt is tt
+      Success (Check name) refl given ([], ap (λ (z : Reads). z.loads) same ∙ loaded.noted) s reads (record { secrets = λ i. 0; keys = no_keys; bundles = [] }) (record { words = λ i. refl; key_bytes = refl; bundle_list = refl }) [] tt is tt
 
   -- what a script that was loaded came to
   read_came : (given : Vec ℕ) (read : Result ScriptSeen ScriptFault) → Loads contents (2 ^ 24) (script_name c) r (Ok given) b → read_of given.items ≡ read → ReadEnd contents c b r' read e
@@ -541,7 +572,7 @@ both_few None b x y = named_few b y
 both_few (Some n) b x y = ap suc (named_few b y)
 
 run_few : (n : NamedSeen) (s : ScriptSeen) (handed : HandedOut) (order : List ℕ) → length (run_end n s handed order).files ≤ length (outs_of n)
-run_few n s handed order = let q = both_few n.out_bundles n.guest_out (bundles_text handed.keys.forward handed.keys.backward (opening_of handed.secrets s) order) (guest_text (opening_of handed.secrets s) order) in omega (arith, q)
+run_few n s handed order = let q = both_few n.out_bundles n.guest_out (bundles_text handed.keys.forward handed.keys.backward (opening_by handed s) order) (guest_text (opening_by handed s) order) in omega (arith, q)
 
 success_few : (k : CommandSeen) (s : ScriptSeen) (handed : HandedOut) (order : List ℕ) → length (success_end k s handed order).files ≤ length (out_names (Some k))
 success_few (Replay n) s handed order = run_few n s handed order

@@ -19,7 +19,7 @@ use Rattle.command_files.specs.Commands.{NamedSeen, CommandSeen, Replay, Run, Ch
 use Rattle.command_files.specs.Inputs.{place_fault, first}
 use Rattle.script_runner.specs.Ending.{Ended, usage_end, bad_end, unread_end, memory_end, container_end, run_end, success_end, input_name, held, absent_fault, container_wrong, length_wrong, keys_wrong, absent_input, form_wrong, wrong_input, command_wrong, handed_held, inputs_end, script_end, read_end, held_end, ending_of, IsOrderOf, IsOrderIn, HandedOut, held_by}
 use Rattle.script_runner.specs.Ends.{NamesInput, IsBadScript, IsAbsent, IsNoContainer, IsBadContainer, HasWrongLength, IsBadKeysOrSecrets}
-use Rattle.script_runner.proofs.Named.{secrets_of, input_of, wrong_of, success_of, keys_of_command}
+use Rattle.script_runner.proofs.Named.{secrets_of, input_of, wrong_of, success_of, keys_of_command, bundles_of_command}
 
 -- a script is run, or checked
 pub record IsRun (contents : List ℕ → Option (List ℕ)) (c : Option CommandSeen) (order : List ℕ) (e : Ended) : Type 0 where
@@ -107,7 +107,7 @@ needed_some false f h = absurd (cc)
 
 module _ (contents : List ℕ → Option (List ℕ)) (k : CommandSeen) (c : NamedSeen) (has : named_of k ≡ Some c) (s : ScriptSeen) (order : List ℕ) where
   abbrev DueBy : Option InputFault → Type 0
-  DueBy f = Due contents (Some k) order (inputs_end c s (held_by contents c.secrets c.keys) order f)
+  DueBy f = Due contents (Some k) order (inputs_end c s (held_by contents c.secrets c.keys c.bundles) order f)
 
   -- a named input isn't there
   absent_due : (f : InputFault) → absent_input (held contents c.bundles) (held contents c.keys) (held contents c.secrets) ≡ Some f → DueBy (Some f)
@@ -178,7 +178,7 @@ module _ (contents : List ℕ → Option (List ℕ)) (k : CommandSeen) (c : Name
         script = s;
         reads = reads;
         fits = wrong_of contents s k c has ∙ fits;
-        is = sym (success_of k c s (handed_held contents k) order has ∙ (λ i. run_end c s (held_by contents (secrets_of k c has i) (keys_of_command k c has i)) order));
+        is = sym (success_of k c s (handed_held contents k) order has ∙ (λ i. run_end c s (held_by contents (secrets_of k c has i) (keys_of_command k c has i) (bundles_of_command k c has i)) order));
       })
   inputs_due bytes (Some f) there reads wrong = input_due bytes there reads f wrong
 
@@ -262,8 +262,8 @@ same_status contents (Some k) order order' = by (contents (script_name k))
     of_inputs n s handed (Some fault.OutOfMemory) = refl
 
     of_script : (k : CommandSeen) (s : ScriptSeen) → (script_end contents k s order).status ≡ (script_end contents k s order').status
-    of_script (Replay n) s = of_inputs n s (held_by contents n.secrets n.keys) (wrong_input contents (needs_keys s.calls) n)
-    of_script (Run n) s = of_inputs n s (held_by contents n.secrets n.keys) (wrong_input contents (needs_keys s.calls) n)
+    of_script (Replay n) s = of_inputs n s (held_by contents n.secrets n.keys n.bundles) (wrong_input contents (needs_keys s.calls) n)
+    of_script (Run n) s = of_inputs n s (held_by contents n.secrets n.keys n.bundles) (wrong_input contents (needs_keys s.calls) n)
     of_script (Check name) s = refl
 
     of_read : (r : Result ScriptSeen ScriptFault) → (read_end contents k order r).status ≡ (read_end contents k order' r).status

@@ -1,4 +1,5 @@
 pub mod Accesses
+mod Images
 pub mod Counts
 pub mod Part
 pub mod Named

@@ -3,7 +3,7 @@ use Rattle.std.proofs.Common.{◌≡◌, sym, ap, subst, ℕ, List, Option, Some
 use Rattle.script_text.specs.Seen.{ScriptSeen}
 use Rattle.script_text.specs.Needs.{needs_keys}
 use Rattle.command_files.specs.Commands.{NamedSeen, CommandSeen, Replay, Run, Check, named_of, script_name}
-use Rattle.script_runner.specs.Ending.{run_end, success_end, wrong_input, command_wrong, secrets_named, named_end, script_end, HandedOut, keys_named}
+use Rattle.script_runner.specs.Ending.{run_end, success_end, wrong_input, command_wrong, secrets_named, named_end, script_end, HandedOut, keys_named, bundles_named}
 use Rattle.script_runner.specs.Ends.{NamesInput, IsInput}
 
 pub script_of : (k : CommandSeen) (c : NamedSeen) → named_of k ≡ Some c → script_name k ≡ c.script
@@ -20,6 +20,11 @@ pub keys_of_command : (k : CommandSeen) (c : NamedSeen) → named_of k ≡ Some 
 keys_of_command (Replay n) c has = let same : n ≡ c = cc in ap (λ (x : NamedSeen). x.keys) same
 keys_of_command (Run n) c has = let same : n ≡ c = cc in ap (λ (x : NamedSeen). x.keys) same
 keys_of_command (Check name) c has = absurd (cc)
+
+pub bundles_of_command : (k : CommandSeen) (c : NamedSeen) → named_of k ≡ Some c → bundles_named k ≡ c.bundles
+bundles_of_command (Replay n) c has = let same : n ≡ c = cc in ap (λ (x : NamedSeen). x.bundles) same
+bundles_of_command (Run n) c has = let same : n ≡ c = cc in ap (λ (x : NamedSeen). x.bundles) same
+bundles_of_command (Check name) c has = absurd (cc)
 
 pub input_of : (k : CommandSeen) (c : NamedSeen) (name : List ℕ) → named_of k ≡ Some c → NamesInput c name → IsInput k name
 input_of (Replay n) c name has h = let same : n ≡ c = cc in subst (λ (x : NamedSeen). NamesInput x name) (sym same) h

@@ -1,16 +1,19 @@
 -- A run's texts are those that its ending puts and saves.
-use Rattle.std.proofs.Common.{◌≡◌, refl, ap, ℕ, List, ◌++◌, Option, Some, None, IfSome, slice_index}
+use Rattle.std.proofs.Common.{◌≡◌, refl, ap, subst, ℕ, List, ◌++◌, map, Option, Some, None, IfSome, slice_index}
+use Rattle.td_words.specs.Seen.{BundleSeen}
 use Rattle.flat_core.specs.HostText.{host_text}
 use Rattle.flat_core.specs.GuestText.{guest_text}
 use Rattle.flat_core.specs.Opening.{Opening}
 use Rattle.script_text.specs.Seen.{ScriptSeen}
 use Rattle.command_files.specs.Commands.{NamedSeen, Replay, Run}
+use Rattle.incoming.specs.Arrivals.{SlotIncoming, incoming_in, at_slot}
+use Rattle.leaf_table.specs.Given.{Given, secrets_in}
 use Rattle.run_texts.specs.Openings.{opening_of}
 use Rattle.run_texts.specs.Sealing.{bundles_text}
 use Rattle.run_texts.specs.Replaying.{TellAll}
 use Rattle.run_texts.specs.Threaded.{AreOfSomeRun, AreOfThreads}
 use Rattle.run_texts.specs.declared.replay.Texts.{Texts}
-use Rattle.script_runner.specs.Ending.{HandedOut, file_named, both_files, run_end}
+use Rattle.script_runner.specs.Ending.{HandedOut, opening_by, file_named, both_files, run_end}
 use Rattle.script_runner.specs.Threads.{texts_end}
 use Rattle.script_runner.specs.Commanded.{EndsRun}
 
@@ -19,18 +22,22 @@ same-file : (name : Option (List ℕ)) (bytes told : List ℕ) → IfSome name (
 same-file None bytes told h = refl
 same-file (Some n) bytes told h = ap (file_named (Some n)) h
 
--- these secret words and these two keys
-abbrev pub held : (secrets forward backward : List ℕ) → HandedOut
-held secrets forward backward = record { secrets = slice_index secrets; keys = record { forward = forward; backward = backward } }
+-- these secret words, these two keys and these bundles
+abbrev pub held : (secrets forward backward : List ℕ) → List BundleSeen → HandedOut
+held secrets forward backward bundles = record { secrets = slice_index secrets; keys = record { forward = forward; backward = backward }; bundles = bundles }
+
+-- what a run is given by words and by bundles that were opened
+abbrev pub given_words : List ℕ → List SlotIncoming → Given
+given_words secrets arrived = record { secrets = secrets_in secrets; bundles = at_slot arrived }
 
 abbrev TellsRun : NamedSeen → ScriptSeen → HandedOut → List ℕ → Texts → Type 0
 TellsRun n s handed order t =
-    TellAll n.out_bundles n.guest_out (host_text (opening_of handed.secrets s) order) (bundles_text handed.keys.forward handed.keys.backward (opening_of handed.secrets s) order) (guest_text (opening_of handed.secrets s) order) t
+    TellAll n.out_bundles n.guest_out (host_text (opening_by handed s) order) (bundles_text handed.keys.forward handed.keys.backward (opening_by handed s) order) (guest_text (opening_by handed s) order) t
 
 -- an ending of these texts is the run's
 text-ends : (n : NamedSeen) (s : ScriptSeen) (handed : HandedOut) (order : List ℕ) (t : Texts) → TellsRun n s handed order t → texts_end n t ≡ run_end n s handed order
 text-ends n s handed order t h =
-    let o : Opening = opening_of handed.secrets s in
+    let o : Opening = opening_by handed s in
     let made : List ℕ = bundles_text handed.keys.forward handed.keys.backward o order in
     let files : both_files n.out_bundles n.guest_out t.container.items t.guest.items ≡ both_files n.out_bundles n.guest_out made (guest_text o order) =
     λ i. same-file n.out_bundles t.container.items made h.1 i ++ same-file n.guest_out t.guest.items (guest_text o order) h.2 i in
@@ -41,6 +48,21 @@ pub replay-ends : (n : NamedSeen) (s : ScriptSeen) (handed : HandedOut) (t : Tex
 replay-ends n s handed t h = (s.schedule, refl, text-ends n s handed s.schedule t h, tt)
 
 -- those of threads are those of the run under some order
-pub threads-end : (n : NamedSeen) (s : ScriptSeen) (handed : HandedOut) (t : Texts) → AreOfSomeRun (opening_of handed.secrets s) handed.keys.forward handed.keys.backward n.out_bundles n.guest_out t
-    → AreOfThreads (opening_of handed.secrets s) handed.keys.forward handed.keys.backward n.out_bundles n.guest_out t → EndsRun (Run n) n s handed (texts_end n t)
+pub threads-end : (n : NamedSeen) (s : ScriptSeen) (handed : HandedOut) (t : Texts) → AreOfSomeRun (opening_by handed s) handed.keys.forward handed.keys.backward n.out_bundles n.guest_out t
+    → AreOfThreads (opening_by handed s) handed.keys.forward handed.keys.backward n.out_bundles n.guest_out t → EndsRun (Run n) n s handed (texts_end n t)
 threads-end n s handed t some threads = (some.schedule, some.processors, text-ends n s handed some.schedule t some.told, (t, threads, refl))
+
+-- what is given is what the inputs hand out
+module _ (n : NamedSeen) (s : ScriptSeen) (secrets forward backward : List ℕ) (bundles : List BundleSeen) (arrived : List SlotIncoming) (opened : arrived ≡ map (incoming_in forward backward) bundles) (t : Texts) where
+  pub replay-given : TellAll n.out_bundles n.guest_out (host_text (opening_of (given_words secrets arrived) s) s.schedule) (bundles_text forward backward (opening_of (given_words secrets arrived) s) s.schedule) (guest_text (opening_of (given_words secrets arrived) s) s.schedule) t
+      → EndsRun (Replay n) n s (held secrets forward backward bundles) (texts_end n t)
+  replay-given h =
+      replay-ends n s (held secrets forward backward bundles) t
+      (subst (λ (x : List SlotIncoming). TellAll n.out_bundles n.guest_out (host_text (opening_of (given_words secrets x) s) s.schedule) (bundles_text forward backward (opening_of (given_words secrets x) s) s.schedule) (guest_text (opening_of (given_words secrets x) s) s.schedule) t) opened h)
+
+  pub threads-given : AreOfSomeRun (opening_of (given_words secrets arrived) s) forward backward n.out_bundles n.guest_out t → AreOfThreads (opening_of (given_words secrets arrived) s) forward backward n.out_bundles n.guest_out t
+      → EndsRun (Run n) n s (held secrets forward backward bundles) (texts_end n t)
+  threads-given some threads =
+      threads-end n s (held secrets forward backward bundles) t
+      (subst (λ (x : List SlotIncoming). AreOfSomeRun (opening_of (given_words secrets x) s) forward backward n.out_bundles n.guest_out t) opened some)
+      (subst (λ (x : List SlotIncoming). AreOfThreads (opening_of (given_words secrets x) s) forward backward n.out_bundles n.guest_out t) opened threads)

@@ -20,8 +20,8 @@ use Rattle.command_files.specs.declared.inputs.InputFault.{InputFault}
 use Rattle.command_files.specs.declared.inputs.InputFault.TheVariants as fault
 use Rattle.command_files.specs.declared.inputs.Inputs.{Inputs}
 use Rattle.command_files.specs.Commands.{NamedSeen, CommandSeen, Replay, Run, Check, named_of, script_name}
-use Rattle.command_files.specs.Inputs.{Reads, Loads, LoadsNamed, LoadsNext, TakesInputs, AreSecrets, IsDue, due, load_fault, form_fault, container_fault, length_fault, keys_fault, secrets_fault, secret_word, place_fault, first, keys_in, keys_of}
-use Rattle.script_runner.specs.Ending.{Ended, bad_end, unread_end, run_end, name_in, input_name, held, absent_fault, container_wrong, length_wrong, keys_wrong, form_wrong, wrong_input, held_word, inputs_end, named_end, script_end, read_end, ending_of, IsOrderOf, without, HandedOut, held_by, held_keys, keys_or_none, no_keys}
+use Rattle.command_files.specs.Inputs.{Reads, Loads, LoadsNamed, LoadsNext, TakesInputs, AreSecrets, IsDue, due, load_fault, form_fault, container_fault, length_fault, keys_fault, secrets_fault, secret_word, place_fault, first, bundles_read, bundles_in, keys_in, keys_of}
+use Rattle.script_runner.specs.Ending.{Ended, bad_end, unread_end, run_end, name_in, input_name, held, absent_fault, container_wrong, length_wrong, keys_wrong, form_wrong, wrong_input, held_word, inputs_end, named_end, script_end, read_end, ending_of, IsOrderOf, without, HandedOut, held_by, held_keys, held_bundles, keys_or_none, no_keys}
 use Rattle.script_runner.specs.Ends.{Faults, IsEnding}
 use Rattle.script_runner.specs.Commanded.{Comes, AnswerEnd, ReadEnd, ScriptEnd, NamedEnd, InputsEnd}
 use Rattle.script_runner.proofs.Named.{script_end_of}
@@ -150,11 +150,27 @@ key_bytes_agree contents (Some n) old (Some (Err load.TooLong)) new needed l fin
 key_bytes_agree contents (Some n) old (Some (Err load.Failed)) new needed l fine right = absurd (cc)
 key_bytes_agree contents (Some n) old (Some (Err load.OutOfMemory)) new needed l fine right = absurd (cc)
 
+-- and so are the bundles
+bundles_agree : (contents : List ℕ → Option (List ℕ)) (name : Option (List ℕ)) (old : Reads) (a : Option (Result (Vec ℕ) LoadFault)) (new : Reads)
+    → LoadsNamed (Some contents) (2 ^ 29) name old a new → load_fault input.Bundles a ≡ None → container_fault a ≡ None → bundles_in a ≡ held_bundles (held contents name)
+bundles_agree contents None old None new h fine right = refl
+bundles_agree contents None old (Some x) new h fine right = absurd h
+bundles_agree contents (Some n) old None new h fine right = absurd h
+bundles_agree contents (Some n) old (Some (Ok v)) new l fine right = by (contents n) refl l.told
+  where
+    by : (q : Option (List ℕ)) → contents n ≡ q → LoadsTold q (2 ^ 29) (Ok v) → bundles_read (container_in v.items) ≡ held_bundles (Some (contents n))
+    by None e told = absurd told
+    by (Some bytes) e told = rw e (ap (λ (x : List ℕ). bundles_read (container_in x)) told.0)
+bundles_agree contents (Some n) old (Some (Err load.Absent)) new l fine right = absurd (cc)
+bundles_agree contents (Some n) old (Some (Err load.TooLong)) new l fine right = absurd (cc)
+bundles_agree contents (Some n) old (Some (Err load.Failed)) new l fine right = absurd (cc)
+bundles_agree contents (Some n) old (Some (Err load.OutOfMemory)) new l fine right = absurd (cc)
+
 -- ---- all inputs
 
 -- nothing of a run, where no script is run
 nothing_handed : HandedOut
-nothing_handed = record { secrets = λ i. 0; keys = no_keys }
+nothing_handed = record { secrets = λ i. 0; keys = no_keys; bundles = [] }
 
 -- the ending is that of the fault that is due, where there is one
 fault_by : (k : CommandSeen) (c : NamedSeen) (s : ScriptSeen) (handed : HandedOut) (order : List ℕ) (d : Option InputFault) (f : InputFault) (res : Result Inputs InputFault) (e : Ended) → d ≡ Some f → IsDue d res
@@ -175,16 +191,16 @@ never_wanting k c s d (Err fault.Secrets) e want is h = cc
 never_wanting k c s d (Err fault.OutOfMemory) e want is h = h
 
 -- a run's ending, where no fault is due
-run_by : (k : CommandSeen) (c : NamedSeen) (s : ScriptSeen) (d : Option InputFault) (a b : Option (Result (Vec ℕ) LoadFault)) (res : Result Inputs InputFault) (e : Ended) → d ≡ None → IsDue d res
-    → IfOk res (λ inputs. AreSecrets a inputs.secrets.items) → IfOk res (λ inputs. inputs.keys ≡ keys_in b) → InputsEnd k c s res e
-    → (order : List ℕ) × IsOrderOf k s order × (e ≡ run_end c s (record { secrets = secret_word a; keys = keys_or_none (keys_in b) }) order)
-run_by k c s d a b (Ok inputs) e none is words key_bytes (order, is_order, ends, threads) =
-    (order, is_order, ends ∙ (λ x. run_end c s (record { secrets = λ i. words.each i x; keys = keys_or_none (key_bytes x) }) order))
-run_by k c s d a b (Err (fault.Unread i)) e none is words key_bytes h = absurd (cc)
-run_by k c s d a b (Err (fault.Container place)) e none is words key_bytes h = absurd (cc)
-run_by k c s d a b (Err fault.Keys) e none is words key_bytes h = absurd (cc)
-run_by k c s d a b (Err fault.Secrets) e none is words key_bytes h = absurd (cc)
-run_by k c s d a b (Err fault.OutOfMemory) e none is words key_bytes h = absurd h
+run_by : (k : CommandSeen) (c : NamedSeen) (s : ScriptSeen) (d : Option InputFault) (a b f : Option (Result (Vec ℕ) LoadFault)) (res : Result Inputs InputFault) (e : Ended) → d ≡ None → IsDue d res
+    → IfOk res (λ inputs. AreSecrets a inputs.secrets.items) → IfOk res (λ inputs. inputs.keys ≡ keys_in b) → IfOk res (λ inputs. inputs.bundles.items ≡ bundles_in f) → InputsEnd k c s res e
+    → (order : List ℕ) × IsOrderOf k s order × (e ≡ run_end c s (record { secrets = secret_word a; keys = keys_or_none (keys_in b); bundles = bundles_in f }) order)
+run_by k c s d a b f (Ok inputs) e none is words key_bytes listed (order, is_order, ends, threads) =
+    (order, is_order, ends ∙ (λ x. run_end c s (record { secrets = λ i. words.each i x; keys = keys_or_none (key_bytes x); bundles = listed x }) order))
+run_by k c s d a b f (Err (fault.Unread i)) e none is words key_bytes listed h = absurd (cc)
+run_by k c s d a b f (Err (fault.Container place)) e none is words key_bytes listed h = absurd (cc)
+run_by k c s d a b f (Err fault.Keys) e none is words key_bytes listed h = absurd (cc)
+run_by k c s d a b f (Err fault.Secrets) e none is words key_bytes listed h = absurd (cc)
+run_by k c s d a b f (Err fault.OutOfMemory) e none is words key_bytes listed h = absurd h
 
 -- the first of four faults, of which the first three are those of names that aren't there
 at_first : (x y z w : Option InputFault) (f : InputFault) → x ≡ Some f → first (first x (first y z)) w ≡ Some f
@@ -238,8 +254,8 @@ module _ (contents : List ℕ → Option (List ℕ)) (k : CommandSeen) (c : Name
   -- a fault that is due by what was loaded is due by what names have
   faulty : (f : InputFault) → due needed t.bundles t.keys t.secrets ≡ Some f → wrong_input contents needed c ≡ Some f → Told
   faulty f d w =
-      Wrong (λ order. fault_by k c s (held_by contents c.secrets c.keys) order (due needed t.bundles t.keys t.secrets) f res e d t.is_due ends
-      ∙ ap (λ (x : Option InputFault). inputs_end c s (held_by contents c.secrets c.keys) order x) (d ∙ sym w))
+      Wrong (λ order. fault_by k c s (held_by contents c.secrets c.keys c.bundles) order (due needed t.bundles t.keys t.secrets) f res e d t.is_due ends
+      ∙ ap (λ (x : Option InputFault). inputs_end c s (held_by contents c.secrets c.keys c.bundles) order x) (d ∙ sym w))
 
   -- reading failed under that name, which is an input's, and that of the first one that isn't there without it
   failed : (i j : Input) (n : List ℕ) → input_name c i ≡ n → due needed t.bundles t.keys t.secrets ≡ Some (fault.Unread i) → input_name c j ≡ n → wrong_input (without n contents) needed c ≡ Some (fault.Unread j) → Rose b.faults r'.faults
@@ -250,7 +266,7 @@ module _ (contents : List ℕ → Option (List ℕ)) (k : CommandSeen) (c : Name
       Fails (record {
         name = n;
         told = told;
-        due = λ order. told ∙ ap unread_end (sym named') ∙ sym (ap (λ (x : Option InputFault). inputs_end c s (held_by (without n contents) c.secrets c.keys) order x) w);
+        due = λ order. told ∙ ap unread_end (sym named') ∙ sym (ap (λ (x : Option InputFault). inputs_end c s (held_by (without n contents) c.secrets c.keys c.bundles) order x) w);
         rose = rose;
       })
 
@@ -342,14 +358,16 @@ module _ (contents : List ℕ → Option (List ℕ)) (k : CommandSeen) (c : Name
       by : (d : Option InputFault) → due needed t.bundles t.keys t.secrets ≡ d → Told
       by (Some f) d = faulty f d (sym same ∙ d)
       by None d =
-          let (order, is_order, is) = run_by k c s (due needed t.bundles t.keys t.secrets) t.secrets t.keys res e d t.is_due t.words t.key_bytes ends in
+          let (order, is_order, is) = run_by k c s (due needed t.bundles t.keys t.secrets) t.secrets t.keys t.bundles res e d t.is_due t.words t.key_bytes t.bundle_list ends in
           let right : secrets_fault t.secrets ≡ None = (first_none _ _ (first_none _ _ (sym loaded_is ∙ d)).1).1 in
           let right' : keys_fault needed t.keys ≡ None = (first_none _ _ (first_none _ _ (sym loaded_is ∙ d)).1).0 in
+          let right'' : container_fault t.bundles ≡ None = (first_none _ _ (sym loaded_is ∙ d)).0 in
           let same_keys : keys_or_none (keys_in t.keys) ≡ held_keys (held contents c.keys) = key_bytes_agree contents c.keys t.behind_bundles t.keys t.behind_keys needed (keys_named fine) fine' right' in
           let words : secret_word t.secrets ≡ held_word (held contents c.secrets) = λ x i. words_agree contents c.secrets t.behind_keys t.secrets r' (secrets_loaded fine fine') fine'' right i x in
+          let same_bundles : bundles_in t.bundles ≡ held_bundles (held contents c.bundles) = bundles_agree contents c.bundles b t.bundles t.behind_bundles t.bundles_loaded fine right'' in
           let none : None ≡ wrong_input contents needed c = sym d ∙ same in
           Ran order is_order
-          (is ∙ (λ x. run_end c s (record { secrets = words x; keys = same_keys x }) order) ∙ ap (λ (x : Option InputFault). inputs_end c s (held_by contents c.secrets c.keys) order x) none)
+          (is ∙ (λ x. run_end c s (record { secrets = words x; keys = same_keys x; bundles = same_bundles x }) order) ∙ ap (λ (x : Option InputFault). inputs_end c s (held_by contents c.secrets c.keys c.bundles) order x) none)
 
   by_secrets : load_fault input.Bundles t.bundles ≡ None → absent_fault input.Bundles (held contents c.bundles) ≡ None → load_fault input.Keys t.keys ≡ None → absent_fault input.Keys (held contents c.keys) ≡ None
       → Beside input.Secrets contents c.secrets t.secrets t.behind_keys.faults r'.faults → Told

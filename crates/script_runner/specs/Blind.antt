@@ -6,12 +6,12 @@ use Rattle.flat_core.specs.HostText.{text_of, host_text}
 use Rattle.isol_laws.specs.Worlds.{blind_run, public_bundles}
 use Rattle.script_text.specs.Seen.{ScriptSeen}
 use Rattle.command_files.specs.Commands.{CommandSeen, Replay, Run, Check}
-use Rattle.run_texts.specs.Openings.{opening_of}
-use Rattle.script_runner.specs.Ending.{HandedOut}
+use Rattle.script_runner.specs.Ending.{HandedOut, opening_by}
 
--- A text is that of the run with every private word 0, in which each word that is told is the next of those that the first run
--- tells, and their bundles have the same public part; and so it is that of every run whose opening agrees on all that is
--- public, and which tells the same words.
+-- Private words are the secret words, and the payloads of states and pages that came in and opened. A text is that of the run
+-- with every private word 0, in which each word that is told is the next of those that the first run tells, and the bundles
+-- that they make have the same public part; and so it is that of every run whose opening agrees on all that is public, as the
+-- headers of bundles and whether they open, and which tells the same words.
 pub record IsBlind (o : Opening) (order text : List ℕ) : Type 0 where
   pub zeros : text ≡ text_of (blind_run o order)
   pub bundles : public_bundles (run o order) ≡ public_bundles (blind_run o order)
@@ -19,6 +19,6 @@ pub record IsBlind (o : Opening) (order text : List ℕ) : Type 0 where
 
 -- the text of a replay or a run is so; check runs nothing
 abbrev pub HasBlindText : CommandSeen → ScriptSeen → HandedOut → (order text : List ℕ) → Type 0
-HasBlindText (Replay n) s handed order text = IsBlind (opening_of handed.secrets s) order text
-HasBlindText (Run n) s handed order text = IsBlind (opening_of handed.secrets s) order text
+HasBlindText (Replay n) s handed order text = IsBlind (opening_by handed s) order text
+HasBlindText (Run n) s handed order text = IsBlind (opening_by handed s) order text
 HasBlindText (Check name) s handed order text = Unit {0}

@@ -27,13 +27,13 @@ use Rattle.script_runner.specs.Done.{PutsOnce}
 
 -- ---- the ending that is due by what was loaded
 
--- a script was run with these secret words and keys, under an order of its events, which for a run is what its threads did
+-- a script was run with what is handed out, under an order of its events, which for a run is what its threads did
 abbrev pub EndsRun : CommandSeen → NamedSeen → ScriptSeen → HandedOut → Ended → Type 0
 EndsRun c n s handed e = (order : List ℕ) × IsOrderOf c s order × (e ≡ run_end n s handed order) × ThreadsOf c s handed e
 
 -- what inputs hand out
 abbrev pub handed_in : Inputs → HandedOut
-handed_in inputs = record { secrets = slice_index inputs.secrets.items; keys = keys_or_none inputs.keys }
+handed_in inputs = record { secrets = slice_index inputs.secrets.items; keys = keys_or_none inputs.keys; bundles = inputs.bundles.items }
 
 -- a script is run where the inputs have no fault, and else that fault is told; want of memory is no ending
 abbrev pub InputsEnd : CommandSeen → NamedSeen → ScriptSeen → Result Inputs InputFault → Ended → Type 0

@@ -1,6 +1,7 @@
 -- What one call loads, puts and saves, by the histories alone: of files and outputs that tell what they hold, and of those that don't.
 use Rattle.std.specs.Prelude.{◌≡◌, ◌≢◌, ◌⊎◌, ℕ, List, [], ◌∷◌, ◌++◌, true, Option, Some, None, Result, Ok, Err, ◌≤◌, length}
 use Rattle.std.specs.Global.{Vec}
+use Rattle.td_words.specs.Seen.{BundleSeen}
 use Rattle.script_text.specs.declared.faults.Reason.{Reason}
 use Rattle.script_text.specs.declared.faults.Reason.TheVariants.{Length}
 use Rattle.script_text.specs.declared.faults.ScriptFault.TheVariants.{Bad}
@@ -12,16 +13,17 @@ use Rattle.bundle_store.specs.declared.outside.LoadFault.TheVariants as load
 use Rattle.bundle_store.specs.declared.outside.SaveFault.TheVariants as save
 use Rattle.bundle_store.specs.declared.outside.PutFault.{PutFault}
 use Rattle.bundle_store.specs.declared.outside.PutFault.TheVariants as put
+use Rattle.bundle_store.specs.Containers.{container_in}
 use Rattle.bundle_store.specs.History.{Loaded, Put}
 use Rattle.command_files.specs.declared.inputs.InputFault.{InputFault}
 use Rattle.command_files.specs.declared.inputs.InputFault.TheVariants as fault
 use Rattle.command_files.specs.Commands.{NamedSeen, CommandSeen, named_of, script_name}
 use Rattle.command_files.specs.Inputs.{container_fault, length_fault, secret_word, keys_of}
-use Rattle.run_texts.specs.Openings.{opening_of}
-use Rattle.script_runner.specs.Ending.{ToSave, Ended, usage_end, bad_end, unread_end, memory_end, container_end, keys_end, secrets_end, unwritten_end, secrets_named, IsOrderOf, success_end, HandedOut, no_keys, keys_named}
+use Rattle.script_runner.specs.Ending.{ToSave, Ended, usage_end, bad_end, unread_end, memory_end, container_end, keys_end, secrets_end, unwritten_end, secrets_named, IsOrderOf, success_end, HandedOut, opening_by, no_keys, keys_named, bundles_named}
 use Rattle.script_runner.specs.Saving.{Writes, AllSaved}
 use Rattle.script_runner.specs.Threads.{ThreadsOf}
 use Rattle.script_runner.specs.Accesses.{OwnAccesses}
+use Rattle.script_runner.specs.Images.{StartsFromPauses}
 use Rattle.script_runner.specs.Blind.{HasBlindText}
 use Rattle.script_runner.specs.Ends.{IsRead}
 use Rattle.command_files.specs.declared.inputs.KeyBytes.{KeyBytes}
@@ -57,14 +59,20 @@ abbrev pub AreKeysHandedOut : Option (List ℕ) → (loads loads' : List Loaded)
 AreKeysHandedOut None loads loads' keys = keys ≡ no_keys
 AreKeysHandedOut (Some name) loads loads' keys = (before : List Loaded) × (given : Vec ℕ) × LoadsFirst (loads ++ before) name (Ok given) loads' × (length given.items ≡ 64) × (keys ≡ keys_of given.items)
 
--- these are the secret words and the keys that the files of a command handed out
+-- these are the bundles of the container that a load handed out, under its name; there are none where none is named
+abbrev pub AreBundlesHandedOut : Option (List ℕ) → (loads loads' : List Loaded) → List BundleSeen → Type 0
+AreBundlesHandedOut None loads loads' bundles = bundles ≡ []
+AreBundlesHandedOut (Some name) loads loads' bundles = (before : List Loaded) × (given : Vec ℕ) × LoadsFirst (loads ++ before) name (Ok given) loads' × (container_in given.items ≡ Ok bundles)
+
+-- these are the secret words, the keys and the bundles that the files of a command handed out
 pub record AreHandedOut (c : CommandSeen) (loads loads' : List Loaded) (handed : HandedOut) : Type 0 where
   pub words : AreWordsHandedOut (secrets_named c) loads loads' handed.secrets
   pub key_bytes : AreKeysHandedOut (keys_named c) loads loads' handed.keys
+  pub bundle_list : AreBundlesHandedOut (bundles_named c) loads loads' handed.bundles
 
 -- The named script was loaded first. What was handed out is in the grammar, and one put was given just the reply lines of the
--- flat machine's run of it, with the secret words and keys that were handed out, under one order of its events, which for a replay is
--- the schedule; or for check its numbers.
+-- flat machine's run of it, with the secret words, keys and bundles that were handed out, under one order of its events, which for
+-- a replay is the schedule; or for check its numbers.
 pub record PutsRun (c : Option CommandSeen) (loads loads' : List Loaded) (puts puts' : List Put) (answer : Result (Unit {0}) PutFault) : Type 0 where
   pub command : CommandSeen
   pub read_as : c ≡ Some command
@@ -96,12 +104,14 @@ PutsBlind c loads loads' puts puts' =
     (r : PutsRun c loads loads' puts puts' (Ok tt)) × HasBlindText r.command r.script r.handed r.order (success_end r.command r.script r.handed r.order).text
 
 -- All of it of one run: its text was put, each file that is named was saved with what it leaves, each access of its guests to
--- their private memory is to a page of their own, and its text is the same in two worlds.
+-- their private memory is to a page of their own, its text is the same in two worlds, and what it committed starts from the
+-- source's pause, unless a tag was forged.
 pub record PutsHeadline (c : Option CommandSeen) (loads loads' : List Loaded) (puts puts' : List Put) (written written' : Writes) : Type 0 where
   pub run : PutsRun c loads loads' puts puts' (Ok tt)
   pub saved : AllSaved (success_end run.command run.script run.handed run.order).files written written'
-  pub accesses : OwnAccesses (opening_of run.handed.secrets run.script) run.order
+  pub accesses : OwnAccesses (opening_by run.handed run.script) run.order
   pub blind : HasBlindText run.command run.script run.handed run.order (success_end run.command run.script run.handed run.order).text
+  pub images : StartsFromPauses (opening_by run.handed run.script) run.order
 
 -- the words are no command; nothing was loaded, and the usage line was put
 abbrev pub PutsUsage : Option CommandSeen → (loads loads' : List Loaded) → (puts puts' : List Put) → Type 0
@@ -178,7 +188,7 @@ PutsKeys c loads loads' puts puts' = PutsLength (λ n. n.keys) 64 fault.Keys key
 abbrev pub PutsSecrets : Option CommandSeen → (loads loads' : List Loaded) → (puts puts' : List Put) → Type 0
 PutsSecrets c loads loads' puts puts' = PutsLength (λ n. n.secrets) 4096 fault.Secrets secrets_end c loads loads' puts puts'
 
--- the named script was loaded, a call of it makes a bundle, and no key file is named, which was put
+-- the named script was loaded, a call of it makes a bundle or takes one, and no key file is named, which was put
 pub record PutsNoKeys (c : Option CommandSeen) (loads loads' : List Loaded) (puts puts' : List Put) : Type 0 where
   pub command : CommandSeen
   pub read_as : c ≡ Some command

@@ -1,10 +1,10 @@
 -- How a command ends: its status, its text and what it saves, over the contents that are told.
-use Rattle.std.specs.Prelude.{◌≡◌, ℕ, ◌+◌, ◌*◌, ◌^◌, ◌<◌, List, [], ◌∷◌, ◌++◌, length, drop, replicate, Bool, Option, Some, None, option_map, Result, Ok, Err, ◌==◌, nat_le, if◌then◌else◌, codes}
+use Rattle.std.specs.Prelude.{◌≡◌, ℕ, ◌+◌, ◌*◌, ◌^◌, ◌<◌, List, [], ◌∷◌, ◌++◌, length, map, drop, replicate, Bool, Option, Some, None, option_map, Result, Ok, Err, ◌==◌, nat_le, if◌then◌else◌, codes}
 use Rattle.std.specs.List.{All}
 use Rattle.std.specs.Fmt.{decimal}
 use Rattle.std.specs.Str.{bytes_eq}
 use Rattle.byteorder.specs.Endian.{little_number}
-use Rattle.td_words.specs.Seen.{CodeSeen}
+use Rattle.td_words.specs.Seen.{CodeSeen, BundleSeen}
 use Rattle.td_words.specs.declared.calls.Call.{Call}
 use Rattle.script_text.specs.declared.faults.Reason.{Reason}
 use Rattle.script_text.specs.declared.faults.ScriptFault.{ScriptFault}
@@ -13,8 +13,11 @@ use Rattle.script_text.specs.ReasonText.{reason_text}
 use Rattle.script_text.specs.Reading.{read_of}
 use Rattle.script_text.specs.Seen.{ScriptSeen}
 use Rattle.script_text.specs.Needs.{needs_keys}
+use Rattle.flat_core.specs.Opening.{Opening}
 use Rattle.flat_core.specs.HostText.{host_text}
 use Rattle.flat_core.specs.GuestText.{guest_text}
+use Rattle.incoming.specs.Arrivals.{incoming_in, at_slot}
+use Rattle.leaf_table.specs.Given.{Given}
 use Rattle.run_texts.specs.Openings.{opening_of}
 use Rattle.run_texts.specs.Sealing.{bundles_text}
 use Rattle.bundle_store.specs.Containers.{container_in}
@@ -24,7 +27,7 @@ use Rattle.command_files.specs.declared.inputs.InputFault.{InputFault}
 use Rattle.command_files.specs.declared.inputs.InputFault.TheVariants as fault
 use Rattle.command_files.specs.declared.inputs.KeyBytes.{KeyBytes}
 use Rattle.command_files.specs.Commands.{NamedSeen, CommandSeen, Replay, Run, Check, script_name}
-use Rattle.command_files.specs.Inputs.{place_fault, first, keys_of}
+use Rattle.command_files.specs.Inputs.{place_fault, first, bundles_read, keys_of}
 use Rattle.script_runner.specs.declared.ending.Ending.{Ending}
 
 -- a file that is to be saved
@@ -74,12 +77,22 @@ IsOrderOf (Replay n) s order = order ≡ s.schedule
 IsOrderOf (Run n) s order = All (λ p. p < length s.calls) order
 IsOrderOf (Check name) s order = Unit {0}
 
--- what the input files hand out to a run: the secret words, and the keys from source to destination and back
+-- what the input files hand out to a run: the secret words, the keys from source to destination and back, and the bundles of
+-- the container, each in its slot and sealed
 pub record HandedOut : Type 0 where
   pub secrets : ℕ → ℕ
   pub keys : KeyBytes
+  pub bundles : List BundleSeen
 
--- without a key file each byte of the keys is 0; a run has no bundle then, since its script needs no keys
+-- what a run is given by them: the secret words, and in each slot its bundle, opened under these keys
+abbrev pub given_by : HandedOut → Given
+given_by handed = record { secrets = handed.secrets; bundles = at_slot (map (incoming_in handed.keys.forward handed.keys.backward) handed.bundles) }
+
+-- the opening of a script and of what its files hand out
+abbrev pub opening_by : HandedOut → ScriptSeen → Opening
+opening_by handed s = opening_of (given_by handed) s
+
+-- without a key file each byte of the keys is 0; a run makes no bundle then and takes none, since its script needs no keys
 abbrev pub no_keys : KeyBytes
 no_keys = record { forward = replicate 32 0; backward = replicate 32 0 }
 
@@ -87,13 +100,13 @@ abbrev pub keys_or_none : Option KeyBytes → KeyBytes
 keys_or_none None = no_keys
 keys_or_none (Some keys) = keys
 
--- a script's run with these secret words under that order; the container has its bundles, sealed under these keys, and the
+-- a script's run with what is handed out, under that order; the container has its bundles, sealed under these keys, and the
 -- guest file what its guests noted
 abbrev pub run_end : NamedSeen → ScriptSeen → HandedOut → (order : List ℕ) → Ended
 run_end n s handed order = record {
   status = 0;
-  text = host_text (opening_of handed.secrets s) order;
-  files = both_files n.out_bundles n.guest_out (bundles_text handed.keys.forward handed.keys.backward (opening_of handed.secrets s) order) (guest_text (opening_of handed.secrets s) order);
+  text = host_text (opening_by handed s) order;
+  files = both_files n.out_bundles n.guest_out (bundles_text handed.keys.forward handed.keys.backward (opening_by handed s) order) (guest_text (opening_by handed s) order);
 }
 
 -- how many calls these lists have, and how many guest operations
@@ -128,7 +141,7 @@ fault_end OutOfMemory = memory_end
 abbrev pub container_end : ℕ → Ended
 container_end place = record { status = 6; text = codes "bundle file byte " ++ (decimal place ++ 10 ∷ []); files = [] }
 
--- the key file hasn't its length, or none is named where a call makes a bundle
+-- the key file hasn't its length, or none is named where a call makes a bundle or takes one
 abbrev pub keys_end : Ended
 keys_end = record { status = 7; text = codes "key file" ++ 10 ∷ []; files = [] }
 
@@ -192,7 +205,7 @@ abbrev pub wrong_input : (List ℕ → Option (List ℕ)) → (needed : Bool) �
 wrong_input contents needed n =
     first (absent_input (held contents n.bundles) (held contents n.keys) (held contents n.secrets)) (form_wrong needed (held contents n.bundles) (held contents n.keys) (held contents n.secrets))
 
--- keys are needed where a call of the script makes a bundle; check has no inputs
+-- keys are needed where a call of the script makes a bundle or takes one; check has no inputs
 abbrev pub command_wrong : (List ℕ → Option (List ℕ)) → ScriptSeen → CommandSeen → Option InputFault
 command_wrong contents s (Replay n) = wrong_input contents (needs_keys s.calls) n
 command_wrong contents s (Run n) = wrong_input contents (needs_keys s.calls) n
@@ -222,12 +235,24 @@ keys_named (Replay n) = n.keys
 keys_named (Run n) = n.keys
 keys_named (Check name) = None
 
--- what these two files hand out
-abbrev pub held_by : (List ℕ → Option (List ℕ)) → (secrets keys : Option (List ℕ)) → HandedOut
-held_by contents secrets keys = record { secrets = held_word (held contents secrets); keys = held_keys (held contents keys) }
+-- the bundles of a container that has these bytes
+abbrev pub held_bundles : Option (Option (List ℕ)) → List BundleSeen
+held_bundles None = []
+held_bundles (Some None) = []
+held_bundles (Some (Some bytes)) = bundles_read (container_in bytes)
+
+-- the container that a command names
+abbrev pub bundles_named : CommandSeen → Option (List ℕ)
+bundles_named (Replay n) = n.bundles
+bundles_named (Run n) = n.bundles
+bundles_named (Check name) = None
+
+-- what these files hand out
+abbrev pub held_by : (List ℕ → Option (List ℕ)) → (secrets keys bundles : Option (List ℕ)) → HandedOut
+held_by contents secrets keys bundles = record { secrets = held_word (held contents secrets); keys = held_keys (held contents keys); bundles = held_bundles (held contents bundles) }
 
 abbrev pub handed_held : (List ℕ → Option (List ℕ)) → CommandSeen → HandedOut
-handed_held contents c = held_by contents (secrets_named c) (keys_named c)
+handed_held contents c = held_by contents (secrets_named c) (keys_named c) (bundles_named c)
 
 -- a script is run where its inputs have no fault, which else is told
 abbrev pub inputs_end : NamedSeen → ScriptSeen → HandedOut → (order : List ℕ) → Option InputFault → Ended
@@ -239,7 +264,7 @@ inputs_end n s handed order (Some fault.Secrets) = secrets_end
 inputs_end n s handed order (Some fault.OutOfMemory) = memory_end
 
 abbrev pub named_end : (List ℕ → Option (List ℕ)) → NamedSeen → ScriptSeen → (order : List ℕ) → Ended
-named_end contents n s order = inputs_end n s (held_by contents n.secrets n.keys) order (wrong_input contents (needs_keys s.calls) n)
+named_end contents n s order = inputs_end n s (held_by contents n.secrets n.keys n.bundles) order (wrong_input contents (needs_keys s.calls) n)
 
 abbrev pub script_end : (List ℕ → Option (List ℕ)) → CommandSeen → ScriptSeen → (order : List ℕ) → Ended
 script_end contents (Replay n) s order = named_end contents n s order

@@ -76,10 +76,10 @@ EndsWith before after contents c old new status =
 -- ---- what each status says, where contents are told
 
 -- One run: the named script is there and is in the grammar, the named inputs are there and have their forms, the output got
--- just the reply lines of the flat machine's run of the script, with the secret words of the named file, under one order of
--- its events, which for a replay is the schedule; and then each file that is named was saved, the container with the bundles of
--- that same run, sealed under the keys of the named file, and the guest file with what its guests noted. For check: the output
--- got the script's numbers.
+-- just the reply lines of the flat machine's run of the script, with the secret words of the named file and the bundles of the
+-- named container, opened under the keys of the named file, under one order of its events, which for a replay is the schedule;
+-- and then each file that is named was saved, the container with the bundles of that same run, sealed under the same keys, and
+-- the guest file with what its guests noted. For check: the output got the script's numbers.
 pub record OneRun (contents : List ℕ → Option (List ℕ)) (c : Option CommandSeen) (old new : Option (List ℕ)) (written written' : Writes) : Type 0 where
   pub command : CommandSeen
   pub read_as : c ≡ Some command
@@ -158,7 +158,7 @@ pub record HasWrongLength (file : NamedSeen → Option (List ℕ)) (count : ℕ)
   pub there : contents name ≡ Some bytes
   pub wrong : length bytes ≢ count
 
--- the named script is there, a call of it makes a bundle, and no key file is named
+-- the named script is there, a call of it makes a bundle or takes one, and no key file is named
 pub record LacksKeys (contents : List ℕ → Option (List ℕ)) (c : Option CommandSeen) : Type 0 where
   pub command : CommandSeen
   pub read_as : c ≡ Some command

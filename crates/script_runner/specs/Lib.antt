@@ -1,5 +1,6 @@
 pub mod Ending
 pub mod Accesses
+pub mod Images
 pub mod Threads
 pub mod Blind
 pub mod Saving

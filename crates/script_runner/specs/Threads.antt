@@ -3,9 +3,8 @@ use Rattle.std.specs.Prelude.{◌≡◌}
 use Rattle.script_text.specs.Seen.{ScriptSeen}
 use Rattle.command_files.specs.Commands.{NamedSeen, CommandSeen, Replay, Run, Check}
 use Rattle.run_texts.specs.declared.replay.Texts.{Texts}
-use Rattle.run_texts.specs.Openings.{opening_of}
 use Rattle.run_texts.specs.Threaded.{AreOfThreads}
-use Rattle.script_runner.specs.Ending.{Ended, HandedOut, both_files}
+use Rattle.script_runner.specs.Ending.{Ended, HandedOut, opening_by, both_files}
 
 -- an ending that puts and saves these texts
 abbrev pub texts_end : NamedSeen → Texts → Ended
@@ -14,7 +13,7 @@ texts_end n t = record { status = 0; text = t.replies.items; files = both_files 
 -- The ending's texts are those of processors in threads: their own lists of word steps have an order that plays, and each such
 -- order is one of events under which the flat machine's run prints these texts and makes these bundles.
 abbrev pub EndsThreads : NamedSeen → ScriptSeen → HandedOut → Ended → Type 0
-EndsThreads n s handed e = (t : Texts) × AreOfThreads (opening_of handed.secrets s) handed.keys.forward handed.keys.backward n.out_bundles n.guest_out t × (e ≡ texts_end n t)
+EndsThreads n s handed e = (t : Texts) × AreOfThreads (opening_by handed s) handed.keys.forward handed.keys.backward n.out_bundles n.guest_out t × (e ≡ texts_end n t)
 
 -- a run's ending is so; a replay has no threads
 abbrev pub ThreadsOf : CommandSeen → ScriptSeen → HandedOut → Ended → Type 0

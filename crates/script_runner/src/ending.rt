@@ -1,6 +1,7 @@
 //! How a command ends: its status, the text that is put, and the files that are saved.
 
 ghost use Rattle.std.specs.Prelude.{◌≡◌, ◌≢◌, ◌≤◌, ◌<◌, ◌^◌, [], length, map, slice_index, IfOk, Err};
+ghost use Rattle.bundle_store.specs.Containers.{AreInOrder};
 ghost use Rattle.script_text.specs.Laws.{IsInForm};
 ghost use Rattle.script_text.specs.Seen.{ScriptSeen};
 ghost use Rattle.command_files.specs.Commands.{CommandSeen, Replay, Run, named_seen};
@@ -8,8 +9,10 @@ ghost use Rattle.script_runner.specs.Ending.{ending_seen, usage_end, unread_end,
 ghost use Rattle.script_runner.specs.Threads.{texts_end};
 ghost use Rattle.script_runner.specs.Commanded.{handed_in, InputsEnd, EndsRun};
 
+use crate::opened::opened_bundles;
 use command_files::{Input, InputFault, Inputs, KeyBytes, Named};
 use leaf_engine::Gate;
+use leaf_table::Given;
 use run_texts::{KeyPair, Texts, replay_texts, threaded_texts};
 use script_text::{Reason, Script};
 use std::alloc::{AllocError, Global};
@@ -182,13 +185,21 @@ pub fn replay<'a>(
 ) -> Result<Ending<'a>, AllocError>
     requires form { IsInForm script.now }
     requires secrets { length inputs.now.secrets.items ≡ 512 }
+    requires order { AreInOrder 0 inputs.now.bundles.items }
     ensures { IfOk result (λ e. EndsRun (Replay (named_seen named.now)) (named_seen named.now) script.now (handed_in inputs.now) (ending_seen e)) }
 {
     let keys = keys_of(&inputs.keys);
+    let Ok(bundles) = opened_bundles(alloc, &keys, &inputs.bundles) else {
+        return Err(AllocError);
+    };
+    let given = Given {
+        secrets: &inputs.secrets,
+        bundles: &bundles,
+    };
     match replay_texts(
         alloc,
         script,
-        &inputs.secrets,
+        given,
         &keys,
         named.out_bundles,
         named.guest_out,
@@ -209,14 +220,22 @@ pub fn run<'a, R: Threads + Sync, G: Gate + Sync>(
 ) -> Result<Ending<'a>, AllocError>
     requires form { IsInForm script.now }
     requires secrets { length inputs.now.secrets.items ≡ 512 }
+    requires order { AreInOrder 0 inputs.now.bundles.items }
     ensures { IfOk result (λ e. EndsRun (Run (named_seen named.now)) (named_seen named.now) script.now (handed_in inputs.now) (ending_seen e)) }
 {
     let keys = keys_of(&inputs.keys);
+    let Ok(bundles) = opened_bundles(alloc, &keys, &inputs.bundles) else {
+        return Err(AllocError);
+    };
+    let given = Given {
+        secrets: &inputs.secrets,
+        bundles: &bundles,
+    };
     match threaded_texts(
         threads,
         alloc,
         script,
-        &inputs.secrets,
+        given,
         &keys,
         named.out_bundles,
         named.guest_out,

@@ -3,9 +3,9 @@
 ghost use Rattle.std.specs.Prelude.{◌≡◌, ◌≢◌, ◌≤◌, ◌⊎◌, ◌++◌, ◌∷◌, [], ℕ, List, None, Some, Result, Ok, map, option_map, string_bytes, IfSome, IfOk};
 ghost use Rattle.bundle_store.specs.History.{Put};
 ghost use Rattle.command_files.specs.Commands.{Check, command_in};
-ghost use Rattle.run_texts.specs.Openings.{opening_of};
-ghost use Rattle.script_runner.specs.Ending.{ending_seen, file_named, ending_of, handed_held, memory_end};
+ghost use Rattle.script_runner.specs.Ending.{ending_seen, file_named, ending_of, handed_held, opening_by, memory_end};
 ghost use Rattle.script_runner.specs.Accesses.{OwnAccesses};
+ghost use Rattle.script_runner.specs.Images.{StartsFromPauses};
 ghost use Rattle.script_runner.specs.Ends.{PutsPart, EndsWith, OneRun, IsComplete, IsBadScript, IsBadContainer, IsBadKeysOrSecrets, ShowsBlind, ReadCause, WriteCause, PutsFrontsOf};
 ghost use Rattle.script_runner.specs.Done.{PutsOnce, PutsRun, PutsAndSaved, PutsUsage, PutsFault, PutsName, PutsPlace, PutsKeysOrSecrets, PutsThreads, PutsBlind, PutsHeadline, PutsLost, PutsMemory, SavesNothing, ChangesNothing, KeepsOrSaves};
 ghost use Rattle.script_runner.specs.Saving.{out_names};
@@ -18,6 +18,7 @@ use command_files::read_command;
 use flat_core::access_law;
 use isol_laws::two_world_law;
 use leaf_engine::Gate;
+use mig_laws::image_law;
 use std::alloc::{AllocError, Global};
 use std::thread::Threads;
 
@@ -201,20 +202,25 @@ pub fn tdx_main<R: Threads + Sync, F: Files, K: Sink, G: Gate + Sync>(
     // the first load handed out, or for `check` its numbers, and came through; and every output was
     // written, the container with the bundles that that same run made, sealed under the keys that were
     // handed out, and the guest file with what its guests noted. The run has the secret words that were
-    // handed out, and one order of events: for `replay` the schedule, for `run` some order.
+    // handed out, the bundles of the container that was, opened under those keys, and one order of
+    // events: for `replay` the schedule, for `run` some order.
     ensures put_run { result ≡ 0 → PutsRun (command_in (map string_bytes words.now)) (F.loads files.old) (F.loads files.new) (K.puts out.old) (K.puts out.new) (Ok tt) }
     ensures saved { result ≡ 0 → PutsAndSaved (command_in (map string_bytes words.now)) (F.loads files.old) (F.loads files.new) (K.puts out.old) (K.puts out.new) (record { contents = F.contents files.old; saves = F.saves files.old; faults = F.write_faults files.old }) (record { contents = F.contents files.new; saves = F.saves files.new; faults = F.write_faults files.new }) }
     // In that run each access of a guest to its private memory reached a private page of its own TD,
     // which the TD's secure EPT named there; a load gave the word that the guest knew, and a store left
     // it its register's.
-    ensures put_accesses { result ≡ 0 → (run : PutsRun (command_in (map string_bytes words.now)) (F.loads files.old) (F.loads files.new) (K.puts out.old) (K.puts out.new) (Ok tt)) × OwnAccesses (opening_of run.handed.secrets run.script) run.order }
+    ensures put_accesses { result ≡ 0 → (run : PutsRun (command_in (map string_bytes words.now)) (F.loads files.old) (F.loads files.new) (K.puts out.old) (K.puts out.new) (Ok tt)) × OwnAccesses (opening_by run.handed run.script) run.order }
     // For `run` what was put and saved is what processors in threads can have done: there are own lists
     // of word steps, one of each, which have an order that plays, and each such order is one of events
     // under which the flat machine's run prints and notes the same.
     ensures put_threads { result ≡ 0 → PutsThreads (command_in (map string_bytes words.now)) (F.loads files.old) (F.loads files.new) (K.puts out.old) (K.puts out.new) (record { contents = F.contents files.old; saves = F.saves files.old; faults = F.write_faults files.old }) (record { contents = F.contents files.new; saves = F.saves files.new; faults = F.write_faults files.new }) }
     // What was put is what the same run prints with every private word 0, in which the same words are
-    // told; and so what each run prints that agrees on all that is public, and tells the same.
+    // told; and so what each run prints that agrees on all that is public, and tells the same. Private
+    // are secret words, and the payloads of states and pages that came in.
     ensures put_blind { result ≡ 0 → PutsBlind (command_in (map string_bytes words.now)) (F.loads files.old) (F.loads files.new) (K.puts out.old) (K.puts out.new) }
+    // Unless a tag was forged, each TD that the run committed started from the pause of its source: of
+    // every run that made all bundles that came in and opened, whatever its script.
+    ensures put_images { result ≡ 0 → (run : PutsRun (command_in (map string_bytes words.now)) (F.loads files.old) (F.loads files.new) (K.puts out.old) (K.puts out.new) (Ok tt)) × StartsFromPauses (opening_by run.handed run.script) run.order }
     // And all of it is said of one run.
     ensures headline { result ≡ 0 → PutsHeadline (command_in (map string_bytes words.now)) (F.loads files.old) (F.loads files.new) (K.puts out.old) (K.puts out.new) (record { contents = F.contents files.old; saves = F.saves files.old; faults = F.write_faults files.old }) (record { contents = F.contents files.new; saves = F.saves files.new; faults = F.write_faults files.new }) }
     // At 1 it was given the usage line, and nothing was loaded; at 2 the first fault of what the one
@@ -233,8 +239,9 @@ pub fn tdx_main<R: Threads + Sync, F: Files, K: Sink, G: Gate + Sync>(
     // Where contents are told, at status 0 the output got just the reply lines of the flat machine's run
     // of the named script, or its numbers, and each file that is named has what that same run leaves.
     ensures one_run { result ≡ 0 → IfSome (F.contents files.old) (λ k. OneRun k (command_in (map string_bytes words.now)) (K.told out.old) (K.told out.new) (record { contents = F.contents files.old; saves = F.saves files.old; faults = F.write_faults files.old }) (record { contents = F.contents files.new; saves = F.saves files.new; faults = F.write_faults files.new })) }
-    ensures one_accesses { result ≡ 0 → IfSome (F.contents files.old) (λ k. (run : OneRun k (command_in (map string_bytes words.now)) (K.told out.old) (K.told out.new) (record { contents = F.contents files.old; saves = F.saves files.old; faults = F.write_faults files.old }) (record { contents = F.contents files.new; saves = F.saves files.new; faults = F.write_faults files.new })) × OwnAccesses (opening_of (handed_held k run.command).secrets run.script) run.order) }
+    ensures one_accesses { result ≡ 0 → IfSome (F.contents files.old) (λ k. (run : OneRun k (command_in (map string_bytes words.now)) (K.told out.old) (K.told out.new) (record { contents = F.contents files.old; saves = F.saves files.old; faults = F.write_faults files.old }) (record { contents = F.contents files.new; saves = F.saves files.new; faults = F.write_faults files.new })) × OwnAccesses (opening_by (handed_held k run.command) run.script) run.order) }
     ensures one_blind { result ≡ 0 → IfSome (F.contents files.old) (λ k. ShowsBlind k (command_in (map string_bytes words.now)) (K.told out.old) (K.told out.new) (record { contents = F.contents files.old; saves = F.saves files.old; faults = F.write_faults files.old }) (record { contents = F.contents files.new; saves = F.saves files.new; faults = F.write_faults files.new })) }
+    ensures one_images { result ≡ 0 → IfSome (F.contents files.old) (λ k. (run : OneRun k (command_in (map string_bytes words.now)) (K.told out.old) (K.told out.new) (record { contents = F.contents files.old; saves = F.saves files.old; faults = F.write_faults files.old }) (record { contents = F.contents files.new; saves = F.saves files.new; faults = F.write_faults files.new })) × StartsFromPauses (opening_by (handed_held k run.command) run.script) run.order) }
     // There each status comes with its text.
     ensures ends { IfSome (F.contents files.old) (λ k. EndsWith (record { reads = F.read_faults files.old; writes = F.write_faults files.old; puts = K.faults out.old }) (record { reads = F.read_faults files.new; writes = F.write_faults files.new; puts = K.faults out.new }) k (command_in (map string_bytes words.now)) (K.told out.old) (K.told out.new) result) }
     // There the status that is due comes, whatever the order of events; only a fault or want of memory
@@ -270,5 +277,6 @@ pub fn tdx_main<R: Threads + Sync, F: Files, K: Sink, G: Gate + Sync>(
 {
     access_law();
     two_world_law();
+    image_law();
     do_command(threads, alloc, words, files, out, gate)
 }

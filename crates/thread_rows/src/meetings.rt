@@ -1,6 +1,8 @@
 //! Two processors that wait for each other, each at a place of its own.
 
+use incoming::IncomingBundles;
 use leaf_engine::Gate;
+use leaf_table::Given;
 use run_texts::{KeyPair, threaded_texts};
 use script_text::{read_script, scripts_are_in_form};
 use std::sync::atomic::{AtomicU64, Ordering};
@@ -70,13 +72,18 @@ fn two_processors_meet(rt: HostRuntime) -> Result<(), Fail> {
     let alloc = rt.alloc();
     let script = read_script(alloc, SCRIPT.as_bytes())?;
     let secrets = vec![in alloc; 0u64; 512]?;
+    let bundles = IncomingBundles::new(alloc);
+    let given = Given {
+        secrets: &secrets,
+        bundles: &bundles,
+    };
     let keys = KeyPair {
         forward: [1; 32],
         backward: [2; 32],
     };
     for (first, second) in PLACES {
         let gate = Meeting::at(*first, *second);
-        let texts = threaded_texts(&rt, alloc, &script, &secrets, &keys, None, None, &gate)?;
+        let texts = threaded_texts(&rt, alloc, &script, given, &keys, None, None, &gate)?;
         let met = gate.met.load(Ordering::SeqCst);
         assert_eq!(rt; met, 2, "those that met at {first} and {second}");
         assert_eq!(rt; texts.replies.as_slice(), REPLIES.as_bytes());

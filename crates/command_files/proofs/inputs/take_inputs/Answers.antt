@@ -17,4 +17,4 @@ returns-in-Some-load_fault-2-clause-takes g c =
 pub returns-clause-takes : goal.returns-clause-takes
 returns-clause-takes g c =
     all_read _ _ _ _ _ _ c.load_named-bundles.ensures.loads (sym c.load_fault.ensures ∙ c.in_default.is) _ _ (rw c.load_named-bundles.ensures.same at c.load_named-keys.ensures.loads) (sym c.load_fault-2.ensures ∙ c.in_default-load_fault.is) _ _
-    (rw (c.load_named-keys.ensures.same, c.load_named-bundles.ensures.same) at c.load_named-secrets.ensures.loads) _ (sym c.load_fault-3.ensures ∙ c.in_default-load_fault-2.is) c.inputs_of.ensures.due c.inputs_of.ensures.key_bytes c.inputs_of.ensures.words
+    (rw (c.load_named-keys.ensures.same, c.load_named-bundles.ensures.same) at c.load_named-secrets.ensures.loads) _ (sym c.load_fault-3.ensures ∙ c.in_default-load_fault-2.is) c.inputs_of.ensures.due c.inputs_of.ensures.listed c.inputs_of.ensures.key_bytes c.inputs_of.ensures.words

@@ -1,6 +1,6 @@
 use Rattle.std.proofs.Common.{◌≡◌, [], length}
 use Rattle.trace_table.specs.Benches.{bench_of}
-use Rattle.leaf_dispatch.specs.Table.{secrets_in}
+use Rattle.leaf_table.specs.Given.{given_in}
 use Rattle.run_texts.specs.Openings.{opening_of}
 use Rattle.run_texts.specs.Replaying.{IsAtBench, HaveEnded}
 use Rattle.run_texts.proofs.replay.finish_all.Given as goal
@@ -9,5 +9,5 @@ abbrev pub invariant-loop-lp : goal.invariant-loop-lp
 invariant-loop-lp l = record {
   count : length l.lps ≡ length l.initial.lps;
   ended : HaveEnded l.lp l.lps;
-  left : IsAtBench (opening_of (secrets_in l.secrets) l.script) l.script.schedule [] l.lps (bench_of l.initial.bench).pass.table (bench_of l.bench);
+  left : IsAtBench (opening_of (given_in l.given) l.script) l.script.schedule [] l.lps (bench_of l.initial.bench).pass.table (bench_of l.bench);
 }

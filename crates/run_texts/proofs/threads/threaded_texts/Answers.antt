@@ -4,7 +4,7 @@ use Rattle.std.proofs.lemmas.List.{length-map}
 use Rattle.script_text.specs.Seen.{ScriptSeen}
 use Rattle.trace_table.specs.Benches.{PassSeen, pass_of, bench_of, table_of}
 use Rattle.leaf_dispatch.specs.States.{Moves}
-use Rattle.leaf_dispatch.specs.Table.{secrets_in}
+use Rattle.leaf_table.specs.Given.{given_in}
 use Rattle.leaf_dispatch.specs.declared.states.LpState.{LpState}
 use Rattle.lp_threads.specs.declared.lanes.Lane.{Lane}
 use Rattle.lp_threads.specs.Running.{FitsBench, HaveRun}
@@ -32,10 +32,10 @@ lanes_at-requires-clause-few g c =
 
 pub run_all-requires-after_bounds : goal.run_all-requires-after_bounds
 run_all-requires-after_bounds g c κs within =
-    let begin : AreFirst c.script.inside.machine c.args.secrets.now c.deref-codes.result.now 0 (processors_of c.in_ok-lanes.lanes.items) (map (λ list. list.items) c.deref.result.now) =
-    subst (λ (x : List LpState). AreFirst c.script.inside.machine c.args.secrets.now c.deref-codes.result.now 0 x (map (λ list. list.items) c.deref.result.now)) (sym c.in_ok-lanes.ensures.processors) c.in_ok-states.ensures in
+    let begin : AreFirst c.script.inside.machine (given_in c.args.given) c.deref-codes.result.now 0 (processors_of c.in_ok-lanes.lanes.items) (map (λ list. list.items) c.deref.result.now) =
+    subst (λ (x : List LpState). AreFirst c.script.inside.machine (given_in c.args.given) c.deref-codes.result.now 0 x (map (λ list. list.items) c.deref.result.now)) (sym c.in_ok-lanes.ensures.processors) c.in_ok-states.ensures in
     subst (λ (x : List (Lane LpState)). All (FitsBench (λ s. s.place.machine)) x) (sym c.as_mut_slice.ensures.value)
-    (fits c.script.inside.machine c.args.secrets.now c.deref-codes.result.now 0 (bench_of c.new-first.result) c.in_ok-lanes.lanes.items (map (λ list. list.items) c.deref.result.now) (c.new-first.ensures.machine ∙ c.in_ok-table.ensures.machine) begin c.in_ok-lanes.ensures.benches)
+    (fits c.script.inside.machine (given_in c.args.given) c.deref-codes.result.now 0 (bench_of c.new-first.result) c.in_ok-lanes.lanes.items (map (λ list. list.items) c.deref.result.now) (c.new-first.ensures.machine ∙ c.in_ok-table.ensures.machine) begin c.in_ok-lanes.ensures.benches)
 
 pub taken_in-requires-clause-others : goal.taken_in-requires-clause-others
 taken_in-requires-clause-others g c =
@@ -120,11 +120,11 @@ all_texts-requires-clause-fit g c =
     let script = c.args.script.now in
     let first = bench_of c.new-first.result in
     let h =
-    all-have-run script c.script.inside.machine c.in_ok-table.table.machine c.args.secrets.now c.deref-codes.result.now (map (λ list. list.items) c.deref.result.now) c.in_ok-states.states.items first lanes c.as_mut_slice.result.now ran now (pass_of c.into_pass-pass.result).lists c.close.result.words
+    all-have-run script c.script.inside.machine c.in_ok-table.table.machine (given_in c.args.given) c.deref-codes.result.now (map (λ list. list.items) c.deref.result.now) c.in_ok-states.states.items first lanes c.as_mut_slice.result.now ran now (pass_of c.into_pass-pass.result).lists c.close.result.words
     (ap (λ (s : ScriptSeen). s.machine) c.script.view_is) (c.deref-codes.ensures.value ∙ ap (λ (s : ScriptSeen). s.codes) c.script.view_is) (ap (map (λ list. list.items)) c.deref.ensures.value ∙ ap (λ (s : ScriptSeen). s.calls) c.script.view_is) c.in_ok-states.ensures
     c.in_ok-lanes.ensures.processors c.in_ok-lanes.ensures.benches c.as_mut_slice.ensures.value c.run_all.ensures c.run_all.auto.lanes now-is c.in_ok-table.ensures.machine (ap (λ (q : PassSeen). q.lists) pass) c.close.ensures in
     subst (λ (x : List LpState). FitContainer (bundles_seen x)) (sym (c.as_slice.ensures.value ∙ c.in_ok-ended.ensures.processors))
-    (fits-lanes c.laws_of_turns.ensures c.threads_are_runs.ensures (opening_of (secrets_in c.args.secrets.now) script) (open-of (secrets_in c.args.secrets.now) script c.requires.form) c.args.secrets.now script.codes first lanes now c.close.result.words h (some-calls script c.requires.form))
+    (fits-lanes c.laws_of_turns.ensures c.threads_are_runs.ensures (opening_of (given_in c.args.given) script) (open-of (given_in c.args.given) script c.requires.form) (given_in c.args.given) script.codes first lanes now c.close.result.words h (some-calls script c.requires.form))
 
 pub returns-clause-some : goal.returns-clause-some
 returns-clause-some g c =
@@ -143,15 +143,15 @@ returns-clause-some g c =
     let out : Option (List ℕ) = option_map {T = Bor (List ℕ)} {U = List ℕ} (λ name. name.now) c.args.out_bundles in
     let name : Option (List ℕ) = option_map {T = Bor (List ℕ)} {U = List ℕ} (λ name. name.now) c.args.guest_out in
     let h =
-    all-have-run script c.script.inside.machine c.in_ok-table.table.machine c.args.secrets.now c.deref-codes.result.now (map (λ list. list.items) c.deref.result.now) c.in_ok-states.states.items first lanes c.as_mut_slice.result.now ran now (pass_of c.into_pass-pass.result).lists c.close.result.words
+    all-have-run script c.script.inside.machine c.in_ok-table.table.machine (given_in c.args.given) c.deref-codes.result.now (map (λ list. list.items) c.deref.result.now) c.in_ok-states.states.items first lanes c.as_mut_slice.result.now ran now (pass_of c.into_pass-pass.result).lists c.close.result.words
     (ap (λ (s : ScriptSeen). s.machine) c.script.view_is) (c.deref-codes.ensures.value ∙ ap (λ (s : ScriptSeen). s.codes) c.script.view_is) (ap (map (λ list. list.items)) c.deref.ensures.value ∙ ap (λ (s : ScriptSeen). s.calls) c.script.view_is) c.in_ok-states.ensures
     c.in_ok-lanes.ensures.processors c.in_ok-lanes.ensures.benches c.as_mut_slice.ensures.value c.run_all.ensures c.run_all.auto.lanes now-is c.in_ok-table.ensures.machine (ap (λ (q : PassSeen). q.lists) pass) c.close.ensures in
     let forward = c.args.keys.now.forward in
     let backward = c.args.keys.now.backward in
     told-of (λ t. TellAll out name (concat (lines_seen 0 c.as_slice.result.now)) (container_text forward backward (bundles_seen c.as_slice.result.now)) (concat (notes_seen 0 c.as_slice.result.now)) t)
-    (AreOfSomeRun (opening_of (secrets_in c.args.secrets.now) script) forward backward out name) c.all_texts.result
+    (AreOfSomeRun (opening_of (given_in c.args.given) script) forward backward out name) c.all_texts.result
     (λ t told.
-    of-some c.laws_of_turns.ensures c.threads_are_runs.ensures (opening_of (secrets_in c.args.secrets.now) script) (open-of (secrets_in c.args.secrets.now) script c.requires.form) c.args.secrets.now script.codes first lanes now c.close.result.words h (some-calls script c.requires.form) forward backward out name t
+    of-some c.laws_of_turns.ensures c.threads_are_runs.ensures (opening_of (given_in c.args.given) script) (open-of (given_in c.args.given) script c.requires.form) (given_in c.args.given) script.codes first lanes now c.close.result.words h (some-calls script c.requires.form) forward backward out name t
     (subst (λ (x : List LpState). TellAll out name (concat (lines_seen 0 x)) (container_text forward backward (bundles_seen x)) (concat (notes_seen 0 x)) t) (c.as_slice.ensures.value ∙ c.in_ok-ended.ensures.processors) told))
     c.all_texts.ensures
 
@@ -172,14 +172,14 @@ returns-clause-each g c =
     let out : Option (List ℕ) = option_map {T = Bor (List ℕ)} {U = List ℕ} (λ name. name.now) c.args.out_bundles in
     let name : Option (List ℕ) = option_map {T = Bor (List ℕ)} {U = List ℕ} (λ name. name.now) c.args.guest_out in
     let h =
-    all-have-run script c.script.inside.machine c.in_ok-table.table.machine c.args.secrets.now c.deref-codes.result.now (map (λ list. list.items) c.deref.result.now) c.in_ok-states.states.items first lanes c.as_mut_slice.result.now ran now (pass_of c.into_pass-pass.result).lists c.close.result.words
+    all-have-run script c.script.inside.machine c.in_ok-table.table.machine (given_in c.args.given) c.deref-codes.result.now (map (λ list. list.items) c.deref.result.now) c.in_ok-states.states.items first lanes c.as_mut_slice.result.now ran now (pass_of c.into_pass-pass.result).lists c.close.result.words
     (ap (λ (s : ScriptSeen). s.machine) c.script.view_is) (c.deref-codes.ensures.value ∙ ap (λ (s : ScriptSeen). s.codes) c.script.view_is) (ap (map (λ list. list.items)) c.deref.ensures.value ∙ ap (λ (s : ScriptSeen). s.calls) c.script.view_is) c.in_ok-states.ensures
     c.in_ok-lanes.ensures.processors c.in_ok-lanes.ensures.benches c.as_mut_slice.ensures.value c.run_all.ensures c.run_all.auto.lanes now-is c.in_ok-table.ensures.machine (ap (λ (q : PassSeen). q.lists) pass) c.close.ensures in
     let forward = c.args.keys.now.forward in
     let backward = c.args.keys.now.backward in
     told-of (λ t. TellAll out name (concat (lines_seen 0 c.as_slice.result.now)) (container_text forward backward (bundles_seen c.as_slice.result.now)) (concat (notes_seen 0 c.as_slice.result.now)) t)
-    (AreOfThreads (opening_of (secrets_in c.args.secrets.now) script) forward backward out name) c.all_texts.result
+    (AreOfThreads (opening_of (given_in c.args.given) script) forward backward out name) c.all_texts.result
     (λ t told.
-    of-threads c.laws_of_turns.ensures c.threads_are_runs.ensures (opening_of (secrets_in c.args.secrets.now) script) (open-of (secrets_in c.args.secrets.now) script c.requires.form) c.args.secrets.now script.codes first lanes now c.close.result.words h (some-calls script c.requires.form) forward backward out name t
+    of-threads c.laws_of_turns.ensures c.threads_are_runs.ensures (opening_of (given_in c.args.given) script) (open-of (given_in c.args.given) script c.requires.form) (given_in c.args.given) script.codes first lanes now c.close.result.words h (some-calls script c.requires.form) forward backward out name t
     (subst (λ (x : List LpState). TellAll out name (concat (lines_seen 0 x)) (container_text forward backward (bundles_seen x)) (concat (notes_seen 0 x)) t) (c.as_slice.ensures.value ∙ c.in_ok-ended.ensures.processors) told))
     c.all_texts.ensures

@@ -1,6 +1,7 @@
 use Rattle.std.proofs.Common.{ap}
 use Rattle.script_runner.specs.Saving.{Writes}
 use Rattle.script_runner.proofs.Accesses.{in-put, in-one}
+use Rattle.script_runner.proofs.Images as images
 use Rattle.script_runner.proofs.Blind.{put-blind, one-blind, headline}
 use Rattle.script_runner.proofs.Histories.{check_status, all_loads, all_ends, told_run, told_complete, told_bad, told_container, told_keys, told_fronts, put_run, put_threads, all_saved, put_usage, put_fault, put_name, put_place, put_keys, put_lost, put_memory, unread_cause, lost_cause, used, one_text, some_text, same_files, kept_or_saved, none_saved}
 use Rattle.script_runner.proofs.top.tdx_main.Goals as goal
@@ -26,9 +27,12 @@ returns-clause-put_threads g c = put_threads _ _ _ _ _ _ _ _ _ c.do_command.ensu
 pub returns-clause-put_blind : goal.returns-clause-put_blind
 returns-clause-put_blind g c zero = put-blind c.two_world_law.ensures.prints c.two_world_law.ensures.bundles c.two_world_law.ensures.agreeing _ _ _ _ _ (put_run _ _ _ _ _ _ _ _ _ c.do_command.ensures.does zero)
 
+pub returns-clause-put_images : goal.returns-clause-put_images
+returns-clause-put_images g c zero = images.in-put c.image_law.ensures.runs _ _ _ _ _ _ (put_run _ _ _ _ _ _ _ _ _ c.do_command.ensures.does zero)
+
 pub returns-clause-headline : goal.returns-clause-headline
 returns-clause-headline g c zero =
-    headline c.two_world_law.ensures.prints c.two_world_law.ensures.bundles c.two_world_law.ensures.agreeing c.access_law.ensures.accesses _ _ _ _ _ _ _
+    headline c.two_world_law.ensures.prints c.two_world_law.ensures.bundles c.two_world_law.ensures.agreeing c.access_law.ensures.accesses c.image_law.ensures.runs _ _ _ _ _ _ _
     (all_saved _ _ _ _ _ _ _ _ _ c.do_command.ensures.does zero)
 
 pub returns-clause-put_usage : goal.returns-clause-put_usage
@@ -57,6 +61,9 @@ returns-clause-one_run g c zero = told_run _ _ _ _ _ _ _ _ _ c.do_command.ensure
 
 pub returns-clause-one_accesses : goal.returns-clause-one_accesses
 returns-clause-one_accesses g c zero = in-one c.access_law.ensures.accesses _ _ _ _ _ _ (told_run _ _ _ _ _ _ _ _ _ c.do_command.ensures.does zero)
+
+pub returns-clause-one_images : goal.returns-clause-one_images
+returns-clause-one_images g c zero = images.in-one c.image_law.ensures.runs _ _ _ _ _ _ (told_run _ _ _ _ _ _ _ _ _ c.do_command.ensures.does zero)
 
 pub returns-clause-one_blind : goal.returns-clause-one_blind
 returns-clause-one_blind g c zero = one-blind c.two_world_law.ensures.prints c.two_world_law.ensures.bundles c.two_world_law.ensures.agreeing _ _ _ _ _ _ (told_run _ _ _ _ _ _ _ _ _ c.do_command.ensures.does zero)
