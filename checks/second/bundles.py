@@ -87,14 +87,23 @@ def seal(keys, header, payload):
     return start + tag + sealed
 
 
-def unseal(keys, bundle):
-    """The payload of a bundle; refuses one whose tag is another."""
+@functools.lru_cache(1024)
+def opened(keys, bundle):
+    """The payload of a bundle, or None where its tag is another. Runs of one script open the same ones."""
     header = header_of(bundle)
     key, start = key_of(keys, header.type), bundle[: LAYOUT.size]
     try:
         return gcm.unseal(key, iv_of(header), bundle[HEADER_BYTES:], start, bundle[TAG])
     except gcm.WrongTag:
-        raise Refused("BUNDLE_TAG") from None
+        return None
+
+
+def unseal(keys, bundle):
+    """The payload of a bundle; refuses one whose tag is another."""
+    payload = opened(keys, bundle)
+    if payload is None:
+        raise Refused("BUNDLE_TAG")
+    return payload
 
 
 class BadContainer(Exception):

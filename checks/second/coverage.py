@@ -1,9 +1,9 @@
-"""What a run of many scripts is to reach: every refusal of every call that is built, every exit, all that
+"""What a run of many scripts is to reach: every refusal of every call, every exit, all that
 can come of each guest operation, what becomes of cached translations, beside which guests memory is taken, how
-many guests are in at once, every reason of a script's fault, and every status of the program that its words and
-its script decide."""
+many guests are in at once, every fault of a bundle that comes in, every reason of a script's fault, and every status
+of the program that its words and its script decide."""
 
-from scripts import BUILT, REASONS, UNBUILT
+from scripts import BY_TOKEN, CALLS, REASONS
 
 TD = "PAGE_METADATA_INCORRECT 1"
 SECOND = "PAGE_METADATA_INCORRECT 2"
@@ -20,9 +20,21 @@ LIVE = "OP_STATE_INCORRECT LIVE_EXPORT"
 PAUSED = "OP_STATE_INCORRECT PAUSED_EXPORT"
 POST = "OP_STATE_INCORRECT POST_EXPORT"
 SESSION = (LIVE, PAUSED, POST)
+MEMORY_IN = "OP_STATE_INCORRECT MEMORY_IMPORT"
+STATE_IN = "OP_STATE_INCORRECT STATE_IMPORT"
+ALL_IN = "OP_STATE_INCORRECT POST_IMPORT"
+LIVE_IN = "OP_STATE_INCORRECT LIVE_IMPORT"
+FAILED_IN = "OP_STATE_INCORRECT FAILED_IMPORT"
+FILLING = (MEMORY_IN, STATE_IN)
+FILLED = (ALL_IN, LIVE_IN, FAILED_IN)
+IMPORT = (*FILLING, *FILLED)
 WALKS = ("EPT_WALK_FAILED 3", "EPT_WALK_FAILED 2", "EPT_WALK_FAILED 1")
 HEAD = (TD, ASSIGNED, BLOCKED, TEARDOWN, "TDCX_NUM_INCORRECT 0", "TDCX_NUM_INCORRECT 1")
 EARLY = (*HEAD, UNINITIALIZED, INITIALIZED)
+# Of a call that takes a bundle: what may be wrong before its TD is looked at, and what isn't that of the session.
+FORM = ("NO_BUNDLE", *(f"BUNDLE_HEADER {name}" for name in ("SHORT", "SIZE", "VERSION", "TYPE", "RESERVED", "VALUE", "LENGTH")))
+UNFIT = ("BUNDLE_HEADER SESSION", "BUNDLE_COUNTER", "BUNDLE_TAG")
+UNDUE = (*UNFIT, "BUNDLE_HEADER EPOCH")
 
 
 def states(*names):
@@ -33,8 +45,8 @@ def states(*names):
 EXPORTED = states("EXPORTED_BLOCKEDW", "EXPORTED_DIRTY", "EXPORTED_DIRTY_BLOCKEDW")
 
 # By call, and by field for MNG.RD: which of its tries can be denied, and its other refusals. Where O is
-# held exclusively T can't be busy. A TD that runs has no VCPU in CREATED, since nothing is imported; and no script
-# has calls enough for the last value of a counter.
+# held exclusively T can't be busy. While memory comes in an entry is FREE or MAPPED, and no page comes later; and no
+# script has calls enough for the last value of a counter.
 REFUSALS = {
     "HOST.READ": ((1,), ()),
     "HOST.WRITE": ((1,), ("NOT_HOST",)),
@@ -44,84 +56,109 @@ REFUSALS = {
     "MNG.CREATE": ((1, 2), (TD, "HKID_NOT_FREE")),
     "MNG.KEY.CONFIG": ((1,), (TD, CONFIGURED, BLOCKED, TEARDOWN)),
     "MNG.ADDCX": ((1, 2), (TD, SECOND, ASSIGNED, BLOCKED, TEARDOWN, "TDCX_NUM_INCORRECT 2")),
-    "MNG.INIT": ((1, 2), (*HEAD, INITIALIZED, RUNNABLE, *SESSION)),
+    "MNG.INIT": ((1, 2), (*HEAD, INITIALIZED, RUNNABLE, *SESSION, *IMPORT)),
     "MNG.RD LIFE": ((1,), (TD,)),
     "MNG.RD OP": ((1, 2), HEAD),
     "MNG.RD EPOCH": ((1, 2, 3), (*HEAD, UNINITIALIZED)),
     "MNG.RD MRTD": ((1, 2), (*HEAD, UNINITIALIZED, INITIALIZED)),
-    "MR.EXTEND": ((1, 2, 4), (*HEAD, UNINITIALIZED, RUNNABLE, *SESSION, *WALKS, "EPT_ENTRY_STATE_INCORRECT FREE")),
-    "MR.FINALIZE": ((1, 2), (*HEAD, UNINITIALIZED, RUNNABLE, *SESSION, "VCPU_STATE_INCORRECT CREATED")),
+    "MR.EXTEND": (
+        (1, 2, 4), (*HEAD, UNINITIALIZED, RUNNABLE, *SESSION, *IMPORT, *WALKS, "EPT_ENTRY_STATE_INCORRECT FREE")
+    ),
+    "MR.FINALIZE": ((1, 2), (*HEAD, UNINITIALIZED, RUNNABLE, *SESSION, *IMPORT, "VCPU_STATE_INCORRECT CREATED")),
     "MNG.VPFLUSHDONE": ((1, 2), (TD, BLOCKED, TEARDOWN, "FLUSHVP_NOT_DONE")),
     "MNG.KEY.FREEID": ((1, 2), (TD, ASSIGNED, CONFIGURED, TEARDOWN, "CACHE_WB_NOT_DONE")),
-    "VP.CREATE": ((1, 2, 3), (*HEAD, UNINITIALIZED, RUNNABLE, *SESSION, SECOND, "LIMIT VCPUS")),
-    "VP.INIT": ((1, 2, 3), (*HEAD, UNINITIALIZED, RUNNABLE, *SESSION, SECOND, "VCPU_STATE_INCORRECT READY")),
+    "VP.CREATE": ((1, 2, 3), (*HEAD, UNINITIALIZED, RUNNABLE, *SESSION, STATE_IN, *FILLED, SECOND, "LIMIT VCPUS")),
+    "VP.INIT": ((1, 2, 3), (*HEAD, UNINITIALIZED, RUNNABLE, *SESSION, *IMPORT, SECOND, "VCPU_STATE_INCORRECT READY")),
     "MEM.SEPT.ADD": (
-        (1, 2, 3, 4), (*HEAD, UNINITIALIZED, PAUSED, POST, *WALKS[:2], FOURTH, *states("NL_MAPPED", "NL_BLOCKED"))
+        (1, 2, 3, 4),
+        (*HEAD, UNINITIALIZED, PAUSED, POST, FAILED_IN, *WALKS[:2], FOURTH, *states("NL_MAPPED", "NL_BLOCKED")),
     ),
     "MEM.SEPT.RD": ((1, 2, 3), (*HEAD, UNINITIALIZED, *WALKS)),
     "MEM.PAGE.ADD": (
         (1, 2, 4, 5),
-        (*HEAD, UNINITIALIZED, RUNNABLE, *SESSION, *WALKS, THIRD, FOURTH, "EPT_ENTRY_STATE_INCORRECT MAPPED"),
+        (*HEAD, UNINITIALIZED, RUNNABLE, *SESSION, *IMPORT, *WALKS, THIRD, FOURTH, "EPT_ENTRY_STATE_INCORRECT MAPPED"),
     ),
     "MEM.PAGE.AUG": (
         (1, 2, 3, 4),
-        (*EARLY, PAUSED, POST, *WALKS, THIRD, *states("MAPPED", "PENDING", "BLOCKED", "PENDING_BLOCKED", "BLOCKEDW"),
-         *EXPORTED),
+        (*EARLY, PAUSED, POST, *IMPORT, *WALKS, THIRD,
+         *states("MAPPED", "PENDING", "BLOCKED", "PENDING_BLOCKED", "BLOCKEDW"), *EXPORTED),
     ),
     "VP.ENTER": (
         (1, 2, 3, 4),
-        (*EARLY, PAUSED, POST, SECOND, "VCPU_ASSOCIATED", "EXIT STOP", "EXIT MAX", "EXIT VMCALL", "EXIT EPT_VIOLATION READ",
-         "EXIT EPT_VIOLATION WRITE", "EXIT BUSY P", "EXIT BUSY T", "EXIT BUSY R"),
+        (*EARLY, PAUSED, POST, *FILLING, ALL_IN, FAILED_IN, SECOND, "VCPU_STATE_INCORRECT CREATED", "VCPU_ASSOCIATED",
+         "EXIT STOP", "EXIT MAX", "EXIT VMCALL", "EXIT EPT_VIOLATION READ", "EXIT EPT_VIOLATION WRITE", "EXIT BUSY P",
+         "EXIT BUSY T", "EXIT BUSY R"),
     ),
     "VP.FLUSH": (
         (1, 2), (TD, ASSIGNED, BLOCKED, TEARDOWN, SECOND, "VCPU_NOT_ASSOCIATED", "VCPU_ASSOCIATED")
     ),
     "MEM.SEPT.REMOVE": (
         (1, 2, 3, 4, 5),
-        (*EARLY, *SESSION, *WALKS[:2], *states("FREE", "NL_MAPPED"), "SEPT_NOT_EMPTY", "TLB_TRACKING_NOT_DONE"),
+        (*EARLY, *SESSION, *IMPORT, *WALKS[:2], *states("FREE", "NL_MAPPED"), "SEPT_NOT_EMPTY", "TLB_TRACKING_NOT_DONE"),
     ),
     "MEM.PAGE.REMOVE": (
         (1, 2, 3, 4, 5),
-        (*EARLY, *SESSION, *WALKS, *states("FREE", "MAPPED", "PENDING", "BLOCKEDW"), *EXPORTED, "TLB_TRACKING_NOT_DONE"),
+        (*EARLY, *SESSION, *IMPORT, *WALKS, *states("FREE", "MAPPED", "PENDING", "BLOCKEDW"), *EXPORTED,
+         "TLB_TRACKING_NOT_DONE"),
     ),
     "MEM.RANGE.BLOCK": (
         (1, 2, 3, 4, 5),
-        (*EARLY, *SESSION, *WALKS, *states("FREE", "BLOCKED", "PENDING_BLOCKED", "NL_BLOCKED", "BLOCKEDW"), *EXPORTED),
+        (*EARLY, *SESSION, *IMPORT, *WALKS, *states("FREE", "BLOCKED", "PENDING_BLOCKED", "NL_BLOCKED", "BLOCKEDW"),
+         *EXPORTED),
     ),
     "MEM.RANGE.UNBLOCK": (
         (1, 2, 3, 4, 5),
-        (*EARLY, *SESSION, *WALKS, *states("FREE", "MAPPED", "PENDING", "NL_MAPPED", "BLOCKEDW"), *EXPORTED,
+        (*EARLY, *SESSION, *IMPORT, *WALKS, *states("FREE", "MAPPED", "PENDING", "NL_MAPPED", "BLOCKEDW"), *EXPORTED,
          "TLB_TRACKING_NOT_DONE"),
     ),
-    "MEM.TRACK": ((1, 2, 3), (*EARLY, PAUSED, POST, "PREVIOUS_TLB_EPOCH_BUSY")),
-    "MIG.STREAM.CREATE": ((1, 2, 3), (*HEAD, *SESSION, SECOND, "LIMIT STREAMS")),
-    "EXPORT.STATE.IMMUTABLE": ((1, 2, 3), (*EARLY, *SESSION, "NO_STREAM 0", "UNRESTORED_PAGES")),
+    "MEM.TRACK": ((1, 2, 3), (*EARLY, PAUSED, POST, *IMPORT, "PREVIOUS_TLB_EPOCH_BUSY")),
+    "MIG.STREAM.CREATE": ((1, 2, 3), (*HEAD, *SESSION, *IMPORT, SECOND, "LIMIT STREAMS")),
+    "EXPORT.STATE.IMMUTABLE": ((1, 2, 3), (*EARLY, *SESSION, *IMPORT, "NO_STREAM 0", "UNRESTORED_PAGES")),
     "EXPORT.BLOCKW": (
         (1, 2, 3, 4, 5),
-        (*EARLY, RUNNABLE, PAUSED, POST, *WALKS, *states("FREE", "PENDING", "BLOCKED", "BLOCKEDW"), EXPORTED[0], EXPORTED[2]),
+        (*EARLY, RUNNABLE, PAUSED, POST, *IMPORT, *WALKS, *states("FREE", "PENDING", "BLOCKED", "BLOCKEDW"), EXPORTED[0],
+         EXPORTED[2]),
     ),
     "EXPORT.UNBLOCKW": (
-        (1, 2, 3, 4), (*EARLY, RUNNABLE, PAUSED, POST, *WALKS, *states("FREE", "MAPPED", "PENDING", "BLOCKED"), EXPORTED[1])
+        (1, 2, 3, 4),
+        (*EARLY, RUNNABLE, PAUSED, POST, *IMPORT, *WALKS, *states("FREE", "MAPPED", "PENDING", "BLOCKED"), EXPORTED[1]),
     ),
     "EXPORT.MEM": (
         (1, 2, 3, 4, 5, 6),
-        (*EARLY, RUNNABLE, POST, "NO_STREAM 1", "NO_STREAM 2", "NO_STREAM 3", *WALKS,
+        (*EARLY, RUNNABLE, POST, *IMPORT, "NO_STREAM 1", "NO_STREAM 2", "NO_STREAM 3", *WALKS,
          *states("FREE", "MAPPED", "PENDING", "BLOCKED", "PENDING_BLOCKED"), *EXPORTED[:2], "EXPORTED_THIS_EPOCH",
          "TLB_TRACKING_NOT_DONE"),
     ),
-    "EXPORT.TRACK": ((1, 2), (*EARLY, RUNNABLE, LIVE, POST, "STATE_MISSING", "DIRTY_PAGES")),
-    "EXPORT.PAUSE": ((1, 2), (*EARLY, RUNNABLE, PAUSED, POST)),
-    "EXPORT.STATE.TD": ((1, 2), (*EARLY, RUNNABLE, LIVE, POST, "ALREADY_EXPORTED")),
-    "EXPORT.STATE.VP": ((1, 2, 3), (*EARLY, RUNNABLE, LIVE, POST, SECOND, "ALREADY_EXPORTED")),
-    "EXPORT.ABORT": ((1, 2), (*EARLY, RUNNABLE, POST)),
+    "EXPORT.TRACK": ((1, 2), (*EARLY, RUNNABLE, LIVE, POST, *IMPORT, "STATE_MISSING", "DIRTY_PAGES")),
+    "EXPORT.PAUSE": ((1, 2), (*EARLY, RUNNABLE, PAUSED, POST, *IMPORT)),
+    "EXPORT.STATE.TD": ((1, 2), (*EARLY, RUNNABLE, LIVE, POST, *IMPORT, "ALREADY_EXPORTED")),
+    "EXPORT.STATE.VP": ((1, 2, 3), (*EARLY, RUNNABLE, LIVE, POST, *IMPORT, SECOND, "ALREADY_EXPORTED")),
+    "EXPORT.ABORT": ((1, 2), (*EARLY, RUNNABLE, POST, *IMPORT)),
+    BY_TOKEN: ((1, 2), (*FORM, *EARLY, RUNNABLE, LIVE, PAUSED, *IMPORT, *UNFIT)),
     "EXPORT.RESTORE": (
         (1, 2, 3, 4),
-        (*EARLY, *SESSION, *WALKS, *states("FREE", "MAPPED", "PENDING", "BLOCKED", "PENDING_BLOCKED")),
+        (*EARLY, *SESSION, *IMPORT, *WALKS, *states("FREE", "MAPPED", "PENDING", "BLOCKED", "PENDING_BLOCKED")),
     ),
+    "IMPORT.STATE.IMMUTABLE": (
+        (1, 2, 3), (*FORM, *HEAD, INITIALIZED, RUNNABLE, *SESSION, *IMPORT, "NO_STREAM 0", *UNDUE)
+    ),
+    "IMPORT.MEM": (
+        (1, 2, 3, 4), (*FORM, *EARLY, RUNNABLE, *SESSION, *FILLED, "BUNDLE_HEADER STREAM", *UNDUE, *WALKS, THIRD)
+    ),
+    "IMPORT.TRACK": ((1, 2), (*FORM, *EARLY, RUNNABLE, *SESSION, MEMORY_IN, *FILLED, *UNDUE, "TOKEN_TOTAL")),
+    "IMPORT.STATE.TD": ((1, 2), (*FORM, *EARLY, RUNNABLE, *SESSION, STATE_IN, *FILLED, *UNDUE)),
+    "IMPORT.STATE.VP": (
+        (1, 2, 3),
+        (*FORM, *EARLY, RUNNABLE, *SESSION, MEMORY_IN, *FILLED, SECOND, "VCPU_STATE_INCORRECT READY", *UNDUE,
+         "BUNDLE_HEADER INDEX"),
+    ),
+    "IMPORT.COMMIT": ((1, 2), (*EARLY, RUNNABLE, *SESSION, *FILLING, LIVE_IN, FAILED_IN)),
+    "IMPORT.END": ((1, 2), (*EARLY, RUNNABLE, *SESSION, *FILLING, ALL_IN, FAILED_IN)),
+    "IMPORT.ABORT": ((1, 2), (*EARLY, RUNNABLE, *SESSION, LIVE_IN, FAILED_IN)),
 }
 SHOWN_WITHOUT_NUMBER = (
     "SUCCESS", "PAGES_EXIST", "FLUSHVP_NOT_DONE", "VCPU_ASSOCIATED", "PREVIOUS_TLB_EPOCH_BUSY", "SEPT_NOT_EMPTY",
-    "STATE_MISSING", "DIRTY_PAGES", "UNRESTORED_PAGES",
+    "STATE_MISSING", "DIRTY_PAGES", "UNRESTORED_PAGES", "NO_BUNDLE", "BUNDLE_COUNTER", "TOKEN_TOTAL",
 )
 
 # What can come of each guest operation. A private access is decided by a cached translation or by a walk.
@@ -146,7 +183,7 @@ OPERATIONS = {
     "rtmr": ("completed", "BUSY R"),
     "vmcall": ("VMCALL",),
 }
-# What a guest meets only where these calls are built.
+# What a guest meets where memory is blocked.
 BLOCKED_WAYS = (
     *(f"EPT_VIOLATION at level {level} NL_BLOCKED" for level in (3, 2, 1)),
     "EPT_VIOLATION at BLOCKED", "EPT_VIOLATION at PENDING_BLOCKED",
@@ -157,7 +194,7 @@ BLOCKING = {
     "store private": (*USES, *BLOCKED_WAYS),
     "accept": BLOCKED_WAYS,
 }
-# What a guest meets only where an export can begin, and the bundles that are made then.
+# What a guest meets in an export, and the bundles that are made.
 OPEN, CLOSED = ("MAPPED", "EXPORTED_DIRTY"), ("BLOCKEDW", "EXPORTED_DIRTY_BLOCKEDW")
 EXPORTING = {
     "store private": (
@@ -165,7 +202,7 @@ EXPORTING = {
         "completed by a translation of an entry blocked for writing", "completed by a walk with a block for writing behind it",
     ),
     "accept": ("completed at BLOCKEDW", "completed at EXPORTED_BLOCKEDW", "completed at EXPORTED_DIRTY"),
-    "bundles": tuple(f"made of type {kind}" for kind in range(6)),
+    "bundles": tuple(f"made of type {kind}" for kind in range(7)),
     # At which state of an entry these calls succeed, and in which op state.
     "EXPORT.BLOCKW": tuple(f"SUCCESS at {state} in LIVE_EXPORT" for state in OPEN),
     "EXPORT.UNBLOCKW": tuple(f"SUCCESS at {state} in LIVE_EXPORT" for state in (*CLOSED, "EXPORTED_BLOCKEDW")),
@@ -174,6 +211,13 @@ EXPORTING = {
         *(f"SUCCESS at {state} in PAUSED_EXPORT" for state in (*OPEN, *CLOSED)),
     ),
     "EXPORT.RESTORE": tuple(f"SUCCESS at {state} in RUNNABLE" for state in (*CLOSED, "EXPORTED_BLOCKEDW", "EXPORTED_DIRTY")),
+}
+# The same of an import, with the op states in which guests are entered.
+IMPORTING = {
+    "IMPORT.MEM": tuple(f"SUCCESS at {state} in {op}" for state in ("FREE", "MAPPED") for op in ("MEMORY_IMPORT", "STATE_IMPORT")),
+    "IMPORT.TRACK": ("SUCCESS of type 4 in MEMORY_IMPORT", "SUCCESS of type 4 in STATE_IMPORT", "SUCCESS of type 5 in STATE_IMPORT"),
+    "IMPORT.ABORT": tuple(f"SUCCESS in {op}" for op in ("MEMORY_IMPORT", "STATE_IMPORT", "POST_IMPORT")),
+    "VP.ENTER": tuple(f"entered in {op}" for op in ("RUNNABLE", "LIVE_EXPORT", "LIVE_IMPORT")),
 }
 # Beside which guests of the TD memory is blocked and taken, and why a block isn't tracked.
 BESIDES = ("SUCCESS without a guest", "SUCCESS beside a guest")
@@ -198,60 +242,40 @@ BESIDE_GUESTS = {
     ),
     "guests at once": (*(f"{count}" for count in range(1, 9)), "of two TDs"),
 }
-# What comes by calls and operations that may not be built yet.
-COMES_BY = {
-    "MNG.RD EPOCH: OPERAND_BUSY at try 3": "MEM.TRACK",
-    "VP.ENTER: OPERAND_BUSY at try 4": "MEM.TRACK",
-    "MNG.VPFLUSHDONE: FLUSHVP_NOT_DONE": "VP.ENTER",
-    "MEM.TRACK: PREVIOUS_TLB_EPOCH_BUSY": "VP.ENTER",
-    "VP.FLUSH: SUCCESS": "VP.ENTER",
-    "VP.FLUSH: VCPU_ASSOCIATED": "VP.ENTER",
-    "MEM.SEPT.ADD: EPT_ENTRY_STATE_INCORRECT NL_BLOCKED": "MEM.RANGE.BLOCK",
-    "MEM.PAGE.AUG: EPT_ENTRY_STATE_INCORRECT BLOCKED": "MEM.RANGE.BLOCK",
-    "MEM.PAGE.AUG: EPT_ENTRY_STATE_INCORRECT PENDING_BLOCKED": "MEM.RANGE.BLOCK",
-    "VP.ENTER: EXIT BUSY T": "accept",
-    "VP.ENTER: EXIT BUSY R": "rtmr",
-}
 # Calls whose success is told by their exit.
 ENTERS = ("VP.ENTER",)
-
-
-def has(outcomes):
-    """What can come of the operations that the program has."""
-    return [(name, came) for name, came in outcomes.items() if name.split()[0] not in UNBUILT]
 
 
 def wanted():
     """All that is to be reached."""
     names = set()
     for call, (tries, refusals) in REFUSALS.items():
-        if call.split()[0] in UNBUILT:
-            continue
-        kinds = BUILT[call.split()[0]]
-        places = [place for place, kind in enumerate(kinds, 1) if kind not in ("value", "field", "output")]
+        kinds = CALLS.get(call) or CALLS[call.split()[0]]
+        places = [place for place, kind in enumerate(kinds, 1) if kind not in ("value", "field", "input", "output")]
         names.update(f"{call}: OPERAND_INVALID {place}" for place in places)
         names.update(f"{call}: OPERAND_BUSY at try {place}" for place in tries)
         names.update(f"{call}: {refusal}" for refusal in (*refusals, *("SUCCESS",) * (call not in ENTERS)))
-    if "VP.ENTER" in BUILT:
-        names.update(f"{name}: {came}" for name, all_came in has(OPERATIONS) for came in all_came)
-    if "MEM.RANGE.BLOCK" in BUILT and "VP.ENTER" in BUILT:
-        came_by_blocks = has(BLOCKING) + has(BESIDE_GUESTS)
-        names.update(f"{name}: {came}" for name, all_came in came_by_blocks for came in all_came)
-    if "EXPORT.STATE.IMMUTABLE" in BUILT:
-        names.update(f"{name}: {came}" for name, all_came in EXPORTING.items() for came in all_came)
-    names -= {name for name, call in COMES_BY.items() if call in UNBUILT}
+    for outcomes in (OPERATIONS, BLOCKING, BESIDE_GUESTS, EXPORTING, IMPORTING):
+        names.update(f"{name}: {came}" for name, all_came in outcomes.items() for came in all_came)
     names.update(f"reason {reason}" for reason in REASONS)
     return names | {f"status {status}" for status in (*range(4), 6, "7 key file", "7 secrets file")}
+
+
+def name_of(name, arguments):
+    """The name of a call in REFUSALS."""
+    if name == "MNG.RD":
+        return f"{name} {arguments[1]}"
+    return BY_TOKEN if name == "EXPORT.ABORT" and len(arguments) == 2 else name
 
 
 def of_reply(name, arguments, reply, locks):
     """What a call has reached by its reply, with so many locks held then."""
     status, *shown = reply.split()
-    call = f"{name} {arguments[1]}" if name == "MNG.RD" else name
+    call = name_of(name, arguments)
     if status == "OPERAND_BUSY":
         return f"{call}: OPERAND_BUSY at try {locks + 1}"
     if status == "PAGE_METADATA_INCORRECT":
-        pages = zip(BUILT[name], arguments)
+        pages = zip(CALLS.get(call, CALLS[name]), arguments)
         place = [kind == "page" and f"{page}" == shown[0] for kind, page in pages].index(True) + 1
         return f"{call}: {status} {place}"
     if status == "EXIT":

@@ -5,10 +5,11 @@ that call for the same pages and locks at once. A *crowd* has a TD that runs, pr
 others that give it pages, block, track and remove them meanwhile. A *meeting* changes a map under a guest that is
 just on its way, exports its page, or lets guests in at once, as it comes rarely in a crowd. A *noise* has calls
 without any order. A *session* exports a TD as far as calls go, and tries all calls in one of its states; others
-enter its VCPUs meanwhile. Faulty scripts are one of these with bad lines put in. Last there are scripts at a limit
+enter its VCPUs meanwhile. An *arrival* takes in what a source of its own has sent, with bundles that somebody has
+turned among them; it tries all calls in one of its states, or its guests run in the end, or its token goes back to the
+source. Faulty scripts are one of these with bad lines put in. Last there are scripts at a limit
 of the grammar, and command lines that name no script. What comes rarely by chance, as a race for one call, comes in
-turn. Calls that the program doesn't have stand in UNBUILT, and come in faulty scripts alone. Most scripts come with
-a secrets file and a key file, a few of these with a bad one.
+turn. Most scripts come with a container, a secrets file and a key file, a few of these with a bad one.
 
 A call that makes a bundle has the word SLOT in the place of its slot until its script is whole (`with_slots`).
 """
@@ -16,11 +17,14 @@ A call that makes a bundle has the word SLOT in the place of its slot until its 
 import random
 import struct
 
-from machine import Outside
+import bundles
+import hostile
+from bundles import ABORT_TOKEN, EPOCH_TOKEN, IMMUTABLE, MEMORY, START_TOKEN, TD_STATE, VCPU_STATE, Header
+from machine import Outside, run
 from program import processors_of
 from rows import FIELDS, GPA_END, PAGE_BYTES, alignment
 from scripts import (
-    ABORT_WITH_SLOT, BUILT, CALLS_OF_A_PROCESSOR, ITEMS, OPERATIONS_OF_A_LIST, SCRIPT_END, SLOTS, UNBUILT, read,
+    BY_TOKEN, CALLS, CALLS_OF_A_PROCESSOR, ITEMS, OPERATIONS_OF_A_LIST, SCRIPT_END, SLOTS, call_of, number, read,
 )
 
 SIZES = (8, 12, 16, 24, 40, 40, 1024)
@@ -31,8 +35,9 @@ LEVEL_BYTES = [PAGE_BYTES << 9 * level for level in range(4)]
 # Calls that lead a TD on so far that little can be done with it then.
 LEADING = ("MR.FINALIZE", "MNG.VPFLUSHDONE")
 
-# Calls that lead out of the first two states of an export.
+# Calls that lead out of the first two states of an export, and out of the states of an import.
 LEAVING = ("EXPORT.PAUSE", "EXPORT.ABORT")
+GIVES_UP = ("IMPORT.ABORT",)
 
 # Calls whose last conditions are met only where a TD's tree stands.
 DEEP = (
@@ -42,7 +47,14 @@ DEEP = (
 )
 
 # Calls on a VCPU of a TD, which is their second argument.
-OF_A_VCPU = ("VP.INIT", "VP.ENTER", "VP.FLUSH", "EXPORT.STATE.VP")
+OF_A_VCPU = ("VP.INIT", "VP.ENTER", "VP.FLUSH", "EXPORT.STATE.VP", "IMPORT.STATE.VP")
+
+# The types of the bundle that a call takes, which is its input.
+TAKES = {
+    BY_TOKEN: (ABORT_TOKEN,), "IMPORT.STATE.IMMUTABLE": (IMMUTABLE,), "IMPORT.MEM": (MEMORY,),
+    "IMPORT.TRACK": (EPOCH_TOKEN, START_TOKEN), "IMPORT.STATE.TD": (TD_STATE,), "IMPORT.STATE.VP": (VCPU_STATE,),
+}
+TOKENS = (EPOCH_TOKEN, START_TOKEN)
 
 # Calls that are refused twice in a row; what went before them makes them succeed again.
 IN_ROUNDS = ("MEM.SEPT.REMOVE", "MEM.PAGE.REMOVE", "MEM.RANGE.UNBLOCK")
@@ -56,8 +68,8 @@ THREE, EIGHT = ((3,), (2,)), ((8,), (2,))
 class Life:
     """The pages and addresses of a TD, and the calls from its first page to the return of its last."""
 
-    def __init__(self, chance, pages, hkid, sizes=FEW):
-        """Takes its pages from the end of that list."""
+    def __init__(self, chance, pages, hkid, sizes=FEW, like=None):
+        """Takes its pages from the end of that list. It may be like another life, on another module."""
         self.hkid, self.td = hkid, pages.pop()
         self.control = [pages.pop(), pages.pop()]
         self.vcpus = [pages.pop() for _ in range(min(chance.choice(sizes[0]), len(pages) // 2))]
@@ -67,9 +79,18 @@ class Life:
         self.spare = [pages.pop() for _ in range(len(pages) > 1)]  # of a table that comes and goes
         self.streams = [pages.pop() for _ in range(min(chance.choice((0, 1, 1, 4)), max(0, len(pages) - 8)))]
         self.gpa = chance.choice((0, 511, 513, 1 << 18, 3 << 33)) * PAGE_BYTES
+        if like is not None:
+            self.become(pages, like)
         if len(self.tables) < 3:
             self.private = self.waiting = []
         self.first_waiting = max(0, len(self.private) - (chance.choice((0, 0, 1)) if self.waiting else 0))
+
+    def become(self, pages, like):
+        """It has as many VCPUs, private pages and streams as that life, at the same addresses."""
+        pages += self.vcpus + self.private + self.waiting + self.streams
+        self.waiting, self.gpa = [], like.gpa
+        for name, others in (("vcpus", like.vcpus), ("private", like.gpas()), ("streams", like.streams)):
+            setattr(self, name, [pages.pop() for _ in others])
 
     def owned(self):
         """The pages of the TD, without its TDR."""
@@ -88,12 +109,12 @@ class Life:
     def pages_of(self, call):
         """The pages beside its TDR whose locks that call of its life tries."""
         name, *words = call.split()
-        pages = [int(word) for kind, word in zip(BUILT[name], words) if kind == "page"][1:]
-        if pages or BUILT[name][1:2] != ("gpa",):
+        pages = [int(word) for kind, word in zip(CALLS[call_of(call)], words) if kind == "page"][1:]
+        if pages or CALLS[name][1:2] != ("gpa",):
             return pages
-        gpa, level = int(words[1], 0), int(words[2]) if "level" in BUILT[name][-1] else 0
+        gpa, level = int(words[1], 0), int(words[2]) if "level" in CALLS[name][-1] else 0
         if level == 0:
-            streams = self.streams[int(words[2]) :][:1] if "stream" in BUILT[name] else []
+            streams = self.streams[int(words[2]) :][:1] if "stream" in CALLS[name] else []
             return [self.page_at(gpa - gpa % PAGE_BYTES), *streams]
         return self.spare if gpa > self.gpa else [self.tables[3 - level]]
 
@@ -181,6 +202,8 @@ class Life:
         follows."""
         states = [f"EXPORT.STATE.TD {self.td} SLOT", *(f"EXPORT.STATE.VP {self.td} {page} SLOT" for page in self.vcpus)]
         chance.shuffle(states)
+        if chance.random() < 0.6:  # no destination ends another order
+            states.sort(key=lambda call: call.startswith("EXPORT.STATE.VP"))
         kept = states[chance.choice((0, 1)) * (not starts) :]
         return kept + kept[:1] * chance.choice((0, 0, 1)) + [self.token(0)] * chance.choice((0, 0, 1))
 
@@ -217,8 +240,34 @@ class Life:
         for _ in range(chance.choice((0, 3, 6))):
             calls += chance.choice((*rounds[:2], *rounds))(chance)
         calls += self.export_round(chance) * chance.choice((0, 0, 1, 2))
-        calls += [f"VP.FLUSH {self.td} {page}" for page in self.vcpus + self.vcpus[:1]] if calls else []
-        return only_built(calls)
+        return calls + self.flushes() * bool(calls)
+
+    def flushes(self):
+        """Its VCPUs are let go."""
+        return [f"VP.FLUSH {self.td} {page}" for page in self.vcpus + self.vcpus[:1]]
+
+    def waits(self, chance, streams):
+        """The calls that build a TD which waits for a session, with so many streams."""
+        calls = [f"MNG.CREATE {self.td} {self.hkid}", f"MNG.KEY.CONFIG {self.td}"]
+        calls += [f"MNG.ADDCX {self.td} {page}" for page in self.control]
+        return calls + [f"MIG.STREAM.CREATE {self.td} {page}" for page in self.streams[:streams]]
+
+    def frame(self, chance):
+        """The calls that give a TD its VCPUs and its tree, once a session has begun, in any order."""
+        vcpus = [f"VP.CREATE {self.td} {page}" for page in self.vcpus + self.vcpus[:1]]
+        tree = [f"MEM.SEPT.ADD {self.td} {self.gpa - self.gpa % LEVEL_BYTES[level]} {level} {page}"
+                for level, page in zip((3, 2, 1), self.tables)]
+        return riffle(chance, vcpus, tree[: 3 if chance.random() < 0.9 else chance.randrange(3)])
+
+    def takes(self, chance, slot, header):
+        """The call that takes the bundle with that header in, in most cases with the page or the VCPU that is meant."""
+        if header.type == MEMORY:
+            page = self.page_at(header.gpa) if chance.random() < 0.9 else chance.choice(self.private)
+            return f"IMPORT.MEM {self.td} {slot} {page}"
+        if header.type == VCPU_STATE:
+            page = self.vcpus[header.index] if chance.random() < 0.95 else chance.choice(self.vcpus)
+            return f"IMPORT.STATE.VP {self.td} {page} {slot}"
+        return f"IMPORT.{({IMMUTABLE: 'STATE.IMMUTABLE', TD_STATE: 'STATE.TD'}.get(header.type, 'TRACK'))} {self.td} {slot}"
 
     def end(self, chance):
         """The calls that end the TD, and look at what its pages have become."""
@@ -231,15 +280,11 @@ class Life:
         return calls + [f"HOST.READ {page} {a_word(chance)}" for page in pages]
 
 
-def only_built(lines):
-    """Those calls and operations that the program has, with other lines of blocks."""
-    return [line for line in lines if line.split()[0] not in UNBUILT]
-
-
 def with_slots(chance, lines):
     """The lines with a slot of its own in the place of each word SLOT."""
     count = sum("SLOT" in line.split() for line in lines)
-    slots = iter(chance.sample(SLOTS, count))
+    named = {number(word) for word in slots_of(lines) if word != "SLOT"}
+    slots = iter(chance.sample([slot for slot in SLOTS if slot not in named], count))
     return [line.replace("SLOT", chance.choice(("{}", "{:#x}", "0{}")).format(next(slots))) if "SLOT" in line.split() else line
             for line in lines]
 
@@ -259,25 +304,38 @@ def riffle(chance, first, second):
 
 class Scene:
     """A machine's size, the lives on it, of which there are two at least where that is meant, and pages that
-    are left to the host."""
+    are left to the host; the keys, and the bundles that come in, by slot. What a source has sent comes to its first
+    life."""
 
-    def __init__(self, chance, sizes, life_sizes=FEW, has_two=False):
+    def __init__(self, chance, sizes, life_sizes=FEW, has_two=False, source=None):
         self.chance = chance
+        self.source, self.keys = source, chance.randbytes(64) if source is None else source.scene.keys
+        self.inputs = {kind + 7 * chance.randrange(3): hostile.in_form(chance, kind) for kind in bundles.PAYLOADS}
+        self.inputs |= source.made if source else {}
         self.lps = chance.choice((1, 1, 2, 2, 3, 4, 8))
         self.size = chance.choice(sizes)
         self.hkids = chance.choice((1, 2, 2, 3, 15))
         pages = list(range(self.size))
         chance.shuffle(pages)
         pages = pages[:40]
-        self.lives = [Life(chance, pages, 1, life_sizes)]
+        self.lives = [Life(chance, pages, 1, life_sizes, source and source.life)]
         if has_two:
             self.hkids = max(2, self.hkids)
             self.lives.append(Life(chance, pages, 2, life_sizes))
         while len(pages) > 10 and chance.random() < 0.5:
             self.lives.append(Life(chance, pages, chance.randint(1, self.hkids)))
         self.host = pages or [self.size - 1]
-        self.names = [name for name in BUILT for _ in range(1 if name in LEADING else 10 if name in DEEP else 4)]
+        self.names = [name for name in CALLS for _ in range(1 if name in LEADING else 10 if name in DEEP else 3)]
         self.code = code_blocks(chance, self)
+        if source is not None and chance.random() < 0.7:
+            self.go_on(source)
+
+    def go_on(self, source):
+        """The VCPUs of the first life have the lists that they had at the source."""
+        td, old = self.lives[0].td, source.life.td
+        heads = {f"code {old} {index}": f"code {td} {index}" for index in range(8)}
+        lists = [[heads[block[0]], *block[1:]] for block in source.scene.code if block[0] in heads]
+        self.code = [block for block in self.code if block[0].split()[1] != f"{td}"] + lists
 
     def page(self, life, place):
         """A page for the argument at that place of a call on that life."""
@@ -314,14 +372,24 @@ class Scene:
             return chance.choice((1, 2, 10, 65_535))
         if kind == "output":
             return "SLOT"
+        if kind == "input":
+            return self.input(TAKES[name])
         if kind == "stream":
             return chance.choice((0, 0, 1, 2, 3))
         ranges = {"level": range(4), "upper level": range(1, 4), "value": range(1 << 16), "start": range(2)}
         return chance.choice(ranges[kind])
 
+    def input(self, types):
+        """The slot of a bundle, in most cases of one of these types."""
+        slots = [slot for slot, bundle in self.inputs.items() if len(bundle) > 6 and bundle[6] in types]
+        draw = self.chance.random()
+        if draw < 0.05 or not self.inputs:
+            return self.chance.choice((SLOTS.stop, self.chance.choice(SLOTS)))
+        return self.chance.choice(slots if slots and draw < 0.9 else list(self.inputs))
+
     def call(self, name, life, spoiled):
         """A call of that name on that life; where it is spoiled, an argument breaks a rule."""
-        kinds = BUILT[name]
+        kinds = CALLS[name]
         arguments = [self.argument(life, name, kind, place) for place, kind in enumerate(kinds, 1)]
         if "gpa" in kinds and self.chance.random() < 0.95:
             arguments[1] -= arguments[1] % alignment(name, kinds, arguments)
@@ -329,7 +397,7 @@ class Scene:
                 arguments[1] += 256 * self.chance.randrange(16)
         if spoiled and arguments:
             self.spoil(kinds, arguments)
-        return " ".join([name, *map(self.written, arguments)])
+        return " ".join([name.split()[0], *map(self.written, arguments)])
 
     def spoil(self, kinds, arguments):
         """Puts arguments out of their rules: out of range, at an edge, twice the same, or misaligned."""
@@ -346,6 +414,7 @@ class Scene:
             "field": FIELDS,
             "start": (1, 2),
             "stream": (3, 4),
+            "input": (SLOTS.stop - 1, SLOTS.stop),
         }
         places = [place for place, kind in enumerate(kinds) if kind != "output"]
         for place in chance.sample(places, chance.choice((1, 1, 1, min(2, len(places))))):
@@ -414,18 +483,20 @@ def race(chance, scene, turn):
     """Processor 0 leads a TD to the call whose turn it is, and makes it and those after it again and
     again. The others try the locks of that call, most of them one and the same lock."""
     life = scene.lives[0]
-    visit, due = divmod(turn, len(BUILT))
-    name, answered = tuple(BUILT)[due], []
+    visit, due = divmod(turn, len(CALLS))
+    name, answered = tuple(CALLS)[due], []
     if name.startswith("EXPORT"):
         give_stream(scene, life)
     for _ in range(20):
         if not answered:
-            whole = life.build(chance, scene.host[-1]) + life.run(chance) + life.end(chance)
+            whole = led_to(chance, scene, life, name)
             answered = places_of(scene, whole, name)
     at = chance.choice(answered[:1] if name == "EXPORT.MEM" and answered else answered or range(len(whole)))
-    name = whole[at].split()[0]
+    name = call_of(whole[at])
     pages = life.pages_of(whole[at])
     targets = [*pages, life.td, "E", "T", "O", "K", *pages]
+    if name == BY_TOKEN or name.startswith("IMPORT"):
+        targets = [*MORE_LOCKS.get(name, ()), *pages, life.td, "O"]
     main = targets[visit % len(targets)]
     first, events = holder(life, main)
     scene.lps = chance.choice((2, 3, 3, 4, 8))
@@ -448,6 +519,22 @@ def race(chance, scene, turn):
     return blocks, meeting + bursts(chance, range(scene.lps), 150 * scene.lps)
 
 
+# The locks of these calls beside those of pages and O.
+MORE_LOCKS = {"IMPORT.STATE.IMMUTABLE": ("K",), "IMPORT.MEM": ("T",)}
+
+
+def led_to(chance, scene, life, name):
+    """A whole life that has that call."""
+    if name == BY_TOKEN:
+        return [*scene.source.calls, *ends_by_token(chance, scene, life)]
+    if name.startswith("IMPORT"):
+        parts = Arrival(chance, scene, 0).parts(False)
+        if name in GIVES_UP:
+            return [*joined(parts[: chance.randint(2, 4)]), f"IMPORT.ABORT {life.td} SLOT"]
+        return joined(parts)
+    return life.build(chance, scene.host[-1]) + life.run(chance) + life.end(chance)
+
+
 def give_stream(scene, life):
     """Gives a life a stream, where it has none and the host has pages."""
     if not life.streams and len(scene.host) > 4:
@@ -467,7 +554,7 @@ def again_exported(chance, life, call):
 
 def places_of(scene, calls, name):
     """The places where a call of that name succeeds."""
-    places = [place for place, call in enumerate(calls) if call.split()[0] == name]
+    places = [place for place, call in enumerate(calls) if call_of(call) == name]
     processor = alone(scene, calls)
     while places and not processor.has_ended():
         processor.event()
@@ -478,7 +565,7 @@ def alone(scene, calls):
     """Processor 0 with these calls, and no other."""
     lines = [f"machine 1 {scene.size} {scene.hkids}", "lp 0", *with_slots(random.Random("slots"), calls), "end"]
     script = read(text_of(lines + [line for block in scene.code for line in block]))
-    (processor,) = processors_of(script, Outside(script.code))
+    (processor,) = processors_of(script, Outside(script.code, scene.inputs, scene.keys))
     return processor
 
 
@@ -525,10 +612,12 @@ def guest_calls(chance, scene, life, own):
 
 
 def crowd(chance, scene, _turn):
-    """Processor 0 builds a TD and is its host then. The others enter its VCPUs, or are hosts too."""
+    """Processor 0 builds a TD, or takes one in, and is its host then. The others enter its VCPUs, or are hosts too."""
     life = scene.lives[0]
     scene.lps = chance.choice((2, 3, 3, 4, 8))
     build = life.build(chance, scene.host[-1])
+    if scene.source is not None:
+        build = [*joined(Arrival(chance, scene, 0).parts(False)[:4]), f"IMPORT.COMMIT {life.td}"]
     blocks = [build[:]]
     for lp in range(scene.lps):
         calls = []
@@ -538,10 +627,12 @@ def crowd(chance, scene, _turn):
                 calls += host_calls(chance, scene, life)
             else:
                 calls += guest_calls(chance, scene, life, life.vcpus[lp % len(life.vcpus)])
+        if scene.source is not None:
+            calls[len(calls) // 2 : len(calls) // 2] = [f"IMPORT.END {life.td}"]
         if lp == 0:
-            blocks[0] += only_built(calls)
+            blocks[0] += calls
         else:
-            blocks.append(only_built(calls))
+            blocks.append(calls)
     return blocks, [(0, exact_events(scene, build))] + bursts(chance, range(scene.lps), 300 * scene.lps)
 
 
@@ -751,17 +842,220 @@ def session(chance, scene, turn):
     build = life.build(chance, scene.host[-1])
     calls, due = [], turn % 3
     for place, part in enumerate(life.export(chance, due == 2)):
-        names = [name for name in BUILT if name != "MNG.VPFLUSHDONE" and (place == 2 or name not in LEAVING)] * 2
+        names = [name for name in CALLS if name != "MNG.VPFLUSHDONE" and (place == 2 or name not in LEAVING)] * 2
         chance.shuffle(names)
         tries = [scene.call(name, life, False) for name in names] * (place == due)
         calls += [*part[:1], *tries, *among(chance, scene, part[1:], chance.choice((0, 0, 1)))]
-    blocks = [build + only_built(calls + life.end(chance))]
+    blocks = [build + calls + life.end(chance)]
     for lp in range(1, scene.lps):
         some = []
         for _ in range(chance.randint(3, 10)):
             some += life.entries(chance) if lp == 1 else host_calls(chance, scene, life)
-        blocks.append(only_built(some))
+        blocks.append(some)
     return blocks, [(0, exact_events(scene, build))] + bursts(chance, range(scene.lps), 200 * (scene.lps - 1))
+
+
+class Source:
+    """A module that has exported a TD, in most cases as far as the start token: its scene and the TD's life, its calls, and
+    the bundles that it made, by slot, in that order."""
+
+    def __init__(self, chance):
+        for _ in range(4):
+            self.scene = Scene(chance, ROOMY)
+            self.scene.source, self.scene.lps, self.life = self, 1, self.scene.lives[0]
+            give_stream(self.scene, self.life)
+            self.calls = with_slots(chance, self.exports(chance))
+            processor, self.sessions = alone(self.scene, self.calls), {}
+            run([processor], [])
+            self.made = processor.machine.outside.outputs
+            for slot, bundle in self.made.items():
+                header = bundles.header_of(bundle)
+                self.sessions.setdefault(header.session, []).append((slot, header))
+            if self.is_whole() or chance.random() < 0.1:
+                break
+
+    def exports(self, chance):
+        """Its calls: perhaps an export that is aborted, and one that is whole."""
+        calls = self.life.build(chance, self.scene.host[-1])
+        if chance.random() < 0.3:
+            calls += [*joined(self.life.export(chance, False)[:2]), f"EXPORT.ABORT {self.life.td}"]
+            calls += [f"EXPORT.RESTORE {self.life.td} {gpa}" for gpa in self.life.gpas()]
+        return calls + joined(self.life.export(chance, True))
+
+    def is_whole(self):
+        """Whether a destination can end the last session: it has a start token, and the TD state before all VCPU states."""
+        types = [header.type for _, header in self.sessions.get(max(self.sessions, default=0), [])]
+        states = [kind for kind in types if kind in (TD_STATE, VCPU_STATE)]
+        return types[-1:] == [START_TOKEN] and states[:1] == [TD_STATE]
+
+
+def joined(parts):
+    """The calls of all parts."""
+    return [call for part in parts for call in part]
+
+
+class Arrival:
+    """What a destination's first life does with a session of its scene's source. Before a bundle there may be hostile ones,
+    each at a slot of its own; how they are turned goes in turn."""
+
+    def __init__(self, chance, scene, turn):
+        self.chance, self.scene, self.life, self.way = chance, scene, scene.lives[0], turn * 7
+        sessions = scene.source.sessions
+        last = max(sessions, default=None)
+        self.sent = sessions.get(chance.choice((*sessions, last, last, last)), [])
+        if self.sent and chance.random() < 0.08:
+            self.sent = self.without_vcpus()
+
+    def without_vcpus(self):
+        """The session as somebody with its keys could make it, without the states of its VCPUs."""
+        counts, sent = [0] * 4, []
+        for slot, header in self.sent:
+            if header.type != VCPU_STATE:
+                total = sum(counts) if header.type in TOKENS else 0
+                forged = header._replace(counter=counts[header.stream], iv=counts[header.stream], total=total)
+                self.scene.inputs[slot] = hostile.with_header(self.scene.keys, self.scene.inputs[slot], forged)
+                counts[header.stream] += 1
+                sent.append((slot, forged))
+        return sent
+
+    def parts(self, is_hostile):
+        """Its calls by the state that they lead to: before the session, while memory comes in, from the TD state on, from
+        the start token on, committed, and ended."""
+        td, parts, at = self.life.td, [[] for _ in range(6)], 1
+        parts[0] = self.life.waits(self.chance, 4 if self.chance.random() < 0.9 else self.chance.randrange(2))
+        for slot, header in self.in_order():
+            at = {TD_STATE: 2, START_TOKEN: 3}.get(header.type, at)
+            calls = self.taken(slot, header, is_hostile)
+            if header.type in (IMMUTABLE, TD_STATE, START_TOKEN) and not parts[at]:
+                *before, last = calls
+                parts[at - 1] += before
+                calls = [last]
+            parts[at] += calls
+            if header.type == IMMUTABLE:
+                parts[at] += self.life.frame(self.chance)
+        parts[4] = [f"IMPORT.COMMIT {td}", *self.life.entries(self.chance)]
+        parts[5] = [f"IMPORT.END {td}", *self.life.run(self.chance), *self.life.flushes(), *self.life.end(self.chance)]
+        return parts
+
+    def in_order(self):
+        """The bundles of the session, those of a migration epoch by any order of its streams."""
+        streams, ordered = [[] for _ in range(4)], []
+        for slot, header in [*self.sent, (None, None)]:
+            if header is None or header.type in (IMMUTABLE, *TOKENS):
+                for stream in streams[1:]:
+                    streams[0] = riffle(self.chance, streams[0], stream)
+                ordered += streams[0] + [(slot, header)]
+                streams = [[] for _ in range(4)]
+            else:
+                streams[header.stream].append((slot, header))
+        return ordered[:-1]
+
+    def taken(self, slot, header, is_hostile):
+        """The calls by which a bundle comes in; where it is hostile, with others before it and behind it."""
+        chance, call = self.chance, self.life.takes(self.chance, slot, header)
+        if not is_hostile:
+            return [call]
+        often = (0, 1, 1, 2, 3) if header.type in (MEMORY, EPOCH_TOKEN) else (1, 2, 3, 5)
+        calls = [self.turned(slot, header) for _ in range(chance.choice(often))]
+        if chance.random() < 0.15:
+            calls.append(self.life.takes(chance, chance.choice(list(self.scene.inputs)), header))
+        if chance.random() < 0.02:
+            return calls or [self.turned(slot, header)]
+        return [*calls, *[call] * chance.choice((1, 1, 1, 1, 1, 1, 2)), call][1:] if calls else [call]
+
+    def turned(self, slot, header):
+        """The call that would take a bundle in, on that bundle as somebody has turned it."""
+        inputs, at = self.scene.inputs, self.chance.choice(SLOTS)
+        while at in inputs:
+            at = self.chance.choice(SLOTS)
+        is_sealed = self.chance.random() < 0.25
+        inputs[at] = hostile.turned(self.chance, self.scene.keys, inputs[slot], self.way % hostile.WAYS, is_sealed)
+        self.way += 1
+        return self.life.takes(self.chance, at, header)
+
+
+def arrival(chance, scene, turn):
+    """Processor 0 takes in what a source has sent, with hostile bundles among it. The others enter VCPUs, and are hosts.
+    Then a second TD is to take the same session."""
+    scene.lps = chance.choice((1, 1, 2, 3))
+    met = Arrival(chance, scene, turn)
+    parts = met.parts(True)
+    calls = among(chance, scene, joined(parts), chance.choice((0, 0, 0.3)))
+    if len(scene.lives) > 1 and met.sent:
+        other, (slot, _) = scene.lives[1], met.sent[0]
+        calls += [*other.waits(chance, 4), f"IMPORT.STATE.IMMUTABLE {other.td} {slot}"]
+    return beside(chance, scene, calls, sum(map(len, parts[:3])))
+
+
+def beside(chance, scene, calls, count):
+    """These calls of processor 0, and from so many of them on those of others, which enter VCPUs, and are hosts."""
+    blocks = [calls]
+    for lp in range(1, scene.lps):
+        some = []
+        for _ in range(chance.randint(3, 10)):
+            some += scene.lives[0].entries(chance) if lp == 1 else host_calls(chance, scene, scene.lives[0])
+        blocks.append(some)
+    turns = bursts(chance, range(scene.lps), 200 * (scene.lps - 1))
+    return blocks, [(0, exact_events(scene, calls[:count]))] * (scene.lps > 1) + turns
+
+
+# By the part of an arrival in which all calls are tried: those that lead out of its state.
+LEAD_OUT = {
+    1: GIVES_UP, 2: GIVES_UP, 3: (*GIVES_UP, "IMPORT.COMMIT"), 4: ("IMPORT.END",), 5: ("MNG.VPFLUSHDONE",),
+}
+
+
+def import_states(chance, scene, turn):
+    """Processor 0 takes in what a source has sent, and makes every call in one of the states of the import, each in turn."""
+    life, due = scene.lives[0], 1 + turn % 5
+    scene.lps = chance.choice((1, 2, 3))
+    parts = Arrival(chance, scene, turn).parts(False)
+    if due == 5:
+        due = chance.randint(2, 4)
+        parts[due:] = [[f"IMPORT.ABORT {life.td} SLOT"], life.flushes() + life.end(chance)]
+        left_out = ()
+    else:
+        left_out = LEAD_OUT[due]
+    names = [name for name in CALLS if name != "MNG.VPFLUSHDONE" and name not in left_out] * 2
+    chance.shuffle(names)
+    tries = [scene.call(name, life, False) for name in names]
+    parts[due][1:1] = tries
+    return beside(chance, scene, joined(parts), len(joined(parts[:due])) + 1)
+
+
+def arrived(chance, scene, turn):
+    """A crowd at a TD that has come in."""
+    return crowd(chance, scene, turn)
+
+
+def gives_back(chance, scene, turn):
+    """A source in whose last state every call is made, to which then the token of its destination comes, behind others
+    that somebody has turned."""
+    life = scene.lives[0]
+    scene.lps = chance.choice((1, 2, 3))
+    names = [name for name in CALLS if name not in ("MNG.VPFLUSHDONE", BY_TOKEN)] * (turn % 2)
+    chance.shuffle(names)
+    tries = [scene.call(name, life, False) for name in names]
+    ends = ends_by_token(chance, scene, life, turn)
+    run = life.run(chance) + life.flushes() + life.end(chance)
+    return beside(chance, scene, scene.source.calls + tries + ends + run, len(scene.source.calls))
+
+
+def ends_by_token(chance, scene, life, turn=0):
+    """The calls that end a source's export by the token of its destination. Before it come tokens that somebody has
+    turned, and that of an earlier session; and behind it comes it again."""
+    calls, way, (*earlier, last) = [], turn * 7, sorted(scene.source.sessions) or [1]
+    for session in (*earlier, last):
+        header = Header(64, 1, 0, ABORT_TOKEN, 0, 0, 0, 0, session, 0, 0, 0, 0)
+        for is_turned in (*[True] * chance.randint(3, 9), False):
+            token = bundles.seal(scene.keys, header, b"")
+            if is_turned:
+                token = hostile.turned(chance, scene.keys, token, way % hostile.WAYS, chance.random() < 0.3)
+                way += 1
+            slot = chance.choice([slot for slot in SLOTS if slot not in scene.inputs])
+            scene.inputs[slot] = token
+            calls.append(f"EXPORT.ABORT {life.td} {slot}")
+    return [*calls, calls[-1], *(f"EXPORT.RESTORE {life.td} {gpa}" for gpa in life.gpas())]
 
 
 def noise(chance, scene, _turn):
@@ -864,16 +1158,25 @@ def code_blocks(chance, scene):
     pages = [life.td for life in scene.lives] + [0, scene.size - 1]
     vcpus = {(chance.choice(pages), chance.randrange(8)) for _ in range(chance.choice((0, 0, 1, 3)))}
     lists |= {vcpu: code_block(chance, scene, vcpu) for vcpu in sorted(vcpus - set(lists))}
-    return [only_built(block) for block in lists.values()]
+    return [block for block in lists.values()]
+
+
+def scene_of(chance, make, turn):
+    """The scene of a script."""
+    if make is meeting:
+        kind = turn % KINDS
+        return Scene(chance, LARGE, EIGHT if kind == KINDS - 1 else THREE, kind in OF_TWO_TDS)
+    due = tuple(CALLS)[turn % len(CALLS)] if make is race else ""
+    if make is gives_back or due == BY_TOKEN:
+        return Source(chance).scene
+    if make in (arrival, import_states, arrived) or due.startswith("IMPORT"):
+        return Scene(chance, LARGE, has_two=make is arrival and turn % 2 == 0, source=Source(chance))
+    return Scene(chance, ROOMY if make in (race, crowd, session) else SIZES, CROWDED if make is crowd else FEW)
 
 
 def script_lines(chance, make, turn):
-    """The lines of a script without a fault."""
-    if make is meeting:
-        kind = turn % KINDS
-        scene = Scene(chance, LARGE, EIGHT if kind == KINDS - 1 else THREE, kind in OF_TWO_TDS)
-    else:
-        scene = Scene(chance, ROOMY if make in (race, crowd, session) else SIZES, CROWDED if make is crowd else FEW)
+    """The lines of a script without a fault, and its scene."""
+    scene = scene_of(chance, make, turn)
     blocks, turns = make(chance, scene, turn)
     blocks = [block[:CALLS_OF_A_PROCESSOR] for block in blocks]
     blocks = [[f"lp {lp}", *block, "end"] for lp, block in enumerate(blocks) if block or chance.random() < 0.5]
@@ -885,7 +1188,7 @@ def script_lines(chance, make, turn):
     lines = [f"machine {scene.lps} {scene.size} {scene.hkids}"]
     for part in riffle(chance, parts, schedule):
         lines += part
-    return decorated(chance, lines)
+    return decorated(chance, lines), scene
 
 
 def decorated(chance, lines):
@@ -907,7 +1210,7 @@ BAD_OUTSIDE = (
     "schedule 0*0", "schedule 0*", "schedule *1", "schedule 0*1*1", "schedule 9*x", "schedule 0*1048577",
     "schedule 0*1048576 0", "schedule 8 x", "schedule 0x0*0x2 00*02", "code", "code 0", "code x", "code 9999 9",
     "code 0 8", "code 1024 0", "code x 0", "code 0 0 0", "code {code}", "code {code}", "code {code} x",
-    "set 0 0", "foo", "Machine 1 8 1", "{call}", "{unbuilt}", "\t", "lp\t0", "# \xff", "\x00", "schedule \x80",
+    "set 0 0", "foo", "Machine 1 8 1", "{call}", "IMPORT.END 1", "\t", "lp\t0", "# \xff", "\x00", "schedule \x80",
     "foo \x01 x",
 )
 BAD_INSIDE = (
@@ -916,17 +1219,19 @@ BAD_INSIDE = (
     "HOST.READ 0 0x", "HOST.READ -1 0", "HOST.READ 0 18446744073709551616", "HOST.READ 0 0x10000000000000000",
     "HOST.READ 0X1 0", "HOST.READ 0 0xfg", "MNG.RD 1", "MNG.RD 1 LIF", "MNG.RD 1 life", "MNG.RD 7 NOFIELD",
     "MNG.RD 7 OPS", "MNG.RD 0 mrtd", "MNG.RD x LIF", "MNG.RD x OP", "MNG.RD 1 OP OP", "MNG.RD OP 1",
-    "MEM.PAGE.RELOCATE 1 0 2", "MEM.TRACK", "EXPORT.ABORT", "EXPORT.ABORT 1 2", "EXPORT.ABORT 1 x", "EXPORT.ABORT x",
+    "MEM.PAGE.RELOCATE 1 0 2", "MEM.TRACK", "EXPORT.ABORT", "EXPORT.ABORT 1 x", "EXPORT.ABORT x", "EXPORT.ABORT x 2",
     "EXPORT.ABORT 1 2 3", "EXPORT.TRACK 1 2", "EXPORT.TRACK x 4096 1", "EXPORT.STATE.TD 1 4096",
     "EXPORT.STATE.IMMUTABLE 1 18446744073709551615", "EXPORT.STATE.VP 1 2 0x1000", "EXPORT.STATE.TD 1 {slot}",
     "EXPORT.TRACK 1 {slot} x", "EXPORT.STATE.TD 1 4095\nEXPORT.TRACK 1 4095 0",
     "EXPORT.MEM 1 0 0 4096", "EXPORT.MEM 1 0 4096", "EXPORT.MEM x 0 9 4096", "EXPORT.MEM 1 0 0 {slot}",
     "EXPORT.MEM 1 0 0 9\nEXPORT.MEM 1 4096 1 0x9", "EXPORT.STATE.VP 1 2 7\nEXPORT.STATE.VP 1 3 007",
-    "EXPORT.STATE.IMMUTABLE 1 0\nEXPORT.STATE.IMMUTABLE 1 0x0", "{call}", "{call} x", "{call} 1 2 3 4 5 6", "{call} 1 0 3 x", "{unbuilt}",
-    "{unbuilt} 1 0", "{unbuilt} x", "{unbuilt} 1 0 8", "{unbuilt} \x1f", "end\x7f", "HOST.READ 1 1\r",
+    "EXPORT.STATE.IMMUTABLE 1 0\nEXPORT.STATE.IMMUTABLE 1 0x0", "{call}", "{call} x", "{call} 1 2 3 4 5 6", "{call} 1 0 3 x", "IMPORT.COMMIT",
+    "IMPORT.MEM 1 0", "IMPORT.MEM 1 x 2", "IMPORT.TRACK x", "IMPORT.STATE.VP 1 4 0 8", "IMPORT.END 1 0", "IMPORT.ABORT 1",
+    "IMPORT.ABORT 1 4096", "IMPORT.ABORT x 0x1000", "IMPORT.ABORT 1 {slot}", "IMPORT.ABORT 1 5\nIMPORT.ABORT 2 005",
+    "IMPORT.STATE.TD 1 18446744073709551616", "IMPORT.STATE.IMMUTABLE 1 \x1f", "end\x7f", "HOST.READ 1 1\r",
 )
 BAD_IN_CODE = (
-    "code 0 0", "code {code}", "lp 0", "schedule x", "end end", "machine", "foo", "SET 0 0", "{call}", "{unbuilt}",
+    "code 0 0", "code {code}", "lp 0", "schedule x", "end end", "machine", "foo", "SET 0 0", "{call}", "IMPORT.MEM 1 0 8",
     "secret x", "secret", "secret 0 512", "secret 8 0", "secret x 512", "secret 0 0 0", "set 0", "set 8 0", "set x 0", "set 8 x", "set 0 18446744073709551616",
     "set 0 0 0", "add 0 8", "add 8 0", "add 7 7 7", "add 0 r1", "load 0 4", "load 0 0x1000000000000",
     "load 8 0", "load 0", "store 0 0xffffffffffff", "store x 4", "store 7 0 0", "accept 0x1008",
@@ -940,7 +1245,7 @@ FIRST_LINES = ("", "end", "foo", "lp 0", "machine", "machine 1 8", "machine 1 8 
 
 def faulty_script(chance, turn):
     """The bytes of a script in which a line or two are bad, or which ends too early."""
-    lines = script_lines(chance, chance.choice((noise, story)), turn)
+    lines, _ = script_lines(chance, chance.choice((noise, story)), turn)
     if chance.random() < 0.3:
         lines = lines[: chance.randint(1, 40)]
     if turn % 8 == 0:
@@ -948,7 +1253,7 @@ def faulty_script(chance, turn):
     if turn % 8 == 1:
         return text_of(lines)[: -chance.randint(1, 100)]
     if turn % 8 == 2:
-        lines = script_lines(chance, session, turn)
+        lines, _ = script_lines(chance, session, turn)
         repeat_a_slot(chance, lines)
         return text_of(lines)
     put_bad_line(chance, lines, turn)
@@ -980,8 +1285,7 @@ def put_bad_line(chance, lines, turn):
     words = {
         "lp": chance.choice(begun("lp") or ["0"]),
         "code": chance.choice(begun("code") or ["0 0"]),
-        "call": chance.choice(tuple(BUILT)),
-        "unbuilt": chance.choice(sorted(UNBUILT - {ABORT_WITH_SLOT})),
+        "call": chance.choice([name for name in CALLS if name != BY_TOKEN]),
         "full": "\n".join(["add 0 0"] * 257),
         "slot": chance.choice(slots_of(lines) or ["0"]),
     }
@@ -994,13 +1298,13 @@ def repeat_a_slot(chance, lines):
     if len(places) > 1:
         first, second = sorted(chance.sample(places, 2))
         words = lines[second].split()
-        words[1 + BUILT[words[0]].index("output")] = slots_of([lines[first]])[0]
+        words[1 + CALLS[words[0]].index("output")] = slots_of([lines[first]])[0]
         lines[second] = " ".join(words)
 
 
 def slots_of(lines):
     """The slots that these lines name."""
-    kinds = ((words[1:], BUILT.get(words[0], ())) for words in map(str.split, lines) if words)
+    kinds = ((words[1:], CALLS.get(words[0], ())) for words in map(str.split, lines) if words)
     return [word for words, its in kinds for word, kind in zip(words, its) if kind == "output"]
 
 
@@ -1091,14 +1395,16 @@ def with_secrets(chance, words, script):
     return [*words, "--secrets", "secrets"], files
 
 
-def with_keys(chance, words, files):
-    """The same with a key file, in nearly all cases."""
-    draw = chance.random()
-    if draw < 0.1:
+def with_keys(chance, scene, is_sure, words, files):
+    """The same with a key file, surely or in nearly all cases, and with that of a script's scene."""
+    draw = max(is_sure, chance.random())
+    if draw < 0.06:
         return words, files
-    if draw > 0.015 + 0.1:
+    if draw > 0.035 + 0.06 and scene is not None:
+        files["keys"] = scene.keys
+    elif draw > 0.015 + 0.06:
         files["keys"] = chance.randbytes(64)
-    elif draw > 0.005 + 0.1:
+    elif draw > 0.005 + 0.06:
         files["keys"] = bytes(chance.choice(BAD_KEYS))
     return [*words, "--keys", "keys"], files
 
@@ -1106,28 +1412,32 @@ def with_keys(chance, words, files):
 def case(seed, place):
     """The case at that place: the words of command lines, and the files that are there by their names."""
     chance = random.Random(f"{seed} {place}")
-    round_, kind = divmod(place, 30)
+    round_, kind = divmod(place, KINDS_OF_A_ROUND)
     if kind == 0:
         lines = [COMMANDS[(3 * round_ + place) % len(COMMANDS)].split() for place in range(3)]
         return lines, {"script": text_of(["machine 1 8 1"]), **OTHERS}
-    words, files = with_keys(chance, *with_secrets(chance, ["replay", "script"], script_of(chance, round_, kind)))
+    script, scene = script_of(chance, round_, kind)
+    words, files = with_keys(chance, scene, kind in RACES, *with_secrets(chance, ["replay", "script"], script))
+    if scene is not None:
+        words, files = [*words, "--bundles", "bundles"], {**files, "bundles": bundles.container_of(scene.inputs)}
     return [words], files
 
 
 def script_of(chance, round_, kind):
-    """The script of that round and kind."""
+    """The script of that round and kind, and its scene where it has one."""
     if kind == 1:
-        return long_script(chance, round_)
+        return long_script(chance, round_), None
     if kind < 8:
-        return faulty_script(chance, 6 * round_ + kind)
-    if kind < 11:
-        return text_of(script_lines(chance, story, round_))
-    if kind < 19:
-        return text_of(script_lines(chance, race, 8 * round_ + kind - 11))
-    if kind < 23:
-        return text_of(script_lines(chance, crowd, round_))
-    if kind < 27:
-        return text_of(script_lines(chance, meeting, 4 * round_ + kind - 23))
-    if kind == 27:
-        return text_of(script_lines(chance, noise, round_))
-    return text_of(script_lines(chance, session, 2 * round_ + kind - 28))
+        return faulty_script(chance, 6 * round_ + kind), None
+    first = max(least for least in MAKES if least <= kind)
+    make, kinds = MAKES[first]
+    lines, scene = script_lines(chance, make, kinds * round_ + kind - first)
+    return text_of(lines), scene
+
+
+# By its first kind: what makes a script, and how many kinds it has in a round.
+MAKES = {
+    8: (story, 3), 11: (race, 8), 19: (crowd, 4), 23: (meeting, 4), 27: (noise, 1), 28: (session, 2), 30: (arrival, 3),
+    33: (import_states, 2), 35: (gives_back, 1), 36: (arrived, 1),
+}
+KINDS_OF_A_ROUND, RACES = 37, range(11, 19)

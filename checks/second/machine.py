@@ -83,7 +83,7 @@ class Td:
 class Outside:
     """What a run is given, and the bundles that it makes: the lists of operations by TDR page and index,
     input bundles by slot, the key from source to destination and the key back, the secret words; where guests
-    don't tell what they have, the words that they tell; and whether EXPORT.MEM exports pages behind the start
+    don't tell what they have, the words that they tell; and whether pages go out and come in behind the start
     token too, as in the finished program."""
 
     def __init__(self, code=None, inputs=None, keys=bytes(64), secrets=(0,) * 512, tells=None, late_pages=False):

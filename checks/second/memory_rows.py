@@ -59,6 +59,7 @@ def vp_enter(processor, td_page, page, most):
             why = "for a new association" if vcpu.processor is None else "at a later epoch"
             guests.drop_translations(processor, td_page, why)
         guests.meet_translations(processor, td_page, "kept at an entry")
+        machine.met.append(f"VP.ENTER: entered in {td.op}")
         vcpu.processor, vcpu.last_epoch = processor.number, td.epoch
         td.in_guest[td.epoch % 2] += 1
         return guests.Guest(processor, td_page, page).events(td.epoch % 2, most)

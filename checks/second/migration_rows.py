@@ -8,6 +8,7 @@ from machine import EXCLUSIVELY, KEY_TABLE, SHARED, Entry, Stream
 from memory_rows import meet_guests, need_tracked
 from rows import entry_key, entry_state, need, need_entry, need_free, of_page, td_with_op, vcpu_at, walk
 
+FILLING = ("MEMORY_IMPORT", "STATE_IMPORT")
 COUNTER_END = 2**32 - 1
 LAST_EPOCH = 2**32 - 1
 SESSION_END = 65_535
@@ -334,13 +335,14 @@ def import_immutable(machine, td_page, slot):
 def import_mem(machine, td_page, slot, page):
     """IMPORT.MEM TDR SLOT PAGE"""
     bundle, header = take_input(machine, slot, MEMORY)
-    td = yield from td_with_op(machine, td_page, SHARED, "MEMORY_IMPORT", "STATE_IMPORT", "POST_IMPORT", "LIVE_IMPORT")
+    late = ("POST_IMPORT", "LIVE_IMPORT") if machine.outside.late_pages else ()
+    td = yield from td_with_op(machine, td_page, SHARED, *FILLING, *late)
     yield ("T", td_page), EXCLUSIVELY
     need(header.stream < len(td.streams), "BUNDLE_HEADER STREAM")
     need_header(header, session=td.session, epoch=td.migration_epoch)
     need_counter(header, td.streams[header.stream].counter)
     walk(td, header.gpa, 0)
-    need_entry(td, header.gpa, 0, "FREE", *(("MAPPED",) if td.op in ("MEMORY_IMPORT", "STATE_IMPORT") else ()))
+    need_entry(td, header.gpa, 0, "FREE", *(("MAPPED",) if td.op in FILLING else ()))
     entry = td.entries.get(entry_key(header.gpa, 0))
     yield of_page(page if entry is None else entry.page, EXCLUSIVELY)
     if entry is None:
@@ -348,6 +350,7 @@ def import_mem(machine, td_page, slot, page):
     words = dict(enumerate(struct.unpack("<512Q", bundles.unseal(machine.outside.keys, bundle))))
 
     def effect():
+        machine.met.append(f"IMPORT.MEM: SUCCESS at {entry_state(td, header.gpa, 0)} in {td.op}")
         if entry is None:
             machine.takes(td_page, page, "PT_REG", words)
             td.entries[entry_key(header.gpa, 0)] = Entry("MAPPED", page)
@@ -362,7 +365,7 @@ def import_track(machine, td_page, slot):
     """IMPORT.TRACK TDR SLOT"""
     bundle, header = take_input(machine, slot, EPOCH_TOKEN, START_TOKEN)
     starts = header.type == START_TOKEN
-    ops = ("STATE_IMPORT",) if starts else ("MEMORY_IMPORT", "STATE_IMPORT")
+    ops = ("STATE_IMPORT",) if starts else FILLING
     td = yield from td_with_op(machine, td_page, EXCLUSIVELY, *ops)
     yield ("T", td_page), EXCLUSIVELY
     need_header(header, session=td.session, epoch=LAST_EPOCH if starts else td.migration_epoch + 1)
@@ -371,6 +374,7 @@ def import_track(machine, td_page, slot):
     need(bundles_made(td) == header.total, f"TOKEN_TOTAL {bundles_made(td)} {header.total}")
 
     def effect():
+        machine.met.append(f"IMPORT.TRACK: SUCCESS of type {header.type} in {td.op}")
         td.migration_epoch = header.epoch
         td.op = "POST_IMPORT" if starts else td.op
         td.streams[0].counter += 1
@@ -425,10 +429,11 @@ def import_end(machine, td_page):
 
 def import_abort(machine, td_page, slot):
     """IMPORT.ABORT TDR SLOT"""
-    td = yield from td_with_op(machine, td_page, EXCLUSIVELY, "MEMORY_IMPORT", "STATE_IMPORT", "POST_IMPORT")
+    td = yield from td_with_op(machine, td_page, EXCLUSIVELY, *FILLING, "POST_IMPORT")
     yield ("T", td_page), EXCLUSIVELY
 
     def effect():
+        machine.met += [f"IMPORT.ABORT: SUCCESS in {td.op}", f"bundles: made of type {ABORT_TOKEN}"]
         header = Header(64, 1, 0, ABORT_TOKEN, 0, 0, 0, 0, td.session, 0, 0, 0, 0)
         machine.outside.outputs[slot] = bundles.seal(machine.outside.keys, header, b"")
         td.op = "FAILED_IMPORT"

@@ -7,7 +7,7 @@ import struct
 from bundles import BadContainer, bundles_of, container_of
 from calls import row
 from machine import Machine, Outside, Processor, run
-from scripts import UNBUILT, Fault, read
+from scripts import Fault, read
 from soak import soak_line
 
 USAGE = (
@@ -17,7 +17,7 @@ USAGE = (
 INPUTS = ("--bundles", "--keys", "--secrets")
 OPTIONS = (*INPUTS, "--out-bundles", "--guest-out")
 # What the finished program has and this one hasn't.
-UNBUILT_COMMANDS = ("soak",)
+MISSING_COMMANDS = ("soak",)
 SECRETS = "<512Q"
 
 
@@ -60,11 +60,11 @@ def answer(words, load):
     and the processors of the run where there was one. A file's bytes come from `load`, or None where it
     can't be read."""
     try:
-        need_usage(words and words[0] in COMMANDS and words[0] not in UNBUILT_COMMANDS)
+        need_usage(words and words[0] in COMMANDS and words[0] not in MISSING_COMMANDS)
         if words[0] == "check":
-            return 0, *check(words[1:], load, UNBUILT), []
+            return 0, *check(words[1:], load), []
         need_usage(all(word in OPTIONS for word in words if word.startswith("-")))
-        return 0, *run_of(RUNS[words[0]], words[1:], load, UNBUILT)
+        return 0, *run_of(RUNS[words[0]], words[1:], load)
     except Ended as ended:
         return *ended.args, {}, []
     except Fault as fault:
@@ -105,7 +105,7 @@ def options_of(words):
     return rest, options
 
 
-def outside_of(script, files):
+def outside_of(script, files, late_pages=False):
     """What a run is given by these input files, by option."""
     if len(files.get("--keys", bytes(0 if script.seals else 64))) != 64:
         raise Ended(7, "key file\n")
@@ -113,17 +113,17 @@ def outside_of(script, files):
         raise Ended(7, "secrets file\n")
     secrets = struct.unpack(SECRETS, files.get("--secrets", bytes(4096)))
     keys = files.get("--keys", bytes(64))
-    return Outside(script.code, files["--bundles"], keys, secrets, late_pages=not script.unbuilt)
+    return Outside(script.code, files["--bundles"], keys, secrets, late_pages=late_pages)
 
 
-def run_of(runs, words, load, unbuilt):
+def run_of(runs, words, load, late_pages=False):
     """The text of `replay` or `run`, by what runs the script, the files that it saves, and its processors."""
     rest, options = options_of(words)
     need_usage(len(rest) == 1)
-    script = read(loaded(rest[0], load), unbuilt)
+    script = read(loaded(rest[0], load))
     files = {name: loaded(options[name], load) for name in INPUTS if name in options}
     files["--bundles"] = bundles_of(files["--bundles"]) if "--bundles" in files else {}
-    processors = runs(script, outside_of(script, files))
+    processors = runs(script, outside_of(script, files, late_pages))
     made = {
         "--out-bundles": container_of(processors[0].machine.outside.outputs),
         "--guest-out": "".join(f"{line}\n" for at in processors for line in at.guest_lines).encode(),
@@ -137,18 +137,18 @@ RUNS = {"replay": replay, "run": run_threads}
 
 def replay_all(words, load):
     """The text of `replay` with all calls and options, and the files that it saves."""
-    return run_of(replay, words, load, frozenset())[:2]
+    return run_of(replay, words, load, True)[:2]
 
 
 def run_all(words, load):
     """The text of `run` with all calls and options in one order of its threads, and the files that it saves."""
-    return run_of(run_threads, words, load, frozenset())[:2]
+    return run_of(run_threads, words, load, True)[:2]
 
 
-def check(words, load, unbuilt=frozenset()):
+def check(words, load):
     """The text of `check`, which saves no file."""
     need_usage(len(words) == 1 and not words[0].startswith("-"))
-    script = read(loaded(words[0], load), unbuilt)
+    script = read(loaded(words[0], load))
     counts = [sum(map(len, blocks.values())) for blocks in (script.calls, script.code)]
     return f"ok {script.machine[0]} {counts[0]} {counts[1]} {len(script.schedule)}\n", {}
 

@@ -5,9 +5,14 @@ that do: a wait reads a page that nothing else names, and a pass adds to a regis
 changes what others do or see, so every output of the script is one of its core, which has none of them.
 """
 
+import functools
 import random
 import re
 import struct
+
+from machine import Outside
+from program import replay
+from scripts import read
 
 BUILD = (
     "MNG.CREATE 1 1", "MNG.KEY.CONFIG 1", "MNG.ADDCX 1 2", "MNG.ADDCX 1 3", "MNG.INIT 1", "VP.CREATE 1 4",
@@ -127,9 +132,32 @@ def exports_memory(chance):
     return {0: []}, [[*BUILD, *pages], [f"EXPORT.MEM 1 4096 {chance.randrange(2)} 2"]]
 
 
+def imports(chance):
+    """A page comes in on one processor, and on another one the same page, another one or the TD state, or the import is
+    given up; it may be replaced meanwhile."""
+    begin = [*BUILD[:4], "MIG.STREAM.CREATE 1 11", "MIG.STREAM.CREATE 1 12", "IMPORT.STATE.IMMUTABLE 1 0", *BUILD[7:10]]
+    first = ["IMPORT.MEM 1 1 8", *["IMPORT.TRACK 1 3", "IMPORT.MEM 1 4 9"] * chance.choice((0, 1))]
+    others = ("IMPORT.MEM 1 1 9", "IMPORT.MEM 1 2 8", "IMPORT.MEM 1 2 9", "IMPORT.STATE.TD 1 5", "IMPORT.ABORT 1 9",
+              "MEM.SEPT.RD 1 0 0")
+    return {}, [[*begin, *first], [chance.choice(others), *["HOST.READ 8 0"] * chance.choice((0, 1))]]
+
+
+@functools.lru_cache(1)
+def sent():
+    """What comes in then, by slot: of a TD with two pages, of which the first goes out on stream 0, and once more in the
+    next epoch, and the second on stream 1."""
+    calls = [
+        *BUILD, "MEM.PAGE.ADD 1 4096 9 0", "MIG.STREAM.CREATE 1 11", "MIG.STREAM.CREATE 1 12", "MR.FINALIZE 1",
+        "EXPORT.STATE.IMMUTABLE 1 0", "EXPORT.BLOCKW 1 0", "MEM.TRACK 1", "EXPORT.MEM 1 0 0 1", "EXPORT.UNBLOCKW 1 0",
+        "EXPORT.PAUSE 1", "EXPORT.MEM 1 4096 1 2", "EXPORT.TRACK 1 3 0", "EXPORT.MEM 1 0 0 4", "EXPORT.STATE.TD 1 5",
+    ]
+    (processor,) = replay(read(text_of({}, [calls])), Outside(keys=KEYS))
+    return processor.machine.outside.outputs
+
+
 KINDS = (
     takes, stores_before_loads, uses_host_pages, passes_a_message, takes_memory_away, shares_a_word, extends_and_accepts,
-    talks_with_the_host, exports, exports_memory,
+    talks_with_the_host, exports, exports_memory, imports,
 )
 
 
@@ -144,13 +172,14 @@ def text_of(lists, blocks):
 
 
 class Race:
-    """The race at that place: its core, the secrets, and the numbers of waits of each processor in its script."""
+    """The race at that place: its core, the secrets, and what comes in."""
 
     def __init__(self, seed, place):
         self.chance, self.kind = random.Random(f"race {seed} {place}"), KINDS[place % len(KINDS)]
         self.lists, self.blocks = self.kind(self.chance)
         self.core = text_of(self.lists, self.blocks)
         self.secrets = struct.pack("<512Q", *(self.chance.randrange(1, 100) for _ in range(512)))
+        self.inputs = sent() if self.kind is imports else {}
 
     def script(self, longest=3000):
         """A script of the race, and how many waits each processor has in it, at most so many. A build takes long, so

@@ -12,19 +12,10 @@ OPERATIONS_OF_A_LIST = 256
 ITEMS = 1 << 20
 
 OUTSIDE = ("schedule", "lp", "code")
-# EXPORT.ABORT with a slot, which is a call of its own.
-ABORT_WITH_SLOT = "EXPORT.ABORT with a slot"
-# The first words of the finished grammar that the program doesn't have, and that form.
-UNBUILT = set(
-    """
-    IMPORT.STATE.IMMUTABLE IMPORT.MEM IMPORT.TRACK IMPORT.STATE.TD IMPORT.STATE.VP IMPORT.COMMIT
-    IMPORT.END IMPORT.ABORT
-    """.split()
-) | {ABORT_WITH_SLOT}
-# The calls that the program has, with their arguments. All that follows what is built follows UNBUILT.
-BUILT = {name: kinds for name, kinds in ARGUMENTS.items() if name not in UNBUILT}
-if ABORT_WITH_SLOT in UNBUILT:
-    BUILT["EXPORT.ABORT"] = ("page",)
+# EXPORT.ABORT with a slot, which is a call of its own: the words of that mnemonic.
+BY_TOKEN = "EXPORT.ABORT by its token"
+# Each call with its arguments. Of EXPORT.ABORT that is the form without a slot.
+CALLS = ARGUMENTS | {"EXPORT.ABORT": ("page",), BY_TOKEN: ("page", "input")}
 # Guest operations, with the values that each operand may have.
 REGISTER = range(8)
 OPERATIONS = {
@@ -41,8 +32,8 @@ SLOTS = range(4096)
 SEALING = ("input", "output")
 
 REASONS = (
-    "LENGTH", "UNTERMINATED", "BYTE", "MACHINE", "PLACE", "WORD", "UNBUILT", "COUNT", "NUMBER", "NAME",
-    "RANGE", "REPEATED", "FULL", "SLOT", "ENDLESS",
+    "LENGTH", "UNTERMINATED", "BYTE", "MACHINE", "PLACE", "WORD", "COUNT", "NUMBER", "NAME", "RANGE", "REPEATED",
+    "FULL", "SLOT", "ENDLESS",
 )
 
 
@@ -92,8 +83,7 @@ def numbers(words):
 class Script:
     """A script as far as it was read."""
 
-    def __init__(self, unbuilt):
-        self.unbuilt = unbuilt
+    def __init__(self):
         self.machine = None  # processors, pages, HKIDs
         self.schedule = []
         self.calls = {}  # by processor: names and arguments
@@ -162,8 +152,6 @@ class Script:
     def call(self, calls, name, rest):
         """Reads a call line."""
         need(name in ARGUMENTS, "WORD")
-        need(name not in self.unbuilt, "UNBUILT")
-        need(name != "EXPORT.ABORT" or len(rest) != 2 or ABORT_WITH_SLOT not in self.unbuilt, "UNBUILT")
         kinds = ARGUMENTS[name]
         need(len(rest) == len(kinds) or (name == "EXPORT.ABORT" and len(rest) == 1), "COUNT")
         given = iter(numbers([word for kind, word in zip(kinds, rest) if kind != "field"]))
@@ -180,7 +168,6 @@ class Script:
     def operation(self, code, name, rest):
         """Reads a guest operation."""
         need(name in OPERATIONS, "WORD")
-        need(name not in self.unbuilt, "UNBUILT")
         ranges = OPERATIONS[name]
         need(len(rest) == len(ranges), "COUNT")
         operands = numbers(rest)
@@ -189,12 +176,18 @@ class Script:
         code.append((name, *operands))
 
 
-def read(text, unbuilt=frozenset(UNBUILT)):
-    """The script that these bytes are, where the program doesn't have those words; raises its Fault."""
+def call_of(line):
+    """The name of a line's call in CALLS."""
+    name, *words = line.split()
+    return BY_TOKEN if name == "EXPORT.ABORT" and len(words) == 2 else name
+
+
+def read(text):
+    """The script that these bytes are; raises its Fault."""
     if len(text) > SCRIPT_END:
         raise Fault(0, "LENGTH")
     *lines, cut = text.split(b"\n")
-    script = Script(unbuilt)
+    script = Script()
     for place, line in enumerate(lines, 1):
         try:
             need(all(0x20 <= byte <= 0x7E for byte in line), "BYTE")

@@ -48,7 +48,7 @@ def destination(count):
 
 def soak_line(count, read, replay):
     """The line of `soak N`, by those who read and replay a script."""
-    first, second = read(source(count), frozenset()), read(destination(count), frozenset())
+    first, second = read(source(count)), read(destination(count))
     made = replay(first, Outside(first.code, {}, KEYS))[0].machine.outside.outputs
     (told,) = replay(second, Outside(second.code, made, KEYS))
     reply, _ = told.replies[-2]

@@ -1,6 +1,6 @@
 //! How rows of calls alone are replayed: on a machine that a row names, and races of processors.
 
-use crate::scripts::{add_processors, add_schedule, replay_script};
+use crate::scripts::{ALONE, add_processors, add_schedule, replay_script};
 use std::alloc::Global;
 use std::test::Fail;
 use std::thread::Threads;
@@ -18,7 +18,7 @@ pub fn replays<R: Threads + Sync>(
     let mut want = String::new(alloc);
     add_processors(alloc, &mut script, &mut want, rows)?;
     add_schedule(alloc, &mut script, schedule)?;
-    let _files = replay_script(threads, alloc, None, &script, &want)?;
+    let _files = replay_script(threads, alloc, ALONE, &script, &want)?;
     Ok(())
 }
 

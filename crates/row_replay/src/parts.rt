@@ -42,6 +42,34 @@ pub const SENT: &str = "SUCCESS | EXPORT.STATE.IMMUTABLE 1 0 | EXPORT.BLOCKW 1 0
 pub const DIRTIED: &str = "EXIT EPT_VIOLATION 0x0 WRITE | VP.ENTER 1 4 10 \
     ; SUCCESS | EXPORT.UNBLOCKW 1 0 ; EXIT MAX | VP.ENTER 1 4 1 ; SUCCESS | EXPORT.PAUSE 1";
 
+/// Behind DIRTIED: the source of a migration is done, with nine bundles in slots 0 to 8.
+pub const HANDED: &str =
+    "SUCCESS | EXPORT.TRACK 1 2 0 | EXPORT.MEM 1 0 0 3 | EXPORT.MEM 1 4096 1 4 \
+    | EXPORT.MEM 1 8192 1 5 | EXPORT.STATE.TD 1 6 | EXPORT.STATE.VP 1 4 7 | EXPORT.TRACK 1 8 1";
+
+/// The list of its guest, of which source and destination each run a part.
+pub const GUEST: &str =
+    "1 0 | set 1 44 | store 1 0 | load 2 0 | load 2 4096 | load 2 8192 | vmcall 2";
+
+/// A TD with two streams that waits for a session, in 32 events.
+pub const WAITS: &str = "SUCCESS | MNG.CREATE 1 1 | MNG.KEY.CONFIG 1 | MNG.ADDCX 1 2 \
+    | MNG.ADDCX 1 3 | MIG.STREAM.CREATE 1 11 | MIG.STREAM.CREATE 1 12";
+
+/// Behind WAITS: a session begins, and the TD has VCPU 0 and the secure EPT of its first 2 MB, in 41
+/// events.
+pub const OPENED: &str =
+    "SUCCESS | IMPORT.STATE.IMMUTABLE 1 0 | VP.CREATE 1 4 | MEM.SEPT.ADD 1 0 3 5 \
+    | MEM.SEPT.ADD 1 0 2 6 | MEM.SEPT.ADD 1 0 1 7";
+
+/// Behind OPENED: its three pages come in, the first of them twice, with the epoch token between, in 43
+/// events.
+pub const FILLED: &str = "SUCCESS | IMPORT.MEM 1 1 8 | IMPORT.TRACK 1 2 | IMPORT.MEM 1 3 13 \
+    | IMPORT.MEM 1 4 9 | IMPORT.MEM 1 5 10";
+
+/// Behind FILLED: its states come in, and the start token, in 19 events.
+pub const STARTED: &str =
+    "SUCCESS | IMPORT.STATE.TD 1 6 | IMPORT.STATE.VP 1 4 7 | IMPORT.TRACK 1 8";
+
 /// A second TD with TDR 20, as far as TREE, in 64 events.
 pub const OTHER: &str =
     "SUCCESS | MNG.CREATE 20 2 | MNG.KEY.CONFIG 20 | MNG.ADDCX 20 21 | MNG.ADDCX 20 22 \

@@ -1,6 +1,6 @@
 //! How rows of calls and guests are replayed.
 
-use crate::scripts::{add_processors, add_schedule, compare, held, replay_script};
+use crate::scripts::{ALONE, Beside, add_processors, add_schedule, compare, held, replay_script};
 use bundle_store::MemFiles;
 use std::alloc::Global;
 use std::test::Fail;
@@ -36,12 +36,12 @@ fn guest_file(alloc: Global, lines: &str) -> Result<String, Fail> {
     Ok(text)
 }
 
-// Replays a row, with a secrets file where its words are given, and compares the replies and the guest
-// file. The answer has the files that are there then.
-fn replay<R: Threads + Sync>(
+/// Replays a row with the files that are given, and compares the replies and the guest file. The answer
+/// has the files that are there then.
+pub fn replay<R: Threads + Sync>(
     threads: &R,
     alloc: Global,
-    secrets: Option<&[u64]>,
+    beside: Beside<'_>,
     row: &Row<'static>,
 ) -> Result<MemFiles, Fail> {
     let (schedule, lists, processors, guest) = row;
@@ -53,7 +53,7 @@ fn replay<R: Threads + Sync>(
     }
     add_processors(alloc, &mut script, &mut want, processors)?;
     add_schedule(alloc, &mut script, schedule)?;
-    let files = replay_script(threads, alloc, secrets, &script, &want)?;
+    let files = replay_script(threads, alloc, beside, &script, &want)?;
     let saved = held(&files, "g").ok_or("no guest file")?;
     compare(
         alloc,
@@ -73,7 +73,7 @@ pub fn replay_rows<R: Threads + Sync>(
     rows: &[Row<'static>],
 ) -> Result<(), Fail> {
     for row in rows {
-        replay(threads, alloc, None, row)?;
+        replay(threads, alloc, ALONE, row)?;
     }
     Ok(())
 }
@@ -85,7 +85,11 @@ pub fn replay_secret_rows<R: Threads + Sync>(
     rows: &[SecretRow<'static>],
 ) -> Result<(), Fail> {
     for (secrets, row) in rows {
-        replay(threads, alloc, Some(*secrets), row)?;
+        let beside = Beside {
+            secrets: Some(*secrets),
+            bundles: None,
+        };
+        replay(threads, alloc, beside, row)?;
     }
     Ok(())
 }
@@ -96,7 +100,11 @@ pub fn container_of_row<R: Threads + Sync>(
     alloc: Global,
     row: &Row<'static>,
 ) -> Result<Vec<u8>, Fail> {
-    let files = replay(threads, alloc, None, row)?;
-    let saved = held(&files, "b").ok_or("no container")?;
-    Ok(saved.to_vec(alloc)?)
+    saved(alloc, &replay(threads, alloc, ALONE, row)?)
+}
+
+/// The bytes of the container that was saved among these files.
+pub fn saved(alloc: Global, files: &MemFiles) -> Result<Vec<u8>, Fail> {
+    let container = held(files, "b").ok_or("no container")?;
+    Ok(container.to_vec(alloc)?)
 }

@@ -93,31 +93,57 @@ fn file(alloc: Global, name: &str, bytes: Vec<u8>) -> Result<NamedFile, Fail> {
     })
 }
 
-// The script s, the key file m, the secrets file k where there is one, and no other file.
-fn files_of(alloc: Global, text: &str, secrets: Option<&[u64]>) -> Result<MemFiles, Fail> {
+/// What a script is replayed with, where it is given: the words with which its secrets file begins, and
+/// the container that comes in.
+#[derive(Clone, Copy)]
+pub struct Beside<'a> {
+    pub secrets: Option<&'a [u64]>,
+    pub bundles: Option<&'a [u8]>,
+}
+
+/// A script with no file beside it but its keys.
+pub const ALONE: Beside<'static> = Beside {
+    secrets: None,
+    bundles: None,
+};
+
+// The script s, the key file m, the secrets file k and the container c where there are these, and no
+// other file.
+fn files_of(alloc: Global, text: &str, beside: Beside<'_>) -> Result<MemFiles, Fail> {
     let mut files = Vec::new(alloc);
     files.push(file(alloc, "s", text.as_bytes().to_vec(alloc)?)?)?;
     files.push(file(alloc, "m", key_file(alloc)?)?)?;
-    if let Some(words) = secrets {
+    if let Some(words) = beside.secrets {
         files.push(file(alloc, "k", secrets_file(alloc, words)?)?)?;
+    }
+    if let Some(bytes) = beside.bundles {
+        files.push(file(alloc, "c", bytes.to_vec(alloc)?)?)?;
     }
     Ok(MemFiles::new(alloc, files, Vec::new(alloc)))
 }
 
-// The words that replay s under the keys m, with or without secrets, and save the container b and the
-// guest file g.
-fn line_of(secrets: Option<&[u64]>) -> &'static str {
-    match secrets {
-        None => "replay s --keys m --out-bundles b --guest-out g",
-        Some(_) => "replay s --keys m --secrets k --out-bundles b --guest-out g",
-    }
-}
-
-// The words of a line.
-fn words_of(alloc: Global, line: &str) -> Result<Vec<String>, Fail> {
-    let mut words = Vec::new(alloc);
+// Adds the words of a line.
+fn add_words(alloc: Global, words: &mut Vec<String>, line: &str) -> Result<(), Fail> {
     for word in line.split(' ') {
         words.push(String::from_str(alloc, word)?)?;
+    }
+    Ok(())
+}
+
+// The words that replay s under the keys m, with the files that are given, and save the container b and
+// the guest file g.
+fn words_of(alloc: Global, beside: Beside<'_>) -> Result<Vec<String>, Fail> {
+    let mut words = Vec::new(alloc);
+    add_words(
+        alloc,
+        &mut words,
+        "replay s --keys m --out-bundles b --guest-out g",
+    )?;
+    if beside.secrets.is_some() {
+        add_words(alloc, &mut words, "--secrets k")?;
+    }
+    if beside.bundles.is_some() {
+        add_words(alloc, &mut words, "--bundles c")?;
     }
     Ok(words)
 }
@@ -147,17 +173,17 @@ pub fn compare(
     Err(Fail::new(format!(in alloc; "{what}: {told} in place of {wanted} of {script}")?))
 }
 
-/// Replays a script, with a secrets file where its words are given, and compares its text and its status.
-/// The answer has the files that are there then: the container b and the guest file g besides.
+/// Replays a script with the files that are given, and compares its text and its status. The answer has
+/// the files that are there then: the container b and the guest file g besides.
 pub fn replay_script<R: Threads + Sync>(
     threads: &R,
     alloc: Global,
-    secrets: Option<&[u64]>,
+    beside: Beside<'_>,
     script: &str,
     want: &str,
 ) -> Result<MemFiles, Fail> {
-    let words = words_of(alloc, line_of(secrets))?;
-    let mut files = files_of(alloc, script, secrets)?;
+    let words = words_of(alloc, beside)?;
+    let mut files = files_of(alloc, script, beside)?;
     let mut out = MemSink::new(alloc, Vec::new(alloc));
     let status = tdx_main(threads, alloc, &words, &mut files, &mut out, &NoGate);
     compare(alloc, "text", &out.bytes, want, script)?;

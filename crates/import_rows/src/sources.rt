@@ -1,0 +1,125 @@
+//! The sources of migrations, and how what they save comes to a destination.
+
+use row_replay::{
+    ArrivalRow, BUILT, DIRTIED, FILLED, GUEST, HANDED, OPENED, PAGES, RUNS, Row, SECOND, SENT,
+    STARTED, STREAM, TREE, WAITS, container_of_arrival, container_of_row, replay_arrivals,
+};
+use std::alloc::Global;
+use std::test::Fail;
+use std::thread::Threads;
+
+/// A whole source: a page that goes out twice, and two others, on two streams.
+pub const SOURCE: Row<'static> = ("", &[GUEST], &[&[TREE, PAGES, SENT, DIRTIED, HANDED]], "");
+
+/// A source whose first session is aborted, and whose second one is whole.
+pub const TWICE: Row<'static> = (
+    "",
+    &[GUEST],
+    &[&[
+        TREE,
+        PAGES,
+        "SUCCESS | EXPORT.STATE.IMMUTABLE 1 20 | EXPORT.PAUSE 1 | EXPORT.MEM 1 0 1 21 \
+                    | EXPORT.MEM 1 4096 0 22 | EXPORT.STATE.TD 1 23 | EXPORT.ABORT 1 \
+                    | EXPORT.RESTORE 1 0 | EXPORT.RESTORE 1 4096 | EXPORT.STATE.IMMUTABLE 1 0 \
+                    | EXPORT.PAUSE 1 | EXPORT.MEM 1 0 1 1 | EXPORT.MEM 1 4096 0 2 \
+                    | EXPORT.MEM 1 8192 1 3 | EXPORT.STATE.TD 1 4 | EXPORT.STATE.VP 1 4 5 \
+                    | EXPORT.TRACK 1 6 1",
+    ]],
+    "",
+);
+
+/// One that exports pages behind the TD state, the first of them for the second time.
+pub const LATER: Row<'static> = (
+    "",
+    &[GUEST],
+    &[&[
+        TREE,
+        PAGES,
+        SENT,
+        DIRTIED,
+        "SUCCESS | EXPORT.STATE.TD 1 2 | EXPORT.MEM 1 4096 0 3 | EXPORT.TRACK 1 4 0 \
+                    | EXPORT.MEM 1 0 1 5 | EXPORT.STATE.VP 1 4 6 | EXPORT.MEM 1 8192 0 7 \
+                    | EXPORT.TRACK 1 8 1",
+    ]],
+    "",
+);
+
+/// One that exports a VCPU state before the TD state.
+pub const REVERSED: Row<'static> = (
+    "",
+    &[],
+    &[&[
+        TREE,
+        PAGES,
+        "SUCCESS | EXPORT.STATE.IMMUTABLE 1 0 | EXPORT.PAUSE 1 | EXPORT.MEM 1 0 1 1 \
+                    | EXPORT.STATE.VP 1 4 2 | EXPORT.STATE.TD 1 3 | EXPORT.TRACK 1 4 1",
+    ]],
+    "",
+);
+
+/// One with two VCPUs, and without memory.
+pub const BOTH: Row<'static> = (
+    "",
+    &["1 0 | set 1 7 | vmcall 1", "1 1 | vmcall 0"],
+    &[&[
+        TREE,
+        SECOND,
+        "SUCCESS | MIG.STREAM.CREATE 1 11 | MR.FINALIZE 1 | EXPORT.STATE.IMMUTABLE 1 0 \
+                    | EXPORT.PAUSE 1 | EXPORT.STATE.TD 1 1 | EXPORT.STATE.VP 1 9 2 \
+                    | EXPORT.STATE.VP 1 4 3 | EXPORT.TRACK 1 4 1",
+    ]],
+    "",
+);
+
+/// One without VCPUs.
+pub const NONE: Row<'static> = (
+    "",
+    &[],
+    &[&[
+        BUILT,
+        STREAM,
+        RUNS,
+        "SUCCESS | EXPORT.STATE.IMMUTABLE 1 0 | EXPORT.PAUSE 1 | EXPORT.STATE.TD 1 1 \
+                    | EXPORT.TRACK 1 2 1",
+    ]],
+    "",
+);
+
+/// A destination of SOURCE that gives the import up in the end.
+pub const GIVENUP: Row<'static> = (
+    "",
+    &[GUEST],
+    &[&[
+        WAITS,
+        OPENED,
+        FILLED,
+        STARTED,
+        "SUCCESS | IMPORT.ABORT 1 40",
+        "OP_STATE_INCORRECT FAILED_IMPORT | IMPORT.COMMIT 1",
+    ]],
+    "",
+);
+
+/// Replays rows to which the bundles of a source come, turned as each says.
+pub fn arrive<R: Threads + Sync>(
+    threads: &R,
+    alloc: Global,
+    source: &Row<'static>,
+    rows: &[ArrivalRow<'static>],
+) -> Result<(), Fail> {
+    let container = container_of_row(threads, alloc, source)?;
+    replay_arrivals(threads, alloc, &container, rows)
+}
+
+/// Replays rows of a source to which the bundles of its destination come.
+pub fn come_back<R: Threads + Sync>(
+    threads: &R,
+    alloc: Global,
+    source: &Row<'static>,
+    destination: &Row<'static>,
+    rows: &[ArrivalRow<'static>],
+) -> Result<(), Fail> {
+    let sent = container_of_row(threads, alloc, source)?;
+    let container = container_of_arrival(threads, alloc, &sent, destination)?;
+    replay_arrivals(threads, alloc, &container, rows)
+}
