@@ -2,7 +2,7 @@ use Rattle.leaf_dispatch_rows.proofs.turns.a_creation_has_five_events.Goals as g
 
 pub invariant_of-lp : goal.invariant_of-lp
 invariant_of-lp g c =
-    let s = c.turn.new.self in
+    let s = c.turn-2.new.self in
     record {
       machine = s.machine;
       limits = s.limits;
