@@ -1,2 +1,4 @@
 mod Containers
+mod FirstWords
 mod Taken
+mod Worked

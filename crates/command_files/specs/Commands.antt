@@ -1,14 +1,14 @@
--- Commands: a script is replayed or run, with options that name files, or is checked.
-use Rattle.std.specs.Prelude.{ℕ, List, [], ◌∷◌, slice_index_or, Option, Some, None, is_some, option_map, Bool, ◌==◌, ◌||◌, if◌then◌else◌, codes}
+-- Commands: what the words of a command line ask for, as the library `clap` reads them.
+use Rattle.std.specs.Prelude.{ℕ, ◌≤◌, nat_le, List, [], ◌∷◌, slice_index_or, Option, Some, None, option_map, option_and_then, true, ◌==◌, ◌&&◌, if◌then◌else◌, codes}
 use Rattle.std.specs.Str.{bytes_eq}
-use Rattle.command_files.specs.declared.commands.Choice.{Choice}
-use Rattle.command_files.specs.declared.commands.Choice.TheVariants as choice
-use Rattle.command_files.specs.declared.commands.Verb.{Verb}
-use Rattle.command_files.specs.declared.commands.Verb.TheVariants as verb
-use Rattle.command_files.specs.declared.commands.Begun.{Begun}
+use Rattle.clap.specs.Words.{App, Kinds, Row, Rule, fault_of, first_of, matches_of, new_rule}
+use Rattle.clap.specs.Simple.{new_shape}
+use Rattle.line_words.specs.Number.{number}
 use Rattle.command_files.specs.declared.commands.Named.{Named}
 use Rattle.command_files.specs.declared.commands.Command.{Command}
 use Rattle.command_files.specs.declared.commands.Command.TheVariants as command
+use Rattle.command_files.specs.declared.commands.Asked.{Asked}
+use Rattle.command_files.specs.declared.commands.Asked.TheVariants as asked
 
 -- a script's name, and those of the files that the options of its command name
 pub record NamedSeen : Type 0 where
@@ -25,6 +25,11 @@ pub data CommandSeen : Type 0 where
   Run : NamedSeen → CommandSeen
   Check : List ℕ → CommandSeen
 
+-- what words ask for: a command on a script, or the soak of so many pages
+pub data AskedSeen : Type 0 where
+  OfScript : CommandSeen → AskedSeen
+  Soak : ℕ → AskedSeen
+
 -- the script's name
 abbrev pub script_name : CommandSeen → List ℕ
 script_name (Replay n) = n.script
@@ -36,16 +41,6 @@ abbrev pub named_of : CommandSeen → Option NamedSeen
 named_of (Replay n) = Some n
 named_of (Run n) = Some n
 named_of (Check name) = None
-
--- what was read so far: the option that waits for its value, and what was named
-pub record BegunSeen : Type 0 where
-  pub waits : Option Choice
-  pub script : Option (List ℕ)
-  pub bundles : Option (List ℕ)
-  pub keys : Option (List ℕ)
-  pub secrets : Option (List ℕ)
-  pub out_bundles : Option (List ℕ)
-  pub guest_out : Option (List ℕ)
 
 abbrev pub named_seen : Named → NamedSeen
 named_seen n = record {
@@ -62,107 +57,105 @@ command_seen (command.Replay n) = Replay (named_seen n)
 command_seen (command.Run n) = Run (named_seen n)
 command_seen (command.Check name) = Check name.now
 
-abbrev pub begun_seen : Begun → BegunSeen
-begun_seen b = record {
-  waits = b.waits;
-  script = option_map (λ name. name.now) b.script;
-  bundles = option_map (λ name. name.now) b.bundles;
-  keys = option_map (λ name. name.now) b.keys;
-  secrets = option_map (λ name. name.now) b.secrets;
-  out_bundles = option_map (λ name. name.now) b.out_bundles;
-  guest_out = option_map (λ name. name.now) b.guest_out;
+abbrev pub asked_seen : Asked → AskedSeen
+asked_seen (asked.OfScript c) = OfScript (command_seen c)
+asked_seen (asked.Soak pages) = Soak pages
+
+-- a soak is one of 1 to 512 pages
+abbrev pub HasFewPages : Option Asked → Type 0
+HasFewPages None = Unit {0}
+HasFewPages (Some (asked.OfScript c)) = Unit {0}
+HasFewPages (Some (asked.Soak pages)) = (1 ≤ pages) × (pages ≤ 512)
+
+-- ---- the command lines of clap
+
+-- an option that takes the name of a file
+abbrev pub option_rule : List ℕ → Rule
+option_rule name = record (new_rule name) { long = Some name }
+
+-- a word that has to be there
+abbrev pub word_rule : List ℕ → Rule
+word_rule name = record (new_rule name) { required = true }
+
+-- a command line of such words and options, in any order; it has neither help nor version
+abbrev pub line_of : List Rule → App
+line_of rules = record {
+  top = record (new_shape (codes "tdx")) { rules = rules; no_binary_name = true; disable_help_flag = true; disable_version_flag = true };
+  subs = [];
 }
 
-abbrev pub begins_with_dash : List ℕ → Bool
-begins_with_dash word = slice_index_or word 0 0 == 45
+-- the rest of `replay` and of `run`
+abbrev pub files_line : App
+files_line = line_of (
+    word_rule (codes "SCRIPT")
+    ∷ option_rule (codes "bundles")
+    ∷ option_rule (codes "keys")
+    ∷ option_rule (codes "secrets")
+    ∷ option_rule (codes "out-bundles")
+    ∷ option_rule (codes "guest-out")
+    ∷ [])
 
--- the options
-abbrev pub choice_of : List ℕ → Option Choice
-choice_of word =
-    if bytes_eq word (codes "--bundles") then Some choice.Bundles
-    else if bytes_eq word (codes "--keys") then Some choice.Keys
-    else if bytes_eq word (codes "--secrets") then Some choice.Secrets
-    else if bytes_eq word (codes "--out-bundles") then Some choice.OutBundles
-    else if bytes_eq word (codes "--guest-out") then Some choice.GuestOut
+-- the rest of `check`
+abbrev pub script_line : App
+script_line = line_of (word_rule (codes "SCRIPT") ∷ [])
+
+-- the rest of `soak`
+abbrev pub pages_line : App
+pages_line = line_of (word_rule (codes "N") ∷ [])
+
+-- what clap finds in these words, where its reading of them has no fault
+abbrev pub found_by : Kinds → List Row → Option (List Row)
+found_by [] rows = Some rows
+found_by (fault ∷ faults) rows = None
+
+abbrev pub found_in : App → List (List ℕ) → Option (List Row)
+found_in line words = found_by (fault_of line words) (matches_of line words)
+
+-- ---- what was found
+
+-- the script, and the files that the options name
+abbrev pub named_in : List Row → Option NamedSeen
+named_in rows = option_map (λ script. record {
+  script = script;
+  bundles = first_of (codes "bundles") rows;
+  keys = first_of (codes "keys") rows;
+  secrets = first_of (codes "secrets") rows;
+  out_bundles = first_of (codes "out-bundles") rows;
+  guest_out = first_of (codes "guest-out") rows;
+}) (first_of (codes "SCRIPT") rows)
+
+abbrev pub few : Option ℕ → Option ℕ
+few None = None
+few (Some n) = if nat_le 1 n && nat_le n 512 then Some n else None
+
+-- the pages of a soak: a number as scripts have it, from 1 to 512, that begins with no zero
+abbrev pub pages_of : List ℕ → Option ℕ
+pages_of word = if slice_index_or word 0 0 == 48 then None else few (number word)
+
+-- ---- commands
+
+abbrev pub replay_in : List (List ℕ) → Option AskedSeen
+replay_in rest = option_map (λ n. OfScript (Replay n)) (option_and_then named_in (found_in files_line rest))
+
+abbrev pub run_in : List (List ℕ) → Option AskedSeen
+run_in rest = option_map (λ n. OfScript (Run n)) (option_and_then named_in (found_in files_line rest))
+
+abbrev pub check_in : List (List ℕ) → Option AskedSeen
+check_in rest = option_map (λ name. OfScript (Check name)) (option_and_then (first_of (codes "SCRIPT")) (found_in script_line rest))
+
+abbrev pub soak_in : List (List ℕ) → Option AskedSeen
+soak_in rest = option_map Soak (option_and_then pages_of (option_and_then (first_of (codes "N")) (found_in pages_line rest)))
+
+-- the first word is the command, and the rest is what clap's reading of that command's line makes of it
+abbrev pub asked_behind : List ℕ → List (List ℕ) → Option AskedSeen
+asked_behind word rest =
+    if bytes_eq word (codes "replay") then replay_in rest
+    else if bytes_eq word (codes "run") then run_in rest
+    else if bytes_eq word (codes "check") then check_in rest
+    else if bytes_eq word (codes "soak") then soak_in rest
     else None
 
--- the first words
-abbrev pub verb_of : List ℕ → Option Verb
-verb_of word =
-    if bytes_eq word (codes "replay") then Some verb.Replay
-    else if bytes_eq word (codes "run") then Some verb.Run
-    else if bytes_eq word (codes "check") then Some verb.Check
-    else None
-
--- an option has its value
-abbrev pub has : Choice → BegunSeen → Bool
-has choice.Bundles b = is_some b.bundles
-has choice.Keys b = is_some b.keys
-has choice.Secrets b = is_some b.secrets
-has choice.OutBundles b = is_some b.out_bundles
-has choice.GuestOut b = is_some b.guest_out
-
--- some option has
-abbrev pub has_option : BegunSeen → Bool
-has_option b = is_some b.bundles || (is_some b.keys || (is_some b.secrets || (is_some b.out_bundles || is_some b.guest_out)))
-
-abbrev pub given : Choice → List ℕ → BegunSeen → BegunSeen
-given choice.Bundles name b = record b { waits = None; bundles = Some name }
-given choice.Keys name b = record b { waits = None; keys = Some name }
-given choice.Secrets name b = record b { waits = None; secrets = Some name }
-given choice.OutBundles name b = record b { waits = None; out_bundles = Some name }
-given choice.GuestOut name b = record b { waits = None; guest_out = Some name }
-
--- an option's word: it is known, and wasn't there before
-abbrev pub after_option : Option Choice → BegunSeen → Option BegunSeen
-after_option None b = None
-after_option (Some c) b = if has c b then None else Some (record b { waits = Some c })
-
--- a further word: the value of the option that waits for one, an option, or the script; no value begins with a dash
-abbrev pub after_begun : Option Choice → List ℕ → BegunSeen → Option BegunSeen
-after_begun (Some c) word b = if begins_with_dash word then None else Some (given c word b)
-after_begun None word b =
-    if begins_with_dash word then after_option (choice_of word) b
-    else if is_some b.script then None
-    else Some (record b { script = Some word })
-
-abbrev pub after : List ℕ → BegunSeen → Option BegunSeen
-after word b = after_begun b.waits word b
-
--- a script, and the files that the options name
-abbrev pub with_files : List ℕ → BegunSeen → NamedSeen
-with_files name b = record { script = name; bundles = b.bundles; keys = b.keys; secrets = b.secrets; out_bundles = b.out_bundles; guest_out = b.guest_out }
-
--- replay and run have these options, and check has none
-abbrev pub ended : Verb → List ℕ → BegunSeen → Option CommandSeen
-ended verb.Replay name b = Some (Replay (with_files name b))
-ended verb.Run name b = Some (Run (with_files name b))
-ended verb.Check name b = if has_option b then None else Some (Check name)
-
--- a command has a script, and no option waits for its value
-abbrev pub with_script : Verb → Option (List ℕ) → BegunSeen → Option CommandSeen
-with_script v None b = None
-with_script v (Some name) b = ended v name b
-
-abbrev pub finished : Verb → BegunSeen → Option CommandSeen
-finished v b = if is_some b.waits then None else with_script v b.script b
-
-abbrev pub nothing_read : BegunSeen
-nothing_read = record { waits = None; script = None; bundles = None; keys = None; secrets = None; out_bundles = None; guest_out = None }
-
-abbrev pub further : Option BegunSeen → (BegunSeen → Option CommandSeen) → Option CommandSeen
-further None go = None
-further (Some b) go = go b
-
-abbrev pub reads : Verb → List (List ℕ) → BegunSeen → Option CommandSeen
-reads v [] b = finished v b
-reads v (word ∷ words) b = further (after word b) (reads v words)
-
-abbrev pub reads_behind : Option Verb → List (List ℕ) → Option CommandSeen
-reads_behind None words = None
-reads_behind (Some v) words = reads v words nothing_read
-
--- the command that these words are
-abbrev pub command_in : List (List ℕ) → Option CommandSeen
-command_in [] = None
-command_in (word ∷ words) = reads_behind (verb_of word) words
+-- what these words ask for
+unfoldable pub asked_in : List (List ℕ) → Option AskedSeen
+asked_in [] = None
+asked_in (word ∷ rest) = asked_behind word rest

@@ -1,18 +1,15 @@
 //! Commands.
 
-ghost use Rattle.std.specs.Prelude.{◌≡◌, option_map, map, string_bytes, codes};
+ghost use Rattle.std.specs.Prelude.{◌≡◌, option_map, option_and_then, map, string_bytes, codes, IfOk, IfSome, ◌≤◌};
 ghost use Rattle.std.specs.Str.{bytes_eq};
-ghost use Rattle.command_files.specs.Commands.{begins_with_dash, choice_of, verb_of, begun_seen, named_seen, command_seen, given, has, has_option, after, with_files, ended, finished, command_in, nothing_read};
+ghost use Rattle.clap.specs.Words.{found_of, rows_of, first_of};
+ghost use Rattle.command_files.specs.Commands.{named_seen, asked_seen, named_in, pages_of, found_in, files_line, script_line, pages_line, asked_behind, asked_in, HasFewPages};
 
-/// An option that names a file.
-#[derive(Clone, Copy, Debug, PartialEq, Eq)]
-pub enum Choice {
-    Bundles,
-    Keys,
-    Secrets,
-    OutBundles,
-    GuestOut,
-}
+use crate::lines::{files_line, pages_line, read_line, script_line, value_of};
+use clap::ArgMatches;
+use line_words::number;
+use std::alloc::Global;
+use td_words::OutOfMemory;
 
 /// A script's name, and those of the files that the options of its command name.
 #[derive(Clone, Copy, Drop)]
@@ -25,8 +22,8 @@ pub struct Named<'a> {
     pub guest_out: Option<&'a str>,
 }
 
-/// What the words ask for: a script is replayed under its schedule, or run in threads, with these files;
-/// or the script of that name is checked.
+/// What the words ask for of a script: it is replayed under its schedule, or run in threads, with these
+/// files; or the script of that name is checked.
 #[derive(Clone, Copy, Drop)]
 pub enum Command<'a> {
     Replay(Named<'a>),
@@ -34,32 +31,14 @@ pub enum Command<'a> {
     Check(&'a str),
 }
 
-/// The first word of a command.
-#[derive(Clone, Copy, Debug, PartialEq, Eq)]
-pub enum Verb {
-    Replay,
-    Run,
-    Check,
-}
-
-/// What was read of a command so far: the option that waits for its value, and what was named.
+/// What the words ask for: a command on a script, or the soak of so many pages.
 #[derive(Clone, Copy, Drop)]
-pub struct Begun<'a> {
-    pub waits: Option<Choice>,
-    pub script: Option<&'a str>,
-    pub bundles: Option<&'a str>,
-    pub keys: Option<&'a str>,
-    pub secrets: Option<&'a str>,
-    pub out_bundles: Option<&'a str>,
-    pub guest_out: Option<&'a str>,
+pub enum Asked<'a> {
+    OfScript(Command<'a>),
+    Soak(u16),
 }
 
-fn begins_with_dash(word: &str) -> bool
-    ensures { result ≡ begins_with_dash word.now }
-{
-    let bytes = word.as_bytes();
-    !bytes.is_empty() && bytes[0] == b'-'
-}
+const MOST_PAGES: u64 = 512;
 
 fn is(word: &str, name: &str) -> bool
     ensures { result ≡ bytes_eq word.now name.now }
@@ -67,197 +46,122 @@ fn is(word: &str, name: &str) -> bool
     word == name
 }
 
-fn choice_of(word: &str) -> Option<Choice>
-    ensures { result ≡ choice_of word.now }
+// The script, and the files that the options name.
+fn named_in<'a>(found: &ArgMatches<'a>) -> Option<Named<'a>>
+    ensures { option_map named_seen result ≡ named_in (rows_of (found_of found.now)) }
 {
-    if is(word, "--bundles") {
-        Some(Choice::Bundles)
-    } else if is(word, "--keys") {
-        Some(Choice::Keys)
-    } else if is(word, "--secrets") {
-        Some(Choice::Secrets)
-    } else if is(word, "--out-bundles") {
-        Some(Choice::OutBundles)
-    } else if is(word, "--guest-out") {
-        Some(Choice::GuestOut)
-    } else {
-        None
-    }
-}
-
-fn verb_of(word: &str) -> Option<Verb>
-    ensures { result ≡ verb_of word.now }
-{
-    if is(word, "replay") {
-        Some(Verb::Replay)
-    } else if is(word, "run") {
-        Some(Verb::Run)
-    } else if is(word, "check") {
-        Some(Verb::Check)
-    } else {
-        None
-    }
-}
-
-fn has(begun: Begun<'_>, choice: Choice) -> bool
-    ensures { result ≡ has choice (begun_seen begun.entry) }
-{
-    match choice {
-        Choice::Bundles => begun.bundles.is_some(),
-        Choice::Keys => begun.keys.is_some(),
-        Choice::Secrets => begun.secrets.is_some(),
-        Choice::OutBundles => begun.out_bundles.is_some(),
-        Choice::GuestOut => begun.guest_out.is_some(),
-    }
-}
-
-// Some option has its value.
-fn has_option(begun: Begun<'_>) -> bool
-    ensures { result ≡ has_option (begun_seen begun.entry) }
-{
-    begun.bundles.is_some()
-        || begun.keys.is_some()
-        || begun.secrets.is_some()
-        || begun.out_bundles.is_some()
-        || begun.guest_out.is_some()
-}
-
-fn given<'a>(begun: Begun<'a>, choice: Choice, name: &'a str) -> Begun<'a>
-    ensures { begun_seen result ≡ given choice name.now (begun_seen begun.entry) }
-{
-    let begun = Begun {
-        waits: None,
-        ..begun
-    };
-    match choice {
-        Choice::Bundles => Begun {
-            bundles: Some(name),
-            ..begun
-        },
-        Choice::Keys => Begun {
-            keys: Some(name),
-            ..begun
-        },
-        Choice::Secrets => Begun {
-            secrets: Some(name),
-            ..begun
-        },
-        Choice::OutBundles => Begun {
-            out_bundles: Some(name),
-            ..begun
-        },
-        Choice::GuestOut => Begun {
-            guest_out: Some(name),
-            ..begun
-        },
-    }
-}
-
-// One more word.
-fn after<'a>(begun: Begun<'a>, word: &'a str) -> Option<Begun<'a>>
-    ensures { option_map begun_seen result ≡ after word.now (begun_seen begun.entry) }
-{
-    let is_option = begins_with_dash(word);
-    match begun.waits {
-        Some(choice) => {
-            if is_option {
-                None
-            } else {
-                Some(given(begun, choice, word))
-            }
-        }
-        None => {
-            if is_option {
-                match choice_of(word) {
-                    Some(choice) => {
-                        if has(begun, choice) {
-                            None
-                        } else {
-                            Some(Begun {
-                                waits: Some(choice),
-                                ..begun
-                            })
-                        }
-                    }
-                    None => None,
-                }
-            } else if begun.script.is_some() {
-                None
-            } else {
-                Some(Begun {
-                    script: Some(word),
-                    ..begun
-                })
-            }
-        }
-    }
-}
-
-// A script, and the files that the options name.
-fn with_files<'a>(begun: Begun<'a>, script: &'a str) -> Named<'a>
-    ensures { named_seen result ≡ with_files script.now (begun_seen begun.entry) }
-{
-    Named {
-        script,
-        bundles: begun.bundles,
-        keys: begun.keys,
-        secrets: begun.secrets,
-        out_bundles: begun.out_bundles,
-        guest_out: begun.guest_out,
-    }
-}
-
-// A script and its command's options, of which check has none.
-fn ended<'a>(verb: Verb, begun: Begun<'a>, script: &'a str) -> Option<Command<'a>>
-    ensures { option_map command_seen result ≡ ended verb script.now (begun_seen begun.entry) }
-{
-    match verb {
-        Verb::Replay => Some(Command::Replay(with_files(begun, script))),
-        Verb::Run => Some(Command::Run(with_files(begun, script))),
-        Verb::Check => {
-            if has_option(begun) {
-                None
-            } else {
-                Some(Command::Check(script))
-            }
-        }
-    }
-}
-
-fn finished<'a>(verb: Verb, begun: Begun<'a>) -> Option<Command<'a>>
-    ensures { option_map command_seen result ≡ finished verb (begun_seen begun.entry) }
-{
-    if begun.waits.is_some() {
-        return None;
-    }
-    match begun.script {
-        Some(script) => ended(verb, begun, script),
+    match value_of(found, "SCRIPT") {
+        Some(script) => Some(Named {
+            script,
+            bundles: value_of(found, "bundles"),
+            keys: value_of(found, "keys"),
+            secrets: value_of(found, "secrets"),
+            out_bundles: value_of(found, "out-bundles"),
+            guest_out: value_of(found, "guest-out"),
+        }),
         None => None,
     }
 }
 
-/// The command that the words behind the program's name are.
-pub fn read_command<'a>(words: &'a [String]) -> Option<Command<'a>>
-    ensures { option_map command_seen result ≡ command_in (map string_bytes words.now) }
+// The pages that a number of pages is, where it is in form.
+fn pages_of(word: &str) -> Option<u16>
+    ensures pages { result ≡ pages_of word.now }
+    ensures few { IfSome result (λ n. (1 ≤ n) × (n ≤ 512)) }
 {
-    if words.is_empty() {
+    let bytes = word.as_bytes();
+    if !bytes.is_empty() && bytes[0] == b'0' {
         return None;
     }
-    let verb = verb_of(words[0].as_str())?;
-    let mut begun = Begun {
-        waits: None,
-        script: None,
-        bundles: None,
-        keys: None,
-        secrets: None,
-        out_bundles: None,
-        guest_out: None,
-    };
-    for i in 1..words.len() {
-        match after(begun, words[i].as_str()) {
-            Some(next) => begun = next,
-            None => return None,
+    match number(bytes) {
+        Some(pages) => {
+            if 1 <= pages && pages <= MOST_PAGES {
+                Some(pages as u16)
+            } else {
+                None
+            }
         }
+        None => None,
     }
-    finished(verb, begun)
+}
+
+fn read_named<'a>(alloc: Global, rest: &'a [String]) -> Result<Option<Named<'a>>, OutOfMemory>
+    ensures { IfOk result (λ n. option_map named_seen n ≡ option_and_then named_in (found_in files_line (map string_bytes rest.now))) }
+{
+    let line = files_line(alloc)?;
+    match read_line(line, rest)? {
+        Some(found) => Ok(named_in(&found)),
+        None => Ok(None),
+    }
+}
+
+fn read_script<'a>(alloc: Global, rest: &'a [String]) -> Result<Option<&'a str>, OutOfMemory>
+    ensures { IfOk result (λ n. option_map (λ name. name.now) n ≡ option_and_then (first_of (codes "SCRIPT")) (found_in script_line (map string_bytes rest.now))) }
+{
+    let line = script_line(alloc)?;
+    match read_line(line, rest)? {
+        Some(found) => Ok(value_of(&found, "SCRIPT")),
+        None => Ok(None),
+    }
+}
+
+fn read_pages(alloc: Global, rest: &[String]) -> Result<Option<u16>, OutOfMemory>
+    ensures read { IfOk result (λ n. n ≡ option_and_then pages_of (option_and_then (first_of (codes "N")) (found_in pages_line (map string_bytes rest.now)))) }
+    ensures few { IfOk result (λ o. IfSome o (λ n. (1 ≤ n) × (n ≤ 512))) }
+{
+    let line = pages_line(alloc)?;
+    match read_line(line, rest)? {
+        Some(found) => match value_of(&found, "N") {
+            Some(word) => Ok(pages_of(word)),
+            None => Ok(None),
+        },
+        None => Ok(None),
+    }
+}
+
+// What the words behind the first ask for, by the command that it is.
+fn asked_behind<'a>(
+    alloc: Global,
+    word: &str,
+    rest: &'a [String],
+) -> Result<Option<Asked<'a>>, OutOfMemory>
+    ensures read { IfOk result (λ a. option_map asked_seen a ≡ asked_behind word.now (map string_bytes rest.now)) }
+    ensures few { IfOk result HasFewPages }
+{
+    if is(word, "replay") {
+        match read_named(alloc, rest)? {
+            Some(named) => Ok(Some(Asked::OfScript(Command::Replay(named)))),
+            None => Ok(None),
+        }
+    } else if is(word, "run") {
+        match read_named(alloc, rest)? {
+            Some(named) => Ok(Some(Asked::OfScript(Command::Run(named)))),
+            None => Ok(None),
+        }
+    } else if is(word, "check") {
+        match read_script(alloc, rest)? {
+            Some(script) => Ok(Some(Asked::OfScript(Command::Check(script)))),
+            None => Ok(None),
+        }
+    } else if is(word, "soak") {
+        match read_pages(alloc, rest)? {
+            Some(pages) => Ok(Some(Asked::Soak(pages))),
+            None => Ok(None),
+        }
+    } else {
+        Ok(None)
+    }
+}
+
+/// What the words behind the program's name ask for.
+pub fn read_command<'a>(
+    alloc: Global,
+    words: &'a [String],
+) -> Result<Option<Asked<'a>>, OutOfMemory>
+    ensures read { IfOk result (λ a. option_map asked_seen a ≡ asked_in (map string_bytes words.now)) }
+    ensures few { IfOk result HasFewPages }
+{
+    if words.is_empty() {
+        return Ok(None);
+    }
+    asked_behind(alloc, words[0].as_str(), &words[1..])
 }
