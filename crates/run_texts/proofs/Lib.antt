@@ -5,5 +5,6 @@ pub mod Turning
 pub mod Places
 pub mod Making
 pub mod Replayed
+pub mod Ended
 pub mod Lanes
 pub mod ThreadTexts

@@ -38,18 +38,18 @@ fit-run law o schedule few apart =
 
 -- where processors are where a run ends
 module _ (o : Opening) (schedule : List ℕ) (now : ℕ → WordLp) (lps : List LpState) (count : length lps ≡ length o.calls) (same : (q : ℕ) → q < length o.calls → (now q).beside.bundles ≡ (seen_at lps q).beside.bundles) (are : AreBundlesOf (length o.calls) now (bundles_in (run o schedule))) (fit : FitContainer (bundles_in (run o schedule))) where
-  moved : IsPermutation (bundles_in (run o schedule)) (bundles_seen lps)
-  moved =
+  pub moved-there : IsPermutation (bundles_in (run o schedule)) (bundles_seen lps)
+  moved-there =
       IsPermutation-sym (bundles_seen lps) (bundles_in (run o schedule))
       (subst (λ (z : List Made). IsPermutation z (bundles_in (run o schedule))) (same-bundles (length o.calls) 0 (λ q. (now q).beside.bundles) lps count (λ q i. ap (λ (k : ℕ). (now k).beside.bundles) (omega arith) ∙ same q i))
       (all-gathered (length o.calls) now (bundles_in (run o schedule)) are))
 
   pub fits-there : FitContainer (bundles_seen lps)
-  fits-there = fit_too (bundles_in (run o schedule)) (bundles_seen lps) moved fit
+  fits-there = fit_too (bundles_in (run o schedule)) (bundles_seen lps) moved-there fit
 
   pub seals-there : (forward backward : List ℕ) → container_text forward backward (bundles_seen lps) ≡ bundles_text forward backward o schedule
   unfolding bundles_text
-  seals-there forward backward = same_text forward backward (bundles_in (run o schedule)) (bundles_seen lps) fit moved
+  seals-there forward backward = same_text forward backward (bundles_in (run o schedule)) (bundles_seen lps) fit moved-there
 
 -- the bundles of one processor more
 pub bundles-next : (lps : List LpState) (i : ℕ) (d : LpState) (all whole own : List Made) → i < length lps → own ≡ (seen_of (get_or lps i d)).beside.bundles → all ++ bundles_seen (drop i lps) ≡ whole → (all ++ own) ++ bundles_seen (drop (i + 1) lps) ≡ whole

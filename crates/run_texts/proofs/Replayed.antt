@@ -7,6 +7,7 @@ use Rattle.std.proofs.lemmas.List.Folds.{concat-append}
 use Rattle.std.specs.Global.{Vec}
 use Rattle.std.proofs.Math.ListN.{length-set}
 use Rattle.std.specs.List.{concat}
+use Rattle.std.specs.List.Sorted.{IsPermutation}
 use Rattle.td_words.specs.Seen.{CodeSeen}
 use Rattle.td_words.specs.declared.machines.Machine.{Machine}
 use Rattle.td_words.specs.declared.calls.Call.{Call}
@@ -55,7 +56,7 @@ use Rattle.run_texts.specs.Sealing.{bundles_seen, bundles_text}
 use Rattle.run_texts.specs.Replaying.{AreNumbered, AreFirst, IsMidway, only_bench, IsAtBench, HaveEnded, TurnsAreEvents, seen_at, lines_seen, notes_seen, TellAll}
 use Rattle.run_texts.specs.declared.replay.Texts.{Texts}
 use Rattle.run_texts.proofs.Codes.{codes-of}
-use Rattle.run_texts.proofs.Making.{fit-run, fits-there, seals-there}
+use Rattle.run_texts.proofs.Making.{fit-run, moved-there}
 use Rattle.run_texts.proofs.RunningOut.{one-more-item, idle-item}
 use Rattle.run_texts.proofs.Turning.{made_by, one-event, merge-more, order-more}
 use Rattle.run_texts.proofs.Places.{seen-at, seen-own, seen-other, place-at, given-at, codes-at, numbered-set, first-count, first-numbered, first-seen, first-more}
@@ -322,22 +323,22 @@ tells (Err x) out_bundles guest_out lines all container made notes told h e c f 
 
 -- the close tells that the bench's list plays
 module _ (ls : TurnsAreEvents) (o : Opening) (schedule : List ℕ) (lps : List LpState) (id : TableId) (b : BenchSeen) (m : Machine) (words : List ℕ) (op : IsOpen o) (l : IsAtBench o schedule [] lps id b) (ended : HaveEnded (length lps) lps) (closed : MergesTo m b.pass.lists words) where
-  plays : (t : Table) × PlaysTo no_table l.own t
+  pub plays : (t : Table) × PlaysTo no_table l.own t
   plays = alone m l.own words (subst (λ (z : List (List Taken)). MergesTo m z words) (ap (λ (z : BenchSeen). z.pass.lists) l.is) closed)
 
-  abbrev now : IsMidway o schedule [] lps plays.0
+  abbrev pub now : IsMidway o schedule [] lps plays.0
   now = l.midway plays.0 plays.1
 
-  abbrev end : State
+  abbrev pub end : State
   end = run o (order now.made)
 
-  there : IsWhere o (seen_at lps) end
+  pub there : IsWhere o (seen_at lps) end
   there = (ls.merges.ended o (leaf_table o.machine (given_of o) o.codes) now.made (seen_at lps) plays.0 op.few (are-leaves ls o op) op.codes now.merge (λ p i. ended p (omega (arith, l.count)))).1
 
   count : end.lp_count ≡ length o.calls
   count = counts_stay o (order now.made ++ to_the_end 0 o.calls) (start o None)
 
-  same : end ≡ run o schedule
+  pub same : end ≡ run o schedule
   same = ap (run o) (sym (append-nil (order now.made))) ∙ now.same
 
   pub prints-all : concat (lines_seen 0 lps) ≡ host_text o schedule
@@ -355,15 +356,9 @@ module _ (ls : TurnsAreEvents) (o : Opening) (schedule : List ℕ) (lps : List L
       same-notes end.lp_count 0 end.lps lps (l.count ∙ sym count) (λ q i. ap (λ (k : ℕ). (end.lps k).notes) (omega arith) ∙ ap (λ (x : Beside). x.notes) (there.beside q (omega (arith, count, i)))) in
       ap concat (sym lines) ∙ ap notes_of same
 
-  fit : FitContainer (bundles_in (run o schedule))
+  pub fit : FitContainer (bundles_in (run o schedule))
   fit = fit-run ls.bundles o schedule op.slots op.apart
 
-  made : AreBundlesOf (length o.calls) (seen_at lps) (bundles_in (run o schedule))
-  made = subst (λ (s : State). AreBundlesOf (length o.calls) (seen_at lps) (bundles_in s)) same there.bundles
-
   -- the processors' bundles are the run's
-  pub fits-all : FitContainer (bundles_seen lps)
-  fits-all = fits-there o schedule (seen_at lps) lps l.count (λ q i. refl) made fit
-
-  pub seals-all : (forward backward : List ℕ) → container_text forward backward (bundles_seen lps) ≡ bundles_text forward backward o schedule
-  seals-all = seals-there o schedule (seen_at lps) lps l.count (λ q i. refl) made fit
+  pub made : IsPermutation (bundles_in (run o schedule)) (bundles_seen lps)
+  made = moved-there o schedule (seen_at lps) lps l.count (λ q i. refl) (subst (λ (s : State). AreBundlesOf (length o.calls) (seen_at lps) (bundles_in s)) same there.bundles) fit

@@ -1,14 +1,18 @@
 -- Where the logical processors of a script are, over words, while its run is replayed.
-use Rattle.std.specs.Prelude.{◌≡◌, ℕ, zero, suc, ◌+◌, ◌<◌, true, List, [], ◌∷◌, ◌++◌, length, map, Option, IfSome}
+use Rattle.std.specs.Prelude.{◌≡◌, ℕ, zero, suc, ◌+◌, ◌<◌, ◌≤◌, true, List, [], ◌∷◌, ◌++◌, length, map, Option, IfSome}
+use Rattle.std.specs.List.{concat}
+use Rattle.std.specs.List.Sorted.{IsPermutation}
 use Rattle.td_words.specs.Seen.{CodeSeen}
 use Rattle.td_words.specs.declared.machines.Machine.{Machine}
 use Rattle.td_words.specs.declared.calls.Call.{Call}
 use Rattle.flat_core.specs.Opening.{Opening}
-use Rattle.flat_core.specs.Run.{run}
+use Rattle.flat_core.specs.Run.{run, bundles_in, told_in}
 use Rattle.flat_core.specs.Bounds.{EventsRunOut}
-use Rattle.flat_core.specs.Laws.{OthersStay}
-use Rattle.flat_core.specs.GuestText.{note_told}
+use Rattle.flat_core.specs.Laws.{OthersStay, AreMerged}
+use Rattle.flat_core.specs.HostText.{host_text}
+use Rattle.flat_core.specs.GuestText.{note_told, guest_text}
 use Rattle.flat_bundles.specs.Bundles.{BundlesAreOfLines}
+use Rattle.bundle_texts.specs.Ordered.{FitContainer}
 use Rattle.report_text.specs.Lines.{reply_lines, note_line}
 use Rattle.step_core.specs.Items.{Table, PlaysTo}
 use Rattle.step_core.specs.declared.items.Taken.{Taken}
@@ -25,6 +29,7 @@ use Rattle.leaf_table.specs.Laws.{CallsHaveLeaves}
 use Rattle.leaf_dispatch.specs.States.{seen_of}
 use Rattle.leaf_dispatch.specs.declared.states.LpState.{LpState}
 use Rattle.run_texts.specs.declared.replay.Texts.{Texts}
+use Rattle.run_texts.specs.Sealing.{bundles_seen}
 
 -- these are a machine's processors from number n on, with the opening's secret words, bundles and lists of operations
 abbrev pub AreNumbered : Opening → ℕ → List LpState → Type 0
@@ -58,6 +63,18 @@ lines_seen p (s ∷ ss) = reply_lines p 1 (seen_of s).replies ++ lines_seen (p +
 abbrev pub notes_seen : ℕ → List LpState → List (List ℕ)
 notes_seen p [] = []
 notes_seen p (s ∷ ss) = map (note_line p) (map note_told (seen_of s).beside.notes) ++ notes_seen (p + 1) ss
+
+-- The processors are where a script's run ends. Their replies are what it prints, and their notes the text of its guest file. The
+-- bundles that they made are its bundles, in an order of their own, and fit a container; and the words that its guests told are
+-- a merge of what each of them has told.
+pub record AreAtEnd (o : Opening) (schedule : List ℕ) (lps : List LpState) : Type 0 where
+  pub count : length lps ≡ length o.calls
+  pub few : length lps ≤ 8
+  pub replies : concat (lines_seen 0 lps) ≡ host_text o schedule
+  pub notes : concat (notes_seen 0 lps) ≡ guest_text o schedule
+  pub bundles : IsPermutation (bundles_in (run o schedule)) (bundles_seen lps)
+  pub fit : FitContainer (bundles_in (run o schedule))
+  pub told : AreMerged (λ p. (seen_at lps p).beside.told) (told_in (run o schedule))
 
 -- texts tell these lines, these bytes of the container where it is named, and these lines of the guest file where that is
 abbrev pub TellAll : (out_bundles guest_out : Option (List ℕ)) → (replies container notes : List ℕ) → Texts → Type 0

@@ -2,18 +2,21 @@
 //! guests noted.
 //!
 //! Stands on `leaf_dispatch`, whose `LpState` makes a processor's turns, on `trace_table`, whose table
-//! they are made on, on `merge_laws`, by which turns over words are a run of the flat machine, and on
-//! `bundle_texts`, which seals its bundles. A layer above may use that the texts of `replay_texts` are
+//! they are made on, on `merge_laws`, by which turns over words are a run of the flat machine, on
+//! `bundle_texts`, which seals its bundles, and on `incoming`, which opens those that come in. A layer above may use that the texts of `replay_texts` are
 //! those of the flat machine's run under the script's schedule, from the opening that has what the run
 //! is given: secret words, and the bundles that come in.
 #![tactic(auto)]
 
 mod key_pairs;
 mod noted;
+mod opened;
 mod replay;
 mod sealed;
 mod threads;
 
 pub use key_pairs::KeyPair;
-pub use replay::{Texts, replay_texts};
+pub use opened::opened_bundles;
+pub use replay::{Texts, ended_processors, replay_texts};
+pub use sealed::sealed_container;
 pub use threads::threaded_texts;

@@ -13,13 +13,13 @@ ghost use Rattle.trace_table.specs.Benches.{bench_of};
 ghost use Rattle.leaf_table.specs.Given.{given_in};
 ghost use Rattle.run_texts.specs.Openings.{opening_of};
 ghost use Rattle.run_texts.specs.Sealing.{bundles_seen, bundles_text};
-ghost use Rattle.run_texts.specs.Replaying.{AreFirst, IsAtBench, HaveEnded, TurnsAreEvents, lines_seen, notes_seen, TellAll};
+ghost use Rattle.run_texts.specs.Replaying.{AreFirst, IsAtBench, HaveEnded, AreAtEnd, TurnsAreEvents, lines_seen, notes_seen, TellAll};
 
 use crate::key_pairs::KeyPair;
 use crate::noted::noted_lines;
 use crate::sealed::sealed_bundles;
 use flat_bundles::bundle_law;
-use flat_core::{end_laws, event_laws};
+use flat_core::{end_laws, event_laws, told_law};
 use leaf_dispatch::{FirstLists, LpState};
 use leaf_engine::{Processor, Turn, turns_in_pieces};
 use leaf_table::{Given, calls_have_leaves};
@@ -210,6 +210,39 @@ pub(crate) fn all_texts(
     })
 }
 
+/// The processors of a script, with secret words and bundles that come in, where its run under its
+/// schedule has brought them: each at its end. The memory of the words that they shared has gone back.
+pub fn ended_processors<'a>(
+    alloc: Global,
+    script: &'a Script,
+    given: Given<'a>,
+    first_lists: &'a FirstLists,
+) -> Result<Vec<LpState<'a>>, OutOfMemory>
+    requires form { IsInForm script.now }
+    requires first_lists { AreFirstLists script.now.codes first_lists.now }
+    ensures { IfOk result (λ v. AreAtEnd (opening_of (given_in given.entry) script.now) script.now.schedule v.items) }
+{
+    laws_of_turns();
+    told_law();
+    let codes: &[Code] = &script.codes;
+    let mut states = processors(
+        alloc,
+        script.machine,
+        codes,
+        given,
+        first_lists,
+        &script.calls,
+    )?;
+    let lps = states.as_mut_slice();
+    let (table, pass) = SharedTable::start(alloc, script.machine)?;
+    let mut bench = SharedBench::new(&table, pass);
+    follow_schedule(script, given, lps, &mut bench);
+    finish_all(script, given, lps, &mut bench);
+    let pass = bench.into_pass();
+    table.close(pass);
+    Ok(states)
+}
+
 /// The texts of a script's run under its schedule, with secret words and bundles that come in, and with
 /// two keys for the bundles that it makes.
 pub fn replay_texts(
@@ -223,23 +256,7 @@ pub fn replay_texts(
     requires form { IsInForm script.now }
     ensures { IfOk result (λ t. TellAll (option_map (λ name. name.now) out_bundles.entry) (option_map (λ name. name.now) guest_out.entry) (host_text (opening_of (given_in given.entry) script.now) script.now.schedule) (bundles_text keys.now.forward keys.now.backward (opening_of (given_in given.entry) script.now) script.now.schedule) (guest_text (opening_of (given_in given.entry) script.now) script.now.schedule) t) }
 {
-    laws_of_turns();
-    let codes: &[Code] = &script.codes;
-    let first_lists = FirstLists::new(alloc, codes)?;
-    let mut states = processors(
-        alloc,
-        script.machine,
-        codes,
-        given,
-        &first_lists,
-        &script.calls,
-    )?;
-    let lps = states.as_mut_slice();
-    let (table, pass) = SharedTable::start(alloc, script.machine)?;
-    let mut bench = SharedBench::new(&table, pass);
-    follow_schedule(script, given, lps, &mut bench);
-    finish_all(script, given, lps, &mut bench);
-    let pass = bench.into_pass();
-    table.close(pass);
-    all_texts(alloc, keys, out_bundles, guest_out, lps)
+    let first_lists = FirstLists::new(alloc, &script.codes)?;
+    let lps = ended_processors(alloc, script, given, &first_lists)?;
+    all_texts(alloc, keys, out_bundles, guest_out, &lps)
 }

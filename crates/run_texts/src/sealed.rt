@@ -53,7 +53,20 @@ fn seal_all(alloc: Global, keys: &KeyPair, bundles: Vec<Bundle<'_>>) -> Result<V
     container_of(alloc, &expanded, bundles)
 }
 
-/// The container of the bundles of all processors, each sealed, where it is named, and else nothing.
+/// The container of the bundles of all processors, each sealed.
+pub fn sealed_container(
+    alloc: Global,
+    keys: &KeyPair,
+    lps: &[LpState<'_>],
+) -> Result<Vec<u8>, OutOfMemory>
+    requires { FitContainer (bundles_seen lps.now) }
+    ensures { IfOk result (λ v. v.items ≡ container_text keys.now.forward keys.now.backward (bundles_seen lps.now)) }
+{
+    let bundles = all_bundles(alloc, lps)?;
+    seal_all(alloc, keys, bundles)
+}
+
+/// The same where it is named, and else nothing.
 pub fn sealed_bundles(
     alloc: Global,
     keys: &KeyPair,
@@ -65,9 +78,6 @@ pub fn sealed_bundles(
 {
     match out_bundles {
         None => Ok(Vec::new(alloc)),
-        Some(_) => {
-            let bundles = all_bundles(alloc, lps)?;
-            seal_all(alloc, keys, bundles)
-        }
+        Some(_) => sealed_container(alloc, keys, lps),
     }
 }

@@ -1,38 +1,19 @@
-use Rattle.std.proofs.Common.{◌∙◌, ap, map, subst, List}
-use Rattle.script_text.specs.Seen.{ScriptSeen}
-use Rattle.step_core.specs.declared.items.Taken.{Taken}
-use Rattle.trace_table.specs.Merges.{MergesTo}
-use Rattle.trace_table.specs.Benches.{PassSeen, bench_of, table_of}
+use Rattle.std.proofs.Common.{subst, sym}
 use Rattle.leaf_table.specs.Given.{given_in}
+use Rattle.bundle_texts.proofs.Fits.{fit_too}
 use Rattle.run_texts.specs.Openings.{opening_of}
-use Rattle.run_texts.proofs.Codes.{operations-of, short-lists}
-use Rattle.run_texts.proofs.Replayed.{starts, first-bench, open-of, tells, prints-all, notes-all, fits-all, seals-all}
+use Rattle.run_texts.specs.Replaying.{AreAtEnd}
+use Rattle.run_texts.proofs.Replayed.{tells}
+use Rattle.run_texts.proofs.Ended.{seals-end}
 use Rattle.run_texts.proofs.replay.replay_texts.Goals as goal
-
-pub follow_schedule-requires-clause-left : goal.follow_schedule-requires-clause-left
-follow_schedule-requires-clause-left c =
-    starts (given_in c.args.given) c.args.script.now c.script.inside.machine _ _ _ _ (table_of c.in_ok-table.table) (bench_of c.new-bench.result) (ap (λ (s : ScriptSeen). s.machine) c.script.view_is)
-    (c.deref-codes.ensures.value ∙ ap (λ (s : ScriptSeen). s.codes) c.script.view_is) (ap (map (λ list. list.items)) c.deref.ensures.value ∙ ap (λ (s : ScriptSeen). s.calls) c.script.view_is) c.as_mut_slice-lps.ensures.value
-    (first-bench (bench_of c.new-bench.result) c.script.inside.machine (table_of c.in_ok-table.table) (c.new-bench.ensures.machine ∙ c.in_ok-table.ensures.machine) (c.new-bench.ensures.pass ∙ c.in_ok-table.ensures.pass)) c.in_ok-states.ensures
-
-pub processors-requires-clause-limits : goal.processors-requires-clause-limits
-processors-requires-clause-limits c = operations-of c.args.script.now c.deref-codes.result.now c.requires.form (c.deref-codes.ensures.value ∙ ap (λ (s : ScriptSeen). s.codes) c.script.view_is)
-
-pub processors-requires-clause-short : goal.processors-requires-clause-short
-processors-requires-clause-short c =
-    short-lists c.deref.result.now c.args.script.now.calls (ap (map (λ list. list.items)) c.deref.ensures.value ∙ ap (λ (s : ScriptSeen). s.calls) c.script.view_is) c.requires.form.few_calls
 
 pub all_texts-requires-clause-fit : goal.all_texts-requires-clause-fit
 all_texts-requires-clause-fit c =
-    let closed = subst (λ (z : List (List Taken)). MergesTo c.in_ok-table.table.machine z c.close.result.words) (ap (λ (p : PassSeen). p.lists) c.into_pass-pass.ensures) c.close.ensures in
-    let op = open-of (given_in c.args.given) c.args.script.now c.requires.form in
-    fits-all c.laws_of_turns.ensures (opening_of (given_in c.args.given) c.args.script.now) c.args.script.now.schedule _ _ _ _ _ op c.finish_all.ensures.left c.finish_all.ensures.ended closed
+    let end = subst (AreAtEnd (opening_of (given_in c.args.given) c.args.script.now) c.args.script.now.schedule) (sym c.deref-2.ensures.value) c.in_ok-lps.ensures in
+    fit_too _ _ end.bundles end.fit
 
 pub returns : goal.returns
 returns c =
-    let closed = subst (λ (z : List (List Taken)). MergesTo c.in_ok-table.table.machine z c.close.result.words) (ap (λ (p : PassSeen). p.lists) c.into_pass-pass.ensures) c.close.ensures in
-    let op = open-of (given_in c.args.given) c.args.script.now c.requires.form in
-    tells c.all_texts.result _ _ _ _ _ _ _ _ c.all_texts.ensures
-    (prints-all c.laws_of_turns.ensures (opening_of (given_in c.args.given) c.args.script.now) c.args.script.now.schedule _ _ _ _ _ op c.finish_all.ensures.left c.finish_all.ensures.ended closed)
-    (seals-all c.laws_of_turns.ensures (opening_of (given_in c.args.given) c.args.script.now) c.args.script.now.schedule _ _ _ _ _ op c.finish_all.ensures.left c.finish_all.ensures.ended closed c.args.keys.now.forward c.args.keys.now.backward)
-    (notes-all c.laws_of_turns.ensures (opening_of (given_in c.args.given) c.args.script.now) c.args.script.now.schedule _ _ _ _ _ op c.finish_all.ensures.left c.finish_all.ensures.ended closed)
+    let o = opening_of (given_in c.args.given) c.args.script.now in
+    let end = subst (AreAtEnd o c.args.script.now.schedule) (sym c.deref-2.ensures.value) c.in_ok-lps.ensures in
+    tells c.all_texts.result _ _ _ _ _ _ _ _ c.all_texts.ensures end.replies (seals-end o c.args.script.now.schedule _ end c.args.keys.now.forward c.args.keys.now.backward) end.notes
