@@ -162,7 +162,7 @@ const OUTPUTS: &[Row<'static>] = &[
     ("replay s --guest-out s", &[], &[], 0, REPLY, NONE, NONE),
     ("replay s --guest-out", &[], &[], 1, USAGE, NONE, NONE),
     ("replay s --guest-out -g", &[], &[], 1, USAGE, NONE, NONE),
-    ("replay s --guest-out=g", &[], &[], 1, USAGE, NONE, NONE),
+    ("replay s --guest-out=g", &[], &[], 0, REPLY, NONE, ""),
     (
         "replay s --guest-out --keys s",
         &[],
@@ -229,7 +229,19 @@ const CHECKS: &[Row<'static>] = &[
     ("check s --secrets s", &[], &[], 1, USAGE, NONE, NONE),
     ("check --guest-out g s", &[], &[], 1, USAGE, NONE, NONE),
     ("checks s", &[], &[], 1, USAGE, NONE, NONE),
-    ("soak 1", &[], &[], 1, USAGE, NONE, NONE),
+    // A soak loads nothing, and saves nothing.
+    (
+        "soak 1",
+        &[0],
+        &[],
+        0,
+        "soak 1 bundles 5 sum 1\n",
+        NONE,
+        NONE,
+    ),
+    ("soak 1", &[], &[0], 4, "", NONE, NONE),
+    ("soak 0", &[], &[], 1, USAGE, NONE, NONE),
+    ("soak 513", &[], &[], 1, USAGE, NONE, NONE),
 ];
 
 #[test]

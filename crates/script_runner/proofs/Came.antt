@@ -31,6 +31,7 @@ use Rattle.script_runner.specs.Ends.{IsRead}
 use Rattle.script_runner.specs.Threads.{ThreadsOf}
 use Rattle.script_runner.specs.Done.{LoadsOnce, LoadsFirst, IsFirstFault, IsUnread, AreHandedOut, AreWordsHandedOut, AreKeysHandedOut, AreBundlesHandedOut}
 use Rattle.script_runner.specs.Commanded.{Comes, AnswerEnd, ReadEnd, ScriptEnd, NamedEnd, InputsEnd, EndsRun, handed_in}
+use Rattle.script_runner.proofs.Asked.{asks}
 use Rattle.script_runner.proofs.Named.{secrets_of, input_of, success_of, keys_of_command, bundles_of_command}
 use Rattle.script_runner.proofs.Due.{first_cases}
 use Rattle.command_files.specs.declared.inputs.KeyBytes.{KeyBytes}
@@ -555,7 +556,7 @@ module _ (contents : Option (List ℕ → Option (List ℕ))) (c : CommandSeen) 
   answer_came (Err load.Failed) l (same, is) = script_unread (Err load.Failed) l (inr refl) same is
   answer_came (Err load.OutOfMemory) l h = absurd h
 
-pub came : (contents : Option (List ℕ → Option (List ℕ))) (c : Option CommandSeen) (r r' : Reads) (e : Ended) → Comes contents c r r' e → Came contents c r r' e
+pub came : (contents : Option (List ℕ → Option (List ℕ))) (c : Option CommandSeen) (r r' : Reads) (e : Ended) → Comes contents (asks c) r r' e → Came contents c r r' e
 came contents None r r' e (same, is) = Usage refl (ap (λ (z : Reads). z.loads) same) is
 came contents (Some c) r r' e h = answer_came contents c r h.between r' e h.answer h.script_loaded h.ends
 

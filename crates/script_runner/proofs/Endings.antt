@@ -11,6 +11,7 @@ use Rattle.script_runner.specs.Ending.{ToSave, Ended, memory_end, unwritten_end,
 use Rattle.script_runner.specs.Saving.{Writes, AllSaved, IsAmong}
 use Rattle.script_runner.specs.Ends.{Faults, IsEnding, PutsPart, PutsBehind, TellsName, TellsUnsaved, Tells, EndsWith, OneRun, IsBadScript, IsAbsent, IsBadContainer, IsBadKeysOrSecrets, IsComplete, success_text, IsOwnText, PutsFronts, PutsFrontsOf}
 use Rattle.script_runner.specs.Commanded.{Outputs, Puts, PutsWant, DoesCommand}
+use Rattle.script_runner.proofs.Asked.{asks}
 use Rattle.script_runner.proofs.Part.{puts_part}
 use Rattle.script_runner.proofs.Due.{IsRun, Due, due, some_order, same_status, Usage, Absent, BadScript, Want, BadContainer, BadLength, Success}
 use Rattle.script_runner.proofs.Closing.{Closing, closing, saved_later, unput, never_zero, Told, Lost, Wanting, Whole, Unsaved, WantingAfter}
@@ -144,7 +145,7 @@ module _ (e : Ended) (r r' : Reads) (w w' : Writes) (o o' : Outputs) (status : �
       inr (inr (inr (zero, inr ((λ q. some_file front f rest (sym are ∙ q)), want.0, behind o.told b.told o'.told e.text _ puts.told part))))
 
 pub ends_with : (contents : Option (List ℕ → Option (List ℕ))) (c : Option CommandSeen) (r r' : Reads) (w w' : Writes) (o o' : Outputs) (status : ℕ)
-    → DoesCommand contents c r r' w w' o o' status
+    → DoesCommand contents (asks c) r r' w w' o o' status
     → IfSome contents (λ k. EndsWith (record { reads = r.faults; writes = w.faults; puts = o.faults }) (record { reads = r'.faults; writes = w'.faults; puts = o'.faults }) k c o.told o'.told status)
 ends_with None c r r' w w' o o' status d = tt
 ends_with (Some k) c r r' w w' o o' status (inl (e, comes, puts)) =

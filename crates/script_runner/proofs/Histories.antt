@@ -20,6 +20,8 @@ use Rattle.script_runner.specs.Ending.{ToSave, Ended, memory_end, keys_end, secr
 use Rattle.script_runner.specs.Saving.{Writes, AllSaved, out_names}
 use Rattle.script_runner.specs.Ends.{Faults, ReadCause, WriteCause, EndsWith, OneRun, IsBadScript, IsBadContainer, IsBadKeysOrSecrets, IsComplete, PutsFrontsOf}
 use Rattle.script_runner.specs.Done.{PutsOnce, PutsText, PutsRun, PutsAndSaved, PutsUsage, PutsFault, PutsName, PutsPlace, PutsLength, PutsKeysOrSecrets, PutsThreads, PutsLost, PutsMemory, SavesNothing, ChangesNothing, SavesFront, KeepsOrSaves}
+use Rattle.script_runner.specs.Promised.{LoadsSome}
+use Rattle.script_runner.proofs.Asked.{asks}
 use Rattle.script_runner.specs.Commanded.{Comes, ComesPart, AnswerEnd, ScriptEnd, ReadEnd, FurtherPart, Outputs, Puts, DoesCommand}
 use Rattle.script_runner.proofs.Closing.{Closing, closing, saved_later, unput, never_zero, Told, Lost, Wanting, Whole, Unsaved, WantingAfter}
 use Rattle.script_runner.proofs.Came.{Came, LengthCame, SomeLength, came, files_few, rose_earlier, Usage, Unread, BadScript, Want, Place, WrongLength, Success}
@@ -159,9 +161,14 @@ answer_part contents c b r' (Err load.TooLong) e h = inl h.0
 answer_part contents c b r' (Err load.Failed) e h = inl h.0
 answer_part contents c b r' (Err load.OutOfMemory) e h = absurd h
 
-comes_part : (contents : Option (List ℕ → Option (List ℕ))) (c : Option CommandSeen) (r r' : Reads) (e : Ended) → Comes contents c r r' e → ComesPart contents c r r'
-comes_part contents None r r' e h = h.0
-comes_part contents (Some c) r r' e h = record { answer = h.answer; between = h.between; script_loaded = h.script_loaded; further = answer_part contents c h.between r' h.answer e h.ends }
+all_loaded : (contents : Option (List ℕ → Option (List ℕ))) (c : Option CommandSeen) (r r' : Reads) (e : Ended) (status : ℕ) → Comes contents (asks c) r r' e → LoadsSome contents c r r' status
+all_loaded contents None r r' e status h = h.0
+all_loaded contents (Some c) r r' e status h = inl (record { answer = h.answer; between = h.between; script_loaded = h.script_loaded; further = answer_part contents c h.between r' h.answer e h.ends })
+
+some_loaded : (contents : Option (List ℕ → Option (List ℕ))) (c : Option CommandSeen) (r r' : Reads) (status : ℕ) → ComesPart contents (asks c) r r' → status ≡ 5 → LoadsSome contents c r r' status
+some_loaded contents None r r' status same five = same
+some_loaded contents (Some c) r r' status (inl same) five = inr (five, same)
+some_loaded contents (Some c) r r' status (inr part) five = inl part
 
 -- ---- what was put and saved, by the status
 
@@ -410,7 +417,7 @@ if_some (Some k) f h = f k h
 
 module _ (contents : Option (List ℕ → Option (List ℕ))) (c : Option CommandSeen) (r r' : Reads) (w w' : Writes) (o o' : Outputs) (status : ℕ) where
   abbrev Does : Type 0
-  Does = DoesCommand contents c r r' w w' o o' status
+  Does = DoesCommand contents (asks c) r r' w w' o o' status
 
   abbrev before : Faults
   before = record { reads = r.faults; writes = w.faults; puts = o.faults }
@@ -421,12 +428,12 @@ module _ (contents : Option (List ℕ → Option (List ℕ))) (c : Option Comman
   abbrev names : List (List ℕ)
   names = out_names c
 
-  few_of : (e : Ended) → Comes contents c r r' e → length e.files ≤ length names
+  few_of : (e : Ended) → Comes contents (asks c) r r' e → length e.files ≤ length names
   few_of e comes = files_few contents c r r' e (came contents c r r' e comes)
 
-  pub all_loads : Does → ComesPart contents c r r'
-  all_loads (inl (e, comes, p)) = comes_part contents c r r' e comes
-  all_loads (inr (part, kept, want)) = part
+  pub all_loads : Does → LoadsSome contents c r r' status
+  all_loads (inl (e, comes, p)) = all_loaded contents c r r' e status comes
+  all_loads (inr (part, kept, want)) = some_loaded contents c r r' status part want.0
 
   -- what a status that no put makes tells
   done_at : (s : ℕ) → s ≢ 0 → s ≢ 4 → s ≢ 5 → status ≡ s → Does → (e : Ended) × Came contents c r r' e × (e.status ≡ s) × PutsText o.puts e.text o'.puts
@@ -535,7 +542,7 @@ module _ (contents : Option (List ℕ → Option (List ℕ))) (c : Option Comman
       whole : (e.status ≡ 0) × PutsOnce o.puts e.text (Ok tt) o'.puts × AllSaved e.files w w' × Gains o.told e.text o'.told
       whole = closes_whole names e (few_of e comes) w w' o o' status zero (closing e w w' o o' status p)
 
-      by : (k : Option (List ℕ → Option (List ℕ))) → Comes k c r r' e → IfSome k (λ k. OneRun k c o.told o'.told w w')
+      by : (k : Option (List ℕ → Option (List ℕ))) → Comes k (asks c) r r' e → IfSome k (λ k. OneRun k c o.told o'.told w w')
       by None h = tt
       by (Some k) h = endings.one_run before after k c o.told o'.told status zero e (told_ending before after k c r r' e refl refl h) whole.0 whole.3 w w' whole.2
   told_run (inr (part, kept, want)) zero = absurd (let q = want.0 in omega (arith, q, zero))

@@ -1,5 +1,6 @@
 pub mod Accesses
 mod Images
+pub mod Asked
 pub mod Counts
 pub mod Part
 pub mod Named
@@ -9,6 +10,8 @@ pub mod Came
 pub mod Told
 pub mod Endings
 pub mod Histories
+pub mod Soaked
 pub mod Running
 pub mod Blind
 pub mod Unsaved
+pub mod Promised

@@ -24,6 +24,7 @@ use Rattle.command_files.specs.Inputs.{Reads, Loads, LoadsNamed, LoadsNext, Take
 use Rattle.script_runner.specs.Ending.{Ended, bad_end, unread_end, run_end, name_in, input_name, held, absent_fault, container_wrong, length_wrong, keys_wrong, form_wrong, wrong_input, held_word, inputs_end, named_end, script_end, read_end, ending_of, IsOrderOf, without, HandedOut, held_by, held_keys, held_bundles, keys_or_none, no_keys}
 use Rattle.script_runner.specs.Ends.{Faults, IsEnding}
 use Rattle.script_runner.specs.Commanded.{Comes, AnswerEnd, ReadEnd, ScriptEnd, NamedEnd, InputsEnd}
+use Rattle.script_runner.proofs.Asked.{asks}
 use Rattle.script_runner.proofs.Named.{script_end_of}
 use Rattle.script_runner.proofs.Due.{order_found, some_order}
 use Rattle.script_runner.proofs.Came.{loads_later, next_later, rose_later, rose_earlier, first_none}
@@ -489,6 +490,6 @@ module _ (before after : Faults) (contents : List ℕ → Option (List ℕ)) (c 
   told_answer (Err load.OutOfMemory) l h = absurd h
 
 pub told_ending : (before after : Faults) (contents : List ℕ → Option (List ℕ)) (c : Option CommandSeen) (r r' : Reads) (e : Ended) → before.reads ≡ r.faults → after.reads ≡ r'.faults
-    → Comes (Some contents) c r r' e → IsEnding before after contents c e
+    → Comes (Some contents) (asks c) r r' e → IsEnding before after contents c e
 told_ending before after contents None r r' e starts stops (same, is) = let (order, in_order) = some_order contents None in inl (order, in_order, is)
 told_ending before after contents (Some c) r r' e starts stops h = told_answer before after contents c r h.between r' e starts stops h.answer h.script_loaded h.ends

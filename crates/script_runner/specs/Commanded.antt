@@ -1,4 +1,4 @@
--- What a command comes to, with the files that its options name: what is loaded, put and saved.
+-- What the words come to, a command on a script with the files that its options name, or a soak: what is loaded, put and saved.
 use Rattle.std.specs.Prelude.{◌≡◌, ◌≢◌, ◌⊎◌, ℕ, ◌^◌, ◌≤◌, List, [], ◌∷◌, slice_index, Bool, Option, Some, None, Result, Ok, Err}
 use Rattle.std.specs.Global.{Vec}
 use Rattle.script_text.specs.declared.faults.Reason.TheVariants.{Length}
@@ -17,9 +17,9 @@ use Rattle.bundle_store.specs.History.{Put}
 use Rattle.command_files.specs.declared.inputs.InputFault.{InputFault}
 use Rattle.command_files.specs.declared.inputs.InputFault.TheVariants as fault
 use Rattle.command_files.specs.declared.inputs.Inputs.{Inputs}
-use Rattle.command_files.specs.Commands.{NamedSeen, CommandSeen, Replay, Run, Check, script_name}
+use Rattle.command_files.specs.Commands.{NamedSeen, CommandSeen, Replay, Run, Check, AskedSeen, OfScript, Soak, script_name}
 use Rattle.command_files.specs.Inputs.{Reads, Loads, TakesInputs}
-use Rattle.script_runner.specs.Ending.{ToSave, Ended, HandedOut, keys_or_none, usage_end, bad_end, unread_end, memory_end, run_end, check_end, fault_end, container_end, keys_end, secrets_end, unwritten_end, input_name, IsOrderOf}
+use Rattle.script_runner.specs.Ending.{ToSave, Ended, HandedOut, keys_or_none, usage_end, bad_end, unread_end, memory_end, run_end, check_end, soak_end, fault_end, container_end, keys_end, secrets_end, unwritten_end, input_name, IsOrderOf}
 use Rattle.script_runner.specs.Saving.{Writes, Saves}
 use Rattle.script_runner.specs.Threads.{ThreadsOf}
 use Rattle.script_runner.specs.Ends.{unput_status}
@@ -92,14 +92,17 @@ pub record ReachesPart (contents : Option (List ℕ → Option (List ℕ))) (c :
   pub script_loaded : Loads contents (2 ^ 24) (script_name c) old answer between
   pub further : FurtherPart contents c between new
 
--- words that are no command load nothing
-abbrev pub Comes : Option (List ℕ → Option (List ℕ)) → Option CommandSeen → Reads → Reads → Ended → Type 0
+-- words that are no command load nothing, and neither does a soak
+abbrev pub Comes : Option (List ℕ → Option (List ℕ)) → Option AskedSeen → Reads → Reads → Ended → Type 0
 Comes contents None old new e = (new ≡ old) × (e ≡ usage_end)
-Comes contents (Some c) old new e = Reaches contents c old new e
+Comes contents (Some (OfScript c)) old new e = Reaches contents c old new e
+Comes contents (Some (Soak n)) old new e = (new ≡ old) × (e ≡ soak_end n)
 
-abbrev pub ComesPart : Option (List ℕ → Option (List ℕ)) → Option CommandSeen → Reads → Reads → Type 0
+-- the same, where memory was wanting on the way, as it may be before the script is loaded
+abbrev pub ComesPart : Option (List ℕ → Option (List ℕ)) → Option AskedSeen → Reads → Reads → Type 0
 ComesPart contents None old new = new ≡ old
-ComesPart contents (Some c) old new = ReachesPart contents c old new
+ComesPart contents (Some (OfScript c)) old new = (new ≡ old) ⊎ ReachesPart contents c old new
+ComesPart contents (Some (Soak n)) old new = new ≡ old
 
 -- ---- what is put
 
@@ -156,9 +159,9 @@ pub record PutsAndSaves (e : Ended) (written written' : Writes) (old new : Outpu
   pub tells : TellsBy old e between told answer
   pub finishes : Finishes e.files written written' between new told status
 
--- What a command does: the ending that is due by what it loads is put, and then its files are saved; or memory is wanting on
--- the way, which is put instead.
-abbrev pub DoesCommand : Option (List ℕ → Option (List ℕ)) → Option CommandSeen → Reads → Reads → Writes → Writes → Outputs → Outputs → ℕ → Type 0
-DoesCommand contents c read read' written written' old new status =
-    ((e : Ended) × Comes contents c read read' e × PutsAndSaves e written written' old new status)
-    ⊎ (ComesPart contents c read read' × (written' ≡ written) × PutsWant old new status)
+-- What the call does that is asked for this: the ending that is due by what it loads is put, and then its files are saved; or
+-- memory is wanting on the way, which is put instead.
+abbrev pub DoesCommand : Option (List ℕ → Option (List ℕ)) → Option AskedSeen → Reads → Reads → Writes → Writes → Outputs → Outputs → ℕ → Type 0
+DoesCommand contents asked read read' written written' old new status =
+    ((e : Ended) × Comes contents asked read read' e × PutsAndSaves e written written' old new status)
+    ⊎ (ComesPart contents asked read read' × (written' ≡ written) × PutsWant old new status)

@@ -20,6 +20,7 @@ use Rattle.incoming.specs.Arrivals.{incoming_in, at_slot}
 use Rattle.leaf_table.specs.Given.{Given}
 use Rattle.run_texts.specs.Openings.{opening_of}
 use Rattle.run_texts.specs.Sealing.{bundles_text}
+use Rattle.soak_runs.specs.Soaked.{soak_text}
 use Rattle.bundle_store.specs.Containers.{container_in}
 use Rattle.command_files.specs.declared.inputs.Input.{Input}
 use Rattle.command_files.specs.declared.inputs.Input.TheVariants as input
@@ -126,6 +127,10 @@ check_text s =
 
 abbrev pub check_end : ScriptSeen → Ended
 check_end s = record { status = 0; text = check_text s; files = [] }
+
+-- the line of a soak of so many pages
+abbrev pub soak_end : ℕ → Ended
+soak_end n = record { status = 0; text = soak_text n; files = [] }
 
 -- what a command comes to with a script where nothing is wrong
 abbrev pub success_end : CommandSeen → ScriptSeen → HandedOut → (order : List ℕ) → Ended

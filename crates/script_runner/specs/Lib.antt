@@ -7,3 +7,5 @@ pub mod Saving
 pub mod Ends
 pub mod Done
 pub mod Commanded
+pub mod Asked
+pub mod Promised

@@ -5,16 +5,16 @@ ghost use Rattle.bundle_store.specs.Containers.{AreInOrder};
 ghost use Rattle.script_text.specs.Laws.{IsInForm};
 ghost use Rattle.script_text.specs.Seen.{ScriptSeen};
 ghost use Rattle.command_files.specs.Commands.{CommandSeen, Replay, Run, named_seen};
-ghost use Rattle.script_runner.specs.Ending.{ending_seen, usage_end, unread_end, bad_end, calls_in, ops_in, check_end, container_end, keys_end, secrets_end, unwritten_end, input_name, keys_or_none};
+ghost use Rattle.script_runner.specs.Ending.{ending_seen, usage_end, unread_end, bad_end, calls_in, ops_in, check_end, soak_end, container_end, keys_end, secrets_end, unwritten_end, input_name, keys_or_none};
 ghost use Rattle.script_runner.specs.Threads.{texts_end};
 ghost use Rattle.script_runner.specs.Commanded.{handed_in, InputsEnd, EndsRun};
 
-use crate::opened::opened_bundles;
 use command_files::{Input, InputFault, Inputs, KeyBytes, Named};
 use leaf_engine::Gate;
 use leaf_table::Given;
-use run_texts::{KeyPair, Texts, replay_texts, threaded_texts};
+use run_texts::{KeyPair, Texts, opened_bundles, replay_texts, threaded_texts};
 use script_text::{Reason, Script};
+use soak_runs::soak_line;
 use std::alloc::{AllocError, Global};
 use std::thread::Threads;
 use td_words::{Call, Code, OutOfMemory};
@@ -281,4 +281,15 @@ pub fn check<'a>(alloc: Global, script: &Script) -> Result<Ending<'a>, AllocErro
     let items = script.schedule.len();
     let text = format!(in alloc; "ok {lps} {calls} {ops} {items}\n")?;
     Ok(plain(alloc, 0, text.into_bytes()))
+}
+
+/// The line of a soak.
+pub fn soak<'a>(alloc: Global, pages: u16) -> Result<Ending<'a>, AllocError>
+    requires { pages ≤ 512 }
+    ensures { IfOk result (λ e. ending_seen e ≡ soak_end pages) }
+{
+    match soak_line(alloc, pages) {
+        Ok(line) => Ok(plain(alloc, 0, line)),
+        Err(OutOfMemory) => Err(AllocError),
+    }
 }

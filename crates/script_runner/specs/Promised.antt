@@ -1,0 +1,91 @@
+-- What the top call promises of a command on a script, and of words that are no command.
+use Rattle.std.specs.Prelude.{◌≡◌, ◌≢◌, ◌⊎◌, ◌≤◌, ℕ, List, [], ◌∷◌, ◌++◌, Option, Some, None, Ok}
+use Rattle.bundle_store.specs.History.{Put}
+use Rattle.command_files.specs.Commands.{CommandSeen, Check}
+use Rattle.command_files.specs.Inputs.{Reads}
+use Rattle.script_runner.specs.Ending.{ending_of, handed_held, opening_by}
+use Rattle.script_runner.specs.Accesses.{OwnAccesses}
+use Rattle.script_runner.specs.Images.{StartsFromPauses}
+use Rattle.script_runner.specs.Saving.{Writes, out_names}
+use Rattle.script_runner.specs.Ends.{Faults, EndsWith, OneRun, IsComplete, IsBadScript, IsBadContainer, IsBadKeysOrSecrets, ShowsBlind, ReadCause, WriteCause, PutsFrontsOf}
+use Rattle.script_runner.specs.Done.{PutsRun, PutsAndSaved, PutsThreads, PutsBlind, PutsUsage, PutsFault, PutsName, PutsPlace, PutsKeysOrSecrets, PutsLost, PutsMemory, SavesNothing, ChangesNothing, KeepsOrSaves}
+use Rattle.script_runner.specs.Commanded.{Outputs, ReachesPart}
+
+abbrev pub faults_of : Reads → Writes → Outputs → Faults
+faults_of read written put = record { reads = read.faults; writes = written.faults; puts = put.faults }
+
+-- The script is loaded, and then the inputs that are due or nothing, and each load answers as its law says; at status 5 there
+-- may be no load, where memory was wanting before the first.
+abbrev pub LoadsSome : Option (List ℕ → Option (List ℕ)) → Option CommandSeen → Reads → Reads → ℕ → Type 0
+LoadsSome contents None old new status = new ≡ old
+LoadsSome contents (Some c) old new status = ReachesPart contents c old new ⊎ ((status ≡ 5) × (new ≡ old))
+
+-- By histories: of all files and outputs, whatever they tell.
+pub record ByHistories (c : Option CommandSeen) (contents : Option (List ℕ → Option (List ℕ))) (loaded loaded' : Reads) (written written' : Writes) (output output' : Outputs) (status : ℕ) : Type 0 where
+  pub checked : (name : List ℕ) → c ≡ Some (Check name) → status ≤ 5
+  pub loads : LoadsSome contents c loaded loaded' status
+  -- At status 0 the put was given just the reply lines of the flat machine's run of the script that the first load handed out, or
+  -- for check its numbers, and came through; and every output was written, the container with the bundles that that same run
+  -- made, sealed under the keys that were handed out, and the guest file with what its guests noted. The run has the secret words
+  -- that were handed out, the bundles of the container that was, opened under those keys, and one order of events: for a replay
+  -- the schedule, for a run some order.
+  pub put_run : status ≡ 0 → PutsRun c loaded.loads loaded'.loads output.puts output'.puts (Ok tt)
+  pub saved : status ≡ 0 → PutsAndSaved c loaded.loads loaded'.loads output.puts output'.puts written written'
+  -- In that run each access of a guest to its private memory reached a private page of its own TD, which the TD's secure EPT named
+  -- there; a load gave the word that the guest knew, and a store left it its register's.
+  pub put_accesses : status ≡ 0 → (run : PutsRun c loaded.loads loaded'.loads output.puts output'.puts (Ok tt)) × OwnAccesses (opening_by run.handed run.script) run.order
+  -- For a run what was put and saved is what processors in threads can have done: there are own lists of word steps, one of each,
+  -- which have an order that plays, and each such order is one of events under which the flat machine's run prints and notes the
+  -- same.
+  pub put_threads : status ≡ 0 → PutsThreads c loaded.loads loaded'.loads output.puts output'.puts written written'
+  -- What was put is what the same run prints with every private word 0, in which the same words are told; and so what each run
+  -- prints that agrees on all that is public, and tells the same. Private are secret words, and the payloads of states and pages
+  -- that came in.
+  pub put_blind : status ≡ 0 → PutsBlind c loaded.loads loaded'.loads output.puts output'.puts
+  -- Unless a tag was forged, each TD that the run committed started from the pause of its source: of every run that made all
+  -- bundles that came in and opened, whatever its script.
+  pub put_images : status ≡ 0 → (run : PutsRun c loaded.loads loaded'.loads output.puts output'.puts (Ok tt)) × StartsFromPauses (opening_by run.handed run.script) run.order
+  -- At 1 it was given the usage line, and nothing was loaded; at 2 the first fault of what the one load handed out, or that this is
+  -- too long; at 3 the name, where the last load handed out nothing; at 6 the place of the first fault of the container that was
+  -- loaded; at 7 that the key file or the secrets file hasn't its length.
+  pub put_usage : status ≡ 1 → PutsUsage c loaded.loads loaded'.loads output.puts output'.puts
+  pub put_fault : status ≡ 2 → PutsFault c loaded.loads loaded'.loads output.puts output'.puts
+  pub put_name : status ≡ 3 → PutsName c loaded.loads loaded'.loads output.puts output'.puts
+  pub put_place : status ≡ 6 → PutsPlace c loaded.loads loaded'.loads output.puts output'.puts
+  pub put_keys : status ≡ 7 → PutsKeysOrSecrets c loaded.loads loaded'.loads output.puts output'.puts
+  -- At 4 it was given the text of a success, and failed, or else the save of a file did, behind which none was saved. At 5 the last
+  -- put says that memory was wanting.
+  pub put_lost : status ≡ 4 → PutsLost c loaded.loads loaded'.loads written written' output.puts output'.puts
+  pub put_memory : status ≡ 5 → PutsMemory (out_names c) output.puts output'.puts
+  -- The statuses 3 and 4 have their cause.
+  pub read : status ≡ 3 → ReadCause contents c loaded.faults loaded'.faults
+  pub write : status ≡ 4 → WriteCause (faults_of loaded written output) (faults_of loaded' written' output') (out_names c)
+  -- A text is put even where it is empty, in one put; one more may come at the status 4, where a file wasn't saved, and at the
+  -- status 5.
+  pub put : (out_names c ≡ []) ⊎ (status ≢ 4) → status ≢ 5 → (p : Put) × (output'.puts ≡ output.puts ++ p ∷ [])
+  pub tried : (p : Put) × (more : List Put) × (output'.puts ≡ output.puts ++ p ∷ more)
+  -- What files have changes only where all was done, and a file was to be saved; where two were, it may also change at the statuses
+  -- 4 and 5, by the first, and then just as that save left it. A save is tried only where the text was put.
+  pub same : ChangesNothing (out_names c) status → written'.contents ≡ written.contents
+  pub kept : status ≢ 0 → KeepsOrSaves c loaded.loads loaded'.loads written written'
+  pub saves : SavesNothing (out_names c) status → written'.saves ≡ written.saves
+  pub writes : SavesNothing (out_names c) status → written'.faults ≡ written.faults
+
+-- By contents, where they are told: each name has these.
+pub record ByContents (held : List ℕ → Option (List ℕ)) (c : Option CommandSeen) (loaded loaded' : Reads) (written written' : Writes) (output output' : Outputs) (status : ℕ) : Type 0 where
+  -- At status 0 the output got just the reply lines of the flat machine's run of the named script, or its numbers, and each file
+  -- that is named has what that same run leaves.
+  pub one_run : status ≡ 0 → OneRun held c output.told output'.told written written'
+  pub one_accesses : status ≡ 0 → (run : OneRun held c output.told output'.told written written') × OwnAccesses (opening_by (handed_held held run.command) run.script) run.order
+  pub one_blind : status ≡ 0 → ShowsBlind held c output.told output'.told written written'
+  pub one_images : status ≡ 0 → (run : OneRun held c output.told output'.told written written') × StartsFromPauses (opening_by (handed_held held run.command) run.script) run.order
+  -- Each status comes with its text.
+  pub ends : EndsWith (faults_of loaded written output) (faults_of loaded' written' output') held c output.told output'.told status
+  -- The status that is due comes, whatever the order of events; only a fault or want of memory keeps it from coming.
+  pub complete : (order : List ℕ) → IsComplete (faults_of loaded written output) (faults_of loaded' written' output') (ending_of held c order) status
+  -- The statuses 2, 6 and 7 have their cause.
+  pub bad : status ≡ 2 → IsBadScript held c
+  pub container : status ≡ 6 → IsBadContainer held c
+  pub keys : status ≡ 7 → IsBadKeysOrSecrets held c
+  -- What the output got before the call gave up.
+  pub fronts : (status ≡ 4) ⊎ (status ≡ 5) → PutsFrontsOf held c output.told status output'.told
