@@ -31,6 +31,7 @@ use Rattle.flat_core.proofs.Tests.{by_test, host_kind, put_here}
 use Rattle.flat_core.proofs.Operations.{operation_row, accepted}
 use Rattle.flat_bundles.proofs.Fills.{fill_either}
 use Rattle.mig_laws.specs.Ivs.{is_filling}
+use Rattle.mig_laws.specs.Paused.{is_paused}
 use Rattle.mig_laws.proofs.Ivs.{given_up_fills}
 use Rattle.mig_laws.proofs.OneMore.{only_kind, td_state_fills, commit_fills}
 use Rattle.mig_laws.proofs.Paused.{only_live, abortable_stands}
@@ -39,7 +40,7 @@ use Rattle.runner_laws.specs.Runner.{is_waiting, IsCalledBack}
 pub data Goes (o : Opening) (c : Call) (w v : World) (x : ℕ) : Type 0 where
   stays : v.tds.ops x ≡ w.tds.ops x → v.tds.sessions x ≡ w.tds.sessions x → Goes o c w v x
   apart : is_exporting (w.tds.ops x) ≡ false → is_waiting (w.tds.ops x) ≡ false → Goes o c w v x
-  exports : is_waiting (w.tds.ops x) ≡ false → (w.tds.ops x ≡ op.PostExport → ⊥) → is_exporting (v.tds.ops x) ≡ true → v.tds.sessions x ≡ w.tds.sessions x → Goes o c w v x
+  exports : is_waiting (w.tds.ops x) ≡ false → (w.tds.ops x ≡ op.PostExport → ⊥) → is_paused (v.tds.ops x) ≡ true → v.tds.sessions x ≡ w.tds.sessions x → Goes o c w v x
   aborts : is_waiting (w.tds.ops x) ≡ false → (w.tds.ops x ≡ op.PostExport → ⊥) → v ≡ set_op x op.Runnable w → Goes o c w v x
   returns : is_waiting (w.tds.ops x) ≡ false → IsCalledBack o x (w.tds.sessions x) c → v.tds.ops x ≡ op.Runnable → Goes o c w v x
   waits : is_exporting (w.tds.ops x) ≡ false → is_waiting (v.tds.ops x) ≡ true → v.tds.sessions x ≡ w.tds.sessions x → Goes o c w v x
@@ -132,11 +133,11 @@ module _ (o : Opening) (me : ℕ) (w : World) where
   row-goes (call.ExportPause t) ps x a =
       let live = only_live (w.tds.ops t) ps.1.1.1.1.0 in
       own (call.ExportPause t) (After (call.ExportPause t)) t x (λ y. (rw y refl, refl))
-      (exports (ap is_waiting live) (λ e. let no : op.LiveExport ≡ op.PostExport = sym live ∙ e in cc) (ap is_exporting (put_here w.tds.ops t op.PausedExport)) refl)
+      (exports (ap is_waiting live) (λ e. let no : op.LiveExport ≡ op.PostExport = sym live ∙ e in cc) (ap is_paused (put_here w.tds.ops t op.PausedExport)) refl)
   row-goes (call.ExportTrack t slot zero) ps x a = stays refl refl
   row-goes (call.ExportTrack t slot (suc n)) ps x a =
       let p = paused_stands (w.tds.ops t) ps.1.1.1.1.1.0 in
-      own (call.ExportTrack t slot (suc n)) (After (call.ExportTrack t slot (suc n))) t x (λ y. (rw y refl, refl)) (exports p.0 p.1 (ap is_exporting (put_here w.tds.ops t op.PostExport)) refl)
+      own (call.ExportTrack t slot (suc n)) (After (call.ExportTrack t slot (suc n))) t x (λ y. (rw y refl, refl)) (exports p.0 p.1 (ap is_paused (put_here w.tds.ops t op.PostExport)) refl)
   row-goes (call.ExportAbort t) ps x a =
       own (call.ExportAbort t) (After (call.ExportAbort t)) t x (λ y. (rw y refl, refl)) (aborts (abortable_waits (w.tds.ops t) ps.1.1.1.1.0) (abortable_stands (w.tds.ops t) ps.1.1.1.1.0) refl)
   row-goes (call.ExportAbortByToken t slot) ps x a =

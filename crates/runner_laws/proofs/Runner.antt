@@ -1,5 +1,5 @@
 -- The law of the one host that runs a TD: one event, and runs.
-use Rattle.std.proofs.Common.{◌≡◌, refl, sym, ◌∙◌, ap, subst, ℕ, ◌+◌, List, [], ◌∷◌, ◌++◌, length, Option, Some, None, true, false, not, ◌==◌}
+use Rattle.std.proofs.Common.{◌≡◌, refl, sym, ◌∙◌, ap, subst, ℕ, ◌+◌, List, [], ◌∷◌, ◌++◌, length, Option, Some, None, Bool, true, false, not, ◌==◌}
 use Rattle.std.specs.List.{All, list_any}
 use Rattle.std.proofs.lemmas.Bool.{eqb-true, eq-eqb}
 use Rattle.td_words.specs.declared.names.PageKind.TheVariants as kind
@@ -30,7 +30,7 @@ use Rattle.flat_core.proofs.Always.{occ-of, always_guarded}
 use Rattle.flat_core.proofs.Induction.{in_runs, in_runs_of, play_append}
 use Rattle.mig_laws.specs.Ivs.{is_forward, is_filling}
 use Rattle.mig_laws.specs.Source.{SourceHolds}
-use Rattle.mig_laws.specs.Paused.{has_start, is_start, PausesHold}
+use Rattle.mig_laws.specs.Paused.{has_start, is_start, is_paused, PausesHold}
 use Rattle.mig_laws.specs.Image.{Unforged, IsSource}
 use Rattle.mig_laws.specs.Imports.{DestinationHolds, IsComplete}
 use Rattle.mig_laws.proofs.Places.{at_place}
@@ -40,7 +40,7 @@ use Rattle.mig_laws.proofs.Source.{source_kept}
 use Rattle.mig_laws.proofs.Paused.{pauses_kept}
 use Rattle.mig_laws.proofs.Started.{every_run_is_a_source}
 use Rattle.mig_laws.proofs.Destination.{destination_kept}
-use Rattle.runner_laws.specs.Runner.{Runs, LivesThrough, IsExportedAs, RestsAs, is_waiting, WaitsAs, IsCalledBack, IsAfterRest, rests, torn_down, called_back, SentTdsRest, CommitsHold, CommitsAreKept, NoneGivenBack, AreUnforged, SourcesRest, DestinationsWait, AtMostOneRuns}
+use Rattle.runner_laws.specs.Runner.{Runs, LivesThrough, IsExportedAs, IsPausedAs, RestsAs, is_waiting, WaitsAs, IsCalledBack, IsAfterRest, rests, torn_down, called_back, SentTdsRest, CommitsHold, CommitsAreKept, NoneGivenBack, AreUnforged, CommitsAreStarted, SourcesRest, PausedSourcesStay, DestinationsWait, AtMostOneRuns}
 use Rattle.runner_laws.proofs.Goes.{Goes, stays, apart, exports, aborts, returns, waits, commits, row-goes, row-given, noted_stays, Asked, asked, operation_same, reach_same, left_same}
 use Rattle.runner_laws.proofs.Commits.{OtherBack, row-commits, same_commits}
 use Rattle.runner_laws.proofs.Unstarted.{IsUnstarted, aborted_unstarted, row-unstarted, same_unstarted}
@@ -55,6 +55,16 @@ waiting_stops op.StateImport e f = cc
 waiting_stops op.PostImport e f = cc
 waiting_stops op.FailedImport e f = cc
 waiting_stops _ e f = cc
+
+paused_stops : (s : OpState) → is_paused s ≡ true → list_any (λ a. op_number a == op_number s) running_ops ≡ true → ⊥
+paused_stops op.PausedExport e f = cc
+paused_stops op.PostExport e f = cc
+paused_stops _ e f = cc
+
+paused_exports : (s : OpState) → is_paused s ≡ true → is_exporting s ≡ true
+paused_exports op.PausedExport e = refl
+paused_exports op.PostExport e = refl
+paused_exports _ e = cc
 
 rest_stops : (o : Opening) (s : State) (t session : ℕ) → AreTimely o s → RestsAs s.world t session → Runs s t → ⊥
 rest_stops o s t session timely r runs = let no : false ≡ true = ap (λ (x : OpState). list_any (λ a. op_number a == op_number x) running_ops) (sym r.started) ∙ runs_in o s timely t runs in cc
@@ -190,47 +200,65 @@ in_parts holds h o ws before after = subst (λ (s : State). holds o s) (play_app
 abbrev PausesIn : Opening → State → Type 0
 PausesIn o s = ((IsGuarded o s × ArePagesKnown s.world) × SourceHolds s.world) × PausesHold s.world
 
--- the source: the TD is exported still, or it was aborted before the start token
-data IsSent (w : World) (t session : ℕ) : Type 0 where
-  exported : IsExportedAs w t session → IsSent w t session
-  aborted : IsUnstarted w session → IsSent w t session
+-- the source: the TD is exported still, and paused still where it was; or it was aborted before the start token
+data IsSent (was_paused : Bool) (w : World) (t session : ℕ) : Type 0 where
+  exported : IsExportedAs w t session → (was_paused ≡ true → is_paused (w.tds.ops t) ≡ true) → IsSent was_paused w t session
+  aborted : IsUnstarted w session → IsSent was_paused w t session
 
-module _ (o : Opening) (t session : ℕ) (never_back : (c : Call) → IsCalledBack o t session c → ⊥) where
+-- what never began before its start token never does
+module _ (o : Opening) (session : ℕ) where
+  event_unstarted : (s : State) (p : ℕ) → PausesIn o s → IsUnstarted s.world session → IsUnstarted (event o s p).world session
+  event_unstarted s p h k =
+      let u : World = s.world in
+      let l : Lawful o.machine u = h.0.0.0.timely.lawful in
+      event_world o s p (λ v. IsUnstarted v session) k
+      (λ c cs line none ps. row-unstarted o p u l session k c ps)
+      (λ c cs g op row i is ps. same_unstarted u _ session (operation_same o g.tdr g.vp (length (s.lps p).replies + 1) op row u is) k)
+      (λ c cs g op access r gpa page i is found. same_unstarted u _ session (reach_same g.tdr g.vp access r gpa page u) k)
+      (λ c cs g i. same_unstarted u _ session (left_same g.vp u) k)
+
+  all_unstarted : (ps : List ℕ) (s : State) → PausesIn o s → IsUnstarted s.world session → IsUnstarted (play o ps s).world session
+  all_unstarted [] s h k = k
+  all_unstarted (p ∷ ps) s h k = all_unstarted ps (event o s p) (pauses_kept.event o o.bundles s p h) (event_unstarted s p h k)
+
+module _ (o : Opening) (t session : ℕ) (never_back : (c : Call) → IsCalledBack o t session c → ⊥) (was_paused : Bool) where
   module _ (s : State) (p : ℕ) (h : PausesIn o s) where
     abbrev u : World
     u = s.world
 
-    goes_sent : (c : Call) (v : World) → IsExportedAs u t session → Goes o c u v t → IsAlive v.pages v.tds t → IsSent v t session
-    goes_sent c v r (stays ops same) alive = exported (exported_still u v t session r alive (ap is_exporting ops ∙ r.exporting.standing) same)
-    goes_sent c v r (apart off other) alive = absurd (let x : true ≡ false = sym r.exporting.standing ∙ off in cc)
-    goes_sent c v r (exports off never still same) alive = exported (exported_still u v t session r alive still same)
-    goes_sent c v r (aborts off never is) alive = aborted (subst (λ (z : World). IsUnstarted z session) (sym is) (subst (λ (n : ℕ). IsUnstarted (set_op t op.Runnable u) n) r.own (aborted_unstarted u t h.0.1 h.1 r.exporting never)))
-    goes_sent c v r (returns off back runnable) alive = absurd (never_back c (subst (λ (n : ℕ). IsCalledBack o t n c) r.own back))
-    goes_sent c v r (waits off still same) alive = absurd (let x : true ≡ false = sym r.exporting.standing ∙ off in cc)
-    goes_sent c v r (commits off given) alive = absurd (let x : true ≡ false = sym r.exporting.standing ∙ off in cc)
+    abbrev Pauses : World → Type 0
+    Pauses v = was_paused ≡ true → is_paused (v.tds.ops t) ≡ true
 
-    call_sent : (c : Call) → Passes ((row_of o p c).items u) → IsSent u t session → IsAlive u.pages u.tds t → IsAlive ((row_of o p c).act u).pages ((row_of o p c).act u).tds t → IsSent ((row_of o p c).act u) t session
-    call_sent c ps (exported r) now alive = goes_sent c _ r (row-goes o p u c ps t now) alive
-    call_sent c ps (aborted k) now alive = (let l : Lawful o.machine u = h.0.0.0.timely.lawful in aborted (row-unstarted o p u l session k c ps))
+    goes_sent : (c : Call) (v : World) → IsExportedAs u t session → Pauses u → Goes o c u v t → IsAlive v.pages v.tds t → IsSent was_paused v t session
+    goes_sent c v r was (stays ops same) alive = exported (exported_still u v t session r alive (ap is_exporting ops ∙ r.exporting.standing) same) (λ e. ap is_paused ops ∙ was e)
+    goes_sent c v r was (apart off other) alive = absurd (let x : true ≡ false = sym r.exporting.standing ∙ off in cc)
+    goes_sent c v r was (exports off never still same) alive = exported (exported_still u v t session r alive (paused_exports (v.tds.ops t) still) same) (λ e. still)
+    goes_sent c v r was (aborts off never is) alive = aborted (subst (λ (z : World). IsUnstarted z session) (sym is) (subst (λ (n : ℕ). IsUnstarted (set_op t op.Runnable u) n) r.own (aborted_unstarted u t h.0.1 h.1 r.exporting never)))
+    goes_sent c v r was (returns off back runnable) alive = absurd (never_back c (subst (λ (n : ℕ). IsCalledBack o t n c) r.own back))
+    goes_sent c v r was (waits off still same) alive = absurd (let x : true ≡ false = sym r.exporting.standing ∙ off in cc)
+    goes_sent c v r was (commits off given) alive = absurd (let x : true ≡ false = sym r.exporting.standing ∙ off in cc)
 
-    same_sent : (v : World) → asked v ≡ asked u → IsSent u t session → IsSent v t session
-    same_sent v same (exported r) = exported (same_exported u v t session same r)
-    same_sent v same (aborted k) = aborted (same_unstarted u v session same k)
+    same_pauses : (v : World) → asked v ≡ asked u → Pauses u → Pauses v
+    same_pauses v same was e = ap (λ (z : Asked). is_paused (z.ops t)) same ∙ was e
 
-    event_sent : IsSent u t session → IsAlive u.pages u.tds t → IsAlive (event o s p).world.pages (event o s p).world.tds t → IsSent (event o s p).world t session
-    event_sent k now = event_world o s p (λ v. IsAlive v.pages v.tds t → IsSent v t session) (λ alive. k)
-        (λ c cs line none ps alive. call_sent c ps k now alive)
-        (λ c cs g op row i is ps alive. same_sent _ (operation_same o g.tdr g.vp (length (s.lps p).replies + 1) op row u is) k)
-        (λ c cs g op access r gpa page i is found alive. same_sent _ (reach_same g.tdr g.vp access r gpa page u) k)
-        (λ c cs g i alive. same_sent _ (left_same g.vp u) k)
+    same_sent : (v : World) → asked v ≡ asked u → IsExportedAs u t session → Pauses u → IsSent was_paused v t session
+    same_sent v same r was = exported (same_exported u v t session same r) (same_pauses v same was)
 
-  all_sent : (ps : List ℕ) (s : State) → PausesIn o s → IsSent s.world t session → LivesThrough o ps s t → IsSent (play o ps s).world t session
+    event_sent : IsSent was_paused u t session → IsAlive u.pages u.tds t → IsAlive (event o s p).world.pages (event o s p).world.tds t → IsSent was_paused (event o s p).world t session
+    event_sent (aborted k) now mine = aborted (event_unstarted o session s p h k)
+    event_sent (exported r was) now mine = event_world o s p (λ v. IsAlive v.pages v.tds t → IsSent was_paused v t session) (λ alive. exported r was)
+        (λ c cs line none ps alive. goes_sent c _ r was (row-goes o p u c ps t now) alive)
+        (λ c cs g op row i is ps alive. same_sent _ (operation_same o g.tdr g.vp (length (s.lps p).replies + 1) op row u is) r was)
+        (λ c cs g op access k gpa page i is found alive. same_sent _ (reach_same g.tdr g.vp access k gpa page u) r was)
+        (λ c cs g i alive. same_sent _ (left_same g.vp u) r was) mine
+
+  all_sent : (ps : List ℕ) (s : State) → PausesIn o s → IsSent was_paused s.world t session → LivesThrough o ps s t → IsSent was_paused (play o ps s).world t session
   all_sent [] s h k lives = k
   all_sent (p ∷ ps) s h k lives = all_sent ps (event o s p) (pauses_kept.event o o.bundles s p h) (event_sent s p h k lives.0 (lives_now o ps (event o s p) t lives.1)) lives.1
 
-rests_then : (o : Opening) (s : State) (t session : ℕ) → PausesIn o s → has_start session s.world.outgoing.bundles ≡ true → IsSent s.world t session → RestsAs s.world t session
-rests_then o s t session h started (exported r) = record { exported = r; started = h.1.started t r.exporting (subst (λ (n : ℕ). has_start n s.world.outgoing.bundles ≡ true) (sym r.own) started) }
-rests_then o s t session h started (aborted k) = absurd (let x : true ≡ false = sym started ∙ k.unstarted in cc)
+rests_then : (o : Opening) (s : State) (t session : ℕ) (was_paused : Bool) → PausesIn o s → has_start session s.world.outgoing.bundles ≡ true → IsSent was_paused s.world t session → RestsAs s.world t session
+rests_then o s t session was_paused h started (exported r was) = record { exported = r; started = h.1.started t r.exporting (subst (λ (n : ℕ). has_start n s.world.outgoing.bundles ≡ true) (sym r.own) started) }
+rests_then o s t session was_paused h started (aborted k) = absurd (let x : true ≡ false = sym started ∙ k.unstarted in cc)
 
 -- a token back is one that the destination made
 never_returned : (q o : Opening) (made back : List Made) (t session : ℕ) → AreUnforged q o made back → All (OtherBack session) back → (c : Call) → IsCalledBack q t session c → ⊥
@@ -239,17 +267,57 @@ never_returned q o made back t session unforged kept c b =
     let six : is_forward m.bundle ≡ false = ap (λ (h : ClearHeader). not (h.kind == 6)) m.same_header ∙ ap (λ (k : ℕ). not (k == 6)) b.kind in
     at_place (OtherBack session) m.before m.after m.bundle (subst (All (OtherBack session)) m.place kept) six (ap (λ (h : ClearHeader). h.session) m.same_header ∙ b.own)
 
+pub commits_are_started : CommitsAreStarted
+commits_are_started q o tells ws before schedule session from unforged e =
+    started_in (reached q tells before).world (every_run_is_a_source q tells before) o ws schedule unforged session from e
+
+-- two runs, the source's whole one among them
+module _ (q o : Opening) (tells ws : Option (List ℕ)) (before later more schedule : List ℕ) (t session : ℕ) (from : Image) where
+  abbrev first : State
+  first = reached q tells before
+
+  abbrev source : State
+  source = play q later first
+
+  abbrev destination : State
+  destination = reached o ws schedule
+
+  module _ (unforged : AreUnforged q o (bundles_in (play q more source)) (bundles_in destination)) (e : destination.world.hidden.given session ≡ Some from) where
+    never : (c : Call) → IsCalledBack q t session c → ⊥
+    never = never_returned q o (bundles_in (play q more source)) (bundles_in destination) t session unforged (none_given_back o ws schedule session from e)
+
+    pauses_there : PausesIn q source
+    pauses_there = in_parts PausesIn (in_runs PausesIn pauses_kept) q tells before later
+
+    sent_there : (was_paused : Bool) → IsSent was_paused first.world t session → LivesThrough q later first t → IsSent was_paused source.world t session
+    sent_there was_paused k lives = all_sent q t session never was_paused later first (in_runs PausesIn pauses_kept q tells before) k lives
+
+    -- its start token is among those of the whole run
+    whole_source : IsSource (play q more source).world
+    whole_source = subst (λ (s : State). IsSource s.world) (play_append q later more first) (in_parts (λ o s. IsSource s.world) every_run_is_a_source q tells before (later ++ more))
+
+    started_then : has_start session (bundles_in (play q more source)) ≡ true
+    started_then = started_in (play q more source).world whole_source o ws schedule unforged.forward session from e
+
+    paused_then : IsSent true source.world t session → IsPausedAs source.world t session
+    paused_then (exported r was) = record { exported = r; paused = was refl }
+    paused_then (aborted k) = absurd (let x : true ≡ false = sym started_then ∙ (all_unstarted q session more source pauses_there k).unstarted in cc)
+
 pub sources_rest : SourcesRest
-sources_rest q o tells ws before later schedule t session from unforged exporting lives e =
-    let first : State = reached q tells before in
-    let source : State = play q later first in
-    let destination : State = reached o ws schedule in
-    let src = in_parts (λ o s. IsSource s.world) every_run_is_a_source q tells before later in
-    let h = in_parts PausesIn (in_runs PausesIn pauses_kept) q tells before later in
-    let never = never_returned q o (bundles_in source) (bundles_in destination) t session unforged (none_given_back o ws schedule session from e) in
-    let sent = all_sent q t session never later first (in_runs PausesIn pauses_kept q tells before) (exported exporting) lives in
-    let r = rests_then q source t session h (started_in source.world src o ws schedule unforged.forward session from e) sent in
-    (r, rest_stops q source t session h.0.0.0.timely r)
+sources_rest q o tells ws before later more schedule t session from unforged exporting lives e started =
+    let s : State = play q later (reached q tells before) in
+    let h = pauses_there q o tells ws before later more schedule t session from unforged e in
+    let sent = sent_there q o tells ws before later more schedule t session from unforged e false (exported exporting (λ x. cc)) lives in
+    let r = rests_then q s t session false h started sent in
+    (r, rest_stops q s t session h.0.0.0.timely r)
+
+pub paused_sources_stay : PausedSourcesStay
+paused_sources_stay q o tells ws before later more schedule t session from unforged pausing lives e =
+    let s : State = play q later (reached q tells before) in
+    let h = pauses_there q o tells ws before later more schedule t session from unforged e in
+    let sent = sent_there q o tells ws before later more schedule t session from unforged e true (exported pausing.exported (λ x. pausing.paused)) lives in
+    let r = paused_then q o tells ws before later more schedule t session from unforged e sent in
+    (r, λ runs. paused_stops (s.world.tds.ops t) r.paused (runs_in q s h.0.0.0.timely t runs))
 
 -- the destination: the TD waits, or its session was committed
 data IsDue (w : World) (t session : ℕ) : Type 0 where
@@ -309,17 +377,44 @@ destinations_wait o ws before later t session importing lives none =
     let r = waits_then destination.world t session none (all_due o t session later first begun lives) in
     (r, λ runs. waiting_stops (destination.world.tds.ops t) r.waiting (runs_in o destination (in_parts IsGuarded always_guarded o ws before later).timely t runs))
 
-pub at_most_one_runs : AtMostOneRuns
-at_most_one_runs q o tells ws before later earlier rest t u session unforged exporting lives importing stood runs others =
-    by (destination.world.hidden.given session) refl
-  where
-    destination : State
-    destination = play o rest (reached o ws earlier)
+-- what was committed stays committed
+module _ (o : Opening) (session : ℕ) where
+  abbrev IsNoted : World → Type 0
+  IsNoted v = (image : Image) × (v.hidden.given session ≡ Some image)
 
-    by : (x : Option Image) → destination.world.hidden.given session ≡ x → ⊥
-    by None e = (destinations_wait o ws earlier rest u session importing stood e).1 others
+  same_noted : (w v : World) → asked v ≡ asked w → IsNoted w → IsNoted v
+  same_noted w v same n = (n.0, ap (λ (z : Asked). z.given session) same ∙ n.1)
+
+  event_noted : (s : State) (p : ℕ) → IsNoted s.world → IsNoted (event o s p).world
+  event_noted s p n =
+      let w : World = s.world in
+      event_world o s p IsNoted n
+      (λ c cs line none ps. noted_stays o p w c session n.0 n.1)
+      (λ c cs g op row i is ps. same_noted w (tell_words (row.tells w) (row.act w)) (operation_same o g.tdr g.vp (length (s.lps p).replies + 1) op row w is) n)
+      (λ c cs g op access r gpa page i is found. same_noted w (reach g.tdr g.vp access r gpa page w) (reach_same g.tdr g.vp access r gpa page w) n)
+      (λ c cs g i. same_noted w (leave_guest g.vp w) (left_same g.vp w) n)
+
+  all_noted : (ps : List ℕ) (s : State) → IsNoted s.world → IsNoted (play o ps s).world
+  all_noted [] s n = n
+  all_noted (p ∷ ps) s n = all_noted ps (event o s p) (event_noted s p n)
+
+pub at_most_one_runs : AtMostOneRuns
+at_most_one_runs q o tells ws before later more earlier after rest t u session unforged pausing lives importing stood runs others =
+    by (standing.world.hidden.given session) refl
+  where
+    begun : State
+    begun = reached o ws earlier
+
+    standing : State
+    standing = play o after begun
+
+    same : reached o ws (earlier ++ (after ++ rest)) ≡ play o rest standing
+    same = play_append o earlier (after ++ rest) (start o ws) ∙ play_append o after rest begun
+
+    by : (x : Option Image) → standing.world.hidden.given session ≡ x → ⊥
+    by None e = (destinations_wait o ws earlier after u session importing stood e).1 others
     by (Some from) e =
-        let same : reached o ws (earlier ++ rest) ≡ destination = play_append o earlier rest (start o ws) in
-        (sources_rest q o tells ws before later (earlier ++ rest) t session from
-        (subst (λ (d : State). AreUnforged q o (bundles_in (play q later (reached q tells before))) (bundles_in d)) (sym same) unforged)
-        exporting lives (ap (λ (d : State). d.world.hidden.given session) same ∙ e)).1 runs
+        let n = all_noted o session rest standing (from, e) in
+        (paused_sources_stay q o tells ws before later more (earlier ++ (after ++ rest)) t session n.0
+        (subst (λ (d : State). AreUnforged q o (bundles_in (play q more (play q later (reached q tells before)))) (bundles_in d)) (sym same) unforged)
+        pausing lives (ap (λ (d : State). d.world.hidden.given session) same ∙ n.1)).1 runs

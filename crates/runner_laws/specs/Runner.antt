@@ -17,6 +17,7 @@ use Rattle.flat_core.specs.AccessLaw.{IsGuarded}
 use Rattle.mig_laws.specs.Ivs.{is_forward, IsExporting, IsImporting}
 use Rattle.mig_laws.specs.Source.{SourceHolds}
 use Rattle.mig_laws.specs.Image.{IsMade, Unforged}
+use Rattle.mig_laws.specs.Paused.{has_start, is_paused}
 
 -- a TD runs: a guest of it is on a logical processor
 pub record Runs (s : State) (t : ℕ) : Type 0 where
@@ -38,6 +39,11 @@ pub record IsExportedAs (w : World) (t session : ℕ) : Type 0 where
 pub record IsImportedAs (w : World) (t session : ℕ) : Type 0 where
   pub importing : IsImporting w t
   pub own : w.tds.sessions t ≡ session
+
+-- a TD is exported under this session, and paused
+pub record IsPausedAs (w : World) (t session : ℕ) : Type 0 where
+  pub exported : IsExportedAs w t session
+  pub paused : is_paused (w.tds.ops t) ≡ true
 
 -- A TD whose start token was made rests. So does one whose import isn't committed, or was given up: it waits.
 pub record RestsAs (w : World) (t session : ℕ) : Type 0 where
@@ -101,14 +107,31 @@ pub record AreUnforged (source destination : Opening) (made back : List Made) : 
   pub forward : Unforged destination made
   pub returned : (slot : ℕ) (b : Incoming) (h : ClearHeader) → source.bundles slot ≡ Some b → b.header ≡ Ok h → b.«opens» ≡ true → h.kind ≡ 6 → IsMade h b.payload back
 
--- Once the destination has committed the import, the source's TD rests, and doesn't run, until it is torn down.
+-- A session that the destination has committed has its start token from the source.
+abbrev pub CommitsAreStarted : Type 0
+CommitsAreStarted = (q o : Opening) (tells words_to_tell : Option (List ℕ)) (before schedule : List ℕ) (session : ℕ) (start : Image)
+    → let source = reached q tells before in
+    let destination = reached o words_to_tell schedule in
+    Unforged o (bundles_in source) → destination.world.hidden.given session ≡ Some start → has_start session (bundles_in source) ≡ true
+
+-- Where the destination commits the import in its run, the source's TD rests from its start token on, and doesn't run, until it
+-- is torn down, however far the source's run goes on.
 abbrev pub SourcesRest : Type 0
-SourcesRest = (q o : Opening) (tells words_to_tell : Option (List ℕ)) (before after schedule : List ℕ) (t session : ℕ) (start : Image)
+SourcesRest = (q o : Opening) (tells words_to_tell : Option (List ℕ)) (before after more schedule : List ℕ) (t session : ℕ) (start : Image)
     → let first = reached q tells before in
     let source = play q after first in
     let destination = reached o words_to_tell schedule in
-    AreUnforged q o (bundles_in source) (bundles_in destination) → IsExportedAs first.world t session → LivesThrough q after first t
-    → destination.world.hidden.given session ≡ Some start → RestsAs source.world t session × (Runs source t → ⊥)
+    AreUnforged q o (bundles_in (play q more source)) (bundles_in destination) → IsExportedAs first.world t session → LivesThrough q after first t
+    → destination.world.hidden.given session ≡ Some start → has_start session (bundles_in source) ≡ true → RestsAs source.world t session × (Runs source t → ⊥)
+
+-- From EXPORT.PAUSE on it is paused, and doesn't run.
+abbrev pub PausedSourcesStay : Type 0
+PausedSourcesStay = (q o : Opening) (tells words_to_tell : Option (List ℕ)) (before after more schedule : List ℕ) (t session : ℕ) (start : Image)
+    → let first = reached q tells before in
+    let source = play q after first in
+    let destination = reached o words_to_tell schedule in
+    AreUnforged q o (bundles_in (play q more source)) (bundles_in destination) → IsPausedAs first.world t session → LivesThrough q after first t
+    → destination.world.hidden.given session ≡ Some start → IsPausedAs source.world t session × (Runs source t → ⊥)
 
 -- Until the destination has committed the import, its TD waits, and doesn't run.
 abbrev pub DestinationsWait : Type 0
@@ -117,12 +140,13 @@ DestinationsWait = (o : Opening) (words_to_tell : Option (List ℕ)) (before aft
     let destination = play o after first in
     IsImportedAs first.world u session → LivesThrough o after first u → destination.world.hidden.given session ≡ None → WaitsAs destination.world u session × (Runs destination u → ⊥)
 
--- So of the two at most one runs.
+-- So of the two at most one runs: the source's from its pause on, and the destination's, wherever the two runs stand, and
+-- whatever comes in them later.
 abbrev pub AtMostOneRuns : Type 0
-AtMostOneRuns = (q o : Opening) (tells words_to_tell : Option (List ℕ)) (before after earlier later : List ℕ) (t u session : ℕ)
+AtMostOneRuns = (q o : Opening) (tells words_to_tell : Option (List ℕ)) (before after more earlier later rest : List ℕ) (t u session : ℕ)
     → let first = reached q tells before in
     let source = play q after first in
     let begun = reached o words_to_tell earlier in
     let destination = play o later begun in
-    AreUnforged q o (bundles_in source) (bundles_in destination) → IsExportedAs first.world t session → LivesThrough q after first t → IsImportedAs begun.world u session → LivesThrough o later begun u
-    → Runs source t → Runs destination u → ⊥
+    AreUnforged q o (bundles_in (play q more source)) (bundles_in (play o rest destination)) → IsPausedAs first.world t session → LivesThrough q after first t
+    → IsImportedAs begun.world u session → LivesThrough o later begun u → Runs source t → Runs destination u → ⊥
