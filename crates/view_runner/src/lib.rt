@@ -1,0 +1,12 @@
+//! The top call of `tdx-view`, over the files and the output of `bundle_store`: what a command comes to is
+//! decided by the one file that it loads, and put.
+//!
+//! Its fault texts and statuses are those of `tdx`. A layer above may use that `view_main` does what
+//! `DoesView` says, whatever its files and its output tell.
+#![tactic(auto)]
+
+mod commands;
+mod ending;
+mod top;
+
+pub use top::{give_up, view_main};
