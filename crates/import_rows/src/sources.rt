@@ -1,4 +1,5 @@
-//! The sources of migrations, and how what they save comes to a destination.
+//! The sources of migrations, and how what they save comes to a destination. TWICE, REVERSED, BOTH and NONE
+//! serve `checks/second/arrivals` alone, whose rows the built program is tried by.
 
 use row_replay::{
     ArrivalRow, BUILT, DIRTIED, FILLED, GUEST, HANDED, OPENED, PAGES, RUNS, Row, SECOND, SENT,
@@ -100,6 +101,24 @@ pub const GIVENUP: Row<'static> = (
     "",
 );
 
+/// SOURCE once more, which goes on by the token of GIVENUP, with all that it had.
+pub const RESUMED: Row<'static> = (
+    "",
+    &[GUEST],
+    &[&[
+        TREE,
+        PAGES,
+        SENT,
+        DIRTIED,
+        HANDED,
+        "OP_STATE_INCORRECT POST_EXPORT | EXPORT.ABORT 1",
+        "SUCCESS | EXPORT.ABORT 1 40",
+        "EXIT VMCALL 33 | VP.ENTER 1 4 10",
+        "SUCCESS | EXPORT.RESTORE 1 0",
+    ]],
+    "0.37 load 0x0 44 | 0.37 load 0x1000 22 | 0.37 load 0x2000 33",
+);
+
 /// Replays rows to which the bundles of a source come, turned as each says.
 pub fn arrive<R: Threads + Sync>(
     threads: &R,
@@ -119,7 +138,17 @@ pub fn come_back<R: Threads + Sync>(
     destination: &Row<'static>,
     rows: &[ArrivalRow<'static>],
 ) -> Result<(), Fail> {
-    let sent = container_of_row(threads, alloc, source)?;
-    let container = container_of_arrival(threads, alloc, &sent, destination)?;
+    let container = sent_back(threads, alloc, source, destination)?;
     replay_arrivals(threads, alloc, &container, rows)
+}
+
+/// The container that a destination saves to which the bundles of a source come.
+pub fn sent_back<R: Threads + Sync>(
+    threads: &R,
+    alloc: Global,
+    source: &Row<'static>,
+    destination: &Row<'static>,
+) -> Result<Vec<u8>, Fail> {
+    let sent = container_of_row(threads, alloc, source)?;
+    container_of_arrival(threads, alloc, &sent, destination)
 }

@@ -1,9 +1,8 @@
 //! An import that is given up, and its token, which comes back to the source.
 
-use crate::sources::{GIVENUP, SOURCE, arrive, come_back};
+use crate::sources::{GIVENUP, RESUMED, SOURCE, arrive, come_back, sent_back};
 use row_replay::{
     ArrivalRow, DIRTIED, Edit, FILLED, GUEST, HANDED, OPENED, PAGES, SENT, STARTED, TREE, WAITS,
-    container_of_arrival, container_of_row,
 };
 use std::test::Fail;
 
@@ -82,25 +81,7 @@ const ROWS: &[ArrivalRow<'static>] = &[
 
 const ENDS: &[ArrivalRow<'static>] = &[
     // The token comes back: the TD runs on, with all that it had.
-    (
-        &[],
-        (
-            "",
-            &[GUEST],
-            &[&[
-                TREE,
-                PAGES,
-                SENT,
-                DIRTIED,
-                HANDED,
-                "OP_STATE_INCORRECT POST_EXPORT | EXPORT.ABORT 1",
-                "SUCCESS | EXPORT.ABORT 1 40",
-                "EXIT VMCALL 33 | VP.ENTER 1 4 10",
-                "SUCCESS | EXPORT.RESTORE 1 0",
-            ]],
-            "0.37 load 0x0 44 | 0.37 load 0x1000 22 | 0.37 load 0x2000 33",
-        ),
-    ),
+    (&[], RESUMED),
     // Once.
     (
         &[],
@@ -328,8 +309,7 @@ fn a_source_goes_on_by_the_token_of_its_destination(rt: HostRuntime) -> Result<(
 #[test]
 fn the_token_is_sealed_with_the_key_back(rt: HostRuntime) -> Result<(), Fail> {
     let alloc = rt.alloc();
-    let sent = container_of_row(&rt, alloc, &SOURCE)?;
-    let token = container_of_arrival(&rt, alloc, &sent, &GIVENUP)?;
+    let token = sent_back(&rt, alloc, &SOURCE, &GIVENUP)?;
     assert_eq!(rt; token.as_slice(), TOKEN_BYTES);
     Ok(())
 }

@@ -7,4 +7,6 @@
 #[cfg(test)]
 mod races;
 #[cfg(test)]
+mod removals;
+#[cfg(test)]
 mod tree_races;

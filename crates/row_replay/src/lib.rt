@@ -5,17 +5,20 @@
 //! A processor's calls stand in lists, each an answer and, behind bars, the calls that have it; a
 //! semicolon stands between two lists of one text. So do a VCPU's operations, behind its TDR page and
 //! index, and the lines of the guest file. Before a row there may be the words of its secrets file, or
-//! what is done to bundles of another row before they come in.
+//! what is done to bundles of another row before they come in; and behind it, which calls of its files and
+//! of its output fail, and what comes of that.
 #![tactic(auto)]
 
 mod arrivals;
 mod calls;
+mod faults;
 mod parts;
 mod rows;
 mod scripts;
 
 pub use arrivals::{ArrivalRow, Edit, Forged, container_of_arrival, replay_arrivals};
 pub use calls::{replay_each, replay_races, replays};
+pub use faults::{Fault, Told, replay_faults};
 pub use parts::{
     BEGUN, BUILT, DIRTIED, EMPTY, ENDED, FILLED, GUEST, HANDED, INITIALIZED, KEYS, OPENED, OTHER,
     PAGE, PAGES, RUNS, SECOND, SENT, STARTED, STREAM, TREE, WAITS,

@@ -36,6 +36,33 @@ fn guest_file(alloc: Global, lines: &str) -> Result<String, Fail> {
     Ok(text)
 }
 
+/// What a row says as text: its script, its replies, and its guest file.
+#[derive(Drop)]
+pub struct Texts {
+    pub script: String,
+    pub replies: String,
+    pub guest: String,
+}
+
+/// The texts of a row.
+pub fn texts_of(alloc: Global, row: &Row<'static>) -> Result<Texts, Fail> {
+    let (schedule, lists, processors, guest) = row;
+    let lps = processors.len();
+    let mut script = format!(in alloc; "machine {lps} 32 2\n")?;
+    let mut replies = String::new(alloc);
+    for list in lists.iter() {
+        add_code(&mut script, list)?;
+    }
+    add_processors(alloc, &mut script, &mut replies, processors)?;
+    add_schedule(alloc, &mut script, schedule)?;
+    let guest = guest_file(alloc, guest)?;
+    Ok(Texts {
+        script,
+        replies,
+        guest,
+    })
+}
+
 /// Replays a row with the files that are given, and compares the replies and the guest file. The answer
 /// has the files that are there then.
 pub fn replay<R: Threads + Sync>(
@@ -44,24 +71,10 @@ pub fn replay<R: Threads + Sync>(
     beside: Beside<'_>,
     row: &Row<'static>,
 ) -> Result<MemFiles, Fail> {
-    let (schedule, lists, processors, guest) = row;
-    let lps = processors.len();
-    let mut script = format!(in alloc; "machine {lps} 32 2\n")?;
-    let mut want = String::new(alloc);
-    for list in lists.iter() {
-        add_code(&mut script, list)?;
-    }
-    add_processors(alloc, &mut script, &mut want, processors)?;
-    add_schedule(alloc, &mut script, schedule)?;
-    let files = replay_script(threads, alloc, beside, &script, &want)?;
+    let texts = texts_of(alloc, row)?;
+    let files = replay_script(threads, alloc, beside, &texts.script, &texts.replies)?;
     let saved = held(&files, "g").ok_or("no guest file")?;
-    compare(
-        alloc,
-        "guest file",
-        saved,
-        &guest_file(alloc, guest)?,
-        &script,
-    )?;
+    compare(alloc, "guest file", saved, &texts.guest, &texts.script)?;
     Ok(files)
 }
 

@@ -107,19 +107,37 @@ pub const ALONE: Beside<'static> = Beside {
     bundles: None,
 };
 
-// The script s, the key file m, the secrets file k and the container c where there are these, and no
+/// The calls of the outside that fail, by their numbers from 0: loads and saves, which are counted
+/// together, and puts.
+#[derive(Clone, Copy)]
+pub struct Failing<'a> {
+    pub files: &'a [u64],
+    pub puts: &'a [u64],
+}
+
+const NO_CALL: Failing<'static> = Failing {
+    files: &[],
+    puts: &[],
+};
+
+// The script s, the key file k, the secrets file z and the container c where there are these, and no
 // other file.
-fn files_of(alloc: Global, text: &str, beside: Beside<'_>) -> Result<MemFiles, Fail> {
+fn files_of(
+    alloc: Global,
+    text: &str,
+    beside: Beside<'_>,
+    failing: &[u64],
+) -> Result<MemFiles, Fail> {
     let mut files = Vec::new(alloc);
     files.push(file(alloc, "s", text.as_bytes().to_vec(alloc)?)?)?;
-    files.push(file(alloc, "m", key_file(alloc)?)?)?;
+    files.push(file(alloc, "k", key_file(alloc)?)?)?;
     if let Some(words) = beside.secrets {
-        files.push(file(alloc, "k", secrets_file(alloc, words)?)?)?;
+        files.push(file(alloc, "z", secrets_file(alloc, words)?)?)?;
     }
     if let Some(bytes) = beside.bundles {
         files.push(file(alloc, "c", bytes.to_vec(alloc)?)?)?;
     }
-    Ok(MemFiles::new(alloc, files, Vec::new(alloc)))
+    Ok(MemFiles::new(alloc, files, failing.to_vec(alloc)?))
 }
 
 // Adds the words of a line.
@@ -130,17 +148,17 @@ fn add_words(alloc: Global, words: &mut Vec<String>, line: &str) -> Result<(), F
     Ok(())
 }
 
-// The words that replay s under the keys m, with the files that are given, and save the container b and
+// The words that replay s under the keys k, with the files that are given, and save the container b and
 // the guest file g.
 fn words_of(alloc: Global, beside: Beside<'_>) -> Result<Vec<String>, Fail> {
     let mut words = Vec::new(alloc);
     add_words(
         alloc,
         &mut words,
-        "replay s --keys m --out-bundles b --guest-out g",
+        "replay s --keys k --out-bundles b --guest-out g",
     )?;
     if beside.secrets.is_some() {
-        add_words(alloc, &mut words, "--secrets k")?;
+        add_words(alloc, &mut words, "--secrets z")?;
     }
     if beside.bundles.is_some() {
         add_words(alloc, &mut words, "--bundles c")?;
@@ -173,6 +191,45 @@ pub fn compare(
     Err(Fail::new(format!(in alloc; "{what}: {told} in place of {wanted} of {script}")?))
 }
 
+/// What a script ends with: its status, its output, and the files that are there then.
+#[derive(Drop)]
+pub struct Ending {
+    pub status: u8,
+    pub out: MemSink,
+    pub files: MemFiles,
+}
+
+/// What a script ends with, replayed with the files that are given where those calls fail.
+pub fn ending_of<R: Threads + Sync>(
+    threads: &R,
+    alloc: Global,
+    beside: Beside<'_>,
+    failing: Failing<'_>,
+    script: &str,
+) -> Result<Ending, Fail> {
+    let words = words_of(alloc, beside)?;
+    let mut files = files_of(alloc, script, beside, failing.files)?;
+    let mut out = MemSink::new(alloc, failing.puts.to_vec(alloc)?);
+    let status = tdx_main(threads, alloc, &words, &mut files, &mut out, &NoGate);
+    Ok(Ending { status, out, files })
+}
+
+/// Whether a script's text and its status are those that are wanted.
+pub fn compare_ending(
+    alloc: Global,
+    ending: &Ending,
+    want: &str,
+    status: u8,
+    script: &str,
+) -> Result<(), Fail> {
+    compare(alloc, "text", &ending.out.bytes, want, script)?;
+    if ending.status != status {
+        let got = ending.status;
+        return Err(Fail::new(format!(in alloc; "status {got} of {script}")?));
+    }
+    Ok(())
+}
+
 /// Replays a script with the files that are given, and compares its text and its status. The answer has
 /// the files that are there then: the container b and the guest file g besides.
 pub fn replay_script<R: Threads + Sync>(
@@ -182,13 +239,7 @@ pub fn replay_script<R: Threads + Sync>(
     script: &str,
     want: &str,
 ) -> Result<MemFiles, Fail> {
-    let words = words_of(alloc, beside)?;
-    let mut files = files_of(alloc, script, beside)?;
-    let mut out = MemSink::new(alloc, Vec::new(alloc));
-    let status = tdx_main(threads, alloc, &words, &mut files, &mut out, &NoGate);
-    compare(alloc, "text", &out.bytes, want, script)?;
-    if status != 0 {
-        return Err(Fail::new(format!(in alloc; "status {status} of {script}")?));
-    }
-    Ok(files)
+    let ending = ending_of(threads, alloc, beside, NO_CALL, script)?;
+    compare_ending(alloc, &ending, want, 0, script)?;
+    Ok(ending.files)
 }
