@@ -2,14 +2,17 @@
 // Requests of a kind are numbered from 1. The variable OUTSIDE says what happens:
 //   count          nothing, but the number of requests for memory is told on standard error
 //   memory N       request N for memory is refused
-//   memories N     this one, and all after it
+//   memories N     this one, and all after it. With a 1 behind N the number of requests is told here too
+//   threads N      thread N, and all after it, can't be made
 //   open N E       opening N of a file fails with error E; so do read and write. Where E is 0 a read
 //                  finds the end of the file, and a write writes nothing
 //   cut N          the file is cut off where read N begins
 //   pieces         a read or a write moves 7 bytes at most, and each second one is interrupted
 #define _GNU_SOURCE
+#include <dlfcn.h>
 #include <errno.h>
 #include <fcntl.h>
+#include <pthread.h>
 #include <stdarg.h>
 #include <stdio.h>
 #include <stdlib.h>
@@ -20,7 +23,7 @@
 extern void *__libc_malloc(size_t size), *__libc_realloc(void *old, size_t size);
 
 static char what[16];
-static long at, error, requests, opens, reads, writes;
+static long at, error, requests, threads, opens, reads, writes;
 
 static int is(const char *name) { return strcmp(what, name) == 0; }
 
@@ -28,11 +31,11 @@ __attribute__((constructor)) static void begin(void) {
   const char *said = getenv("OUTSIDE");
   if (said) sscanf(said, "%15s %ld %ld", what, &at, &error);
   if (is("pieces")) error = EINTR;
-  requests = opens = reads = writes = 0;
+  requests = threads = opens = reads = writes = 0;
 }
 
 __attribute__((destructor)) static void end(void) {
-  if (is("count")) dprintf(2, "%ld\n", requests);
+  if (is("count") || ((is("memory") || is("memories")) && error)) dprintf(2, "%ld\n", requests);
 }
 
 // A program with threads ends by this call, and no destructor runs.
@@ -41,9 +44,10 @@ void _exit(int status) {
   for (;;) syscall(SYS_exit_group, status);
 }
 
+// Several threads may ask at once, so each has a number of its own.
 static int refused(void) {
-  requests++;
-  if (!(is("memory") && requests == at) && !(is("memories") && requests >= at)) return 0;
+  long number = __atomic_add_fetch(&requests, 1, __ATOMIC_RELAXED);
+  if (!(is("memory") && number == at) && !(is("memories") && number >= at)) return 0;
   errno = ENOMEM;
   return 1;
 }
@@ -51,6 +55,14 @@ static int refused(void) {
 void *malloc(size_t size) { return refused() ? NULL : __libc_malloc(size); }
 
 void *realloc(void *old, size_t size) { return refused() ? NULL : __libc_realloc(old, size); }
+
+typedef void *work(void *);
+typedef int make_thread(pthread_t *, const pthread_attr_t *, work *, void *);
+
+int pthread_create(pthread_t *thread, const pthread_attr_t *how, work *does, void *given) {
+  if (__atomic_add_fetch(&threads, 1, __ATOMIC_RELAXED) >= at && is("threads")) return EAGAIN;
+  return ((make_thread *)dlsym(RTLD_NEXT, "pthread_create"))(thread, how, does, given);
+}
 
 // Whether this call, the nth of its name, fails.
 static int fails(const char *name, long n) {

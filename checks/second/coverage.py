@@ -1,8 +1,9 @@
 """What a run of many scripts is to reach: every refusal of every call, every exit, all that
 can come of each guest operation, what becomes of cached translations, beside which guests memory is taken, how
-many guests are in at once, every fault of a bundle that comes in, every reason of a script's fault, and every status
-of the program that its words and its script decide."""
+many guests are in at once, every fault of a bundle that comes in, every reason of a script's fault, every status
+of the program that its words and its script decide, and the ways of writing a command line."""
 
+import command_lines
 from scripts import BY_TOKEN, CALLS, REASONS
 
 TD = "PAGE_METADATA_INCORRECT 1"
@@ -258,7 +259,7 @@ def wanted():
     for outcomes in (OPERATIONS, BLOCKING, BESIDE_GUESTS, EXPORTING, IMPORTING):
         names.update(f"{name}: {came}" for name, all_came in outcomes.items() for came in all_came)
     names.update(f"reason {reason}" for reason in REASONS)
-    return names | {f"status {status}" for status in (*range(4), 6, "7 key file", "7 secrets file")}
+    return names | command_lines.wanted() | {f"status {status}" for status in (*range(4), 6, "7 key file", "7 secrets file")}
 
 
 def name_of(name, arguments):
@@ -285,9 +286,10 @@ def of_reply(name, arguments, reply, locks):
     return f"{call}: {reply}"
 
 
-def of_answer(status, text, processors):
-    """All that a command line has reached: its status, its fault's reason, each call's reply, and what came
-    of guests and beside them."""
+def of_answer(words, status, text, processors):
+    """All that a command line has reached: how it is written, its status, its fault's reason, each call's reply,
+    and what came of guests and beside them."""
+    yield from command_lines.reached(words, status)
     yield f"status {status} {text.strip()}" if status == 7 else f"status {status}"
     if status == 2:
         yield f"reason {text.split()[-1]}"

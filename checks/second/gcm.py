@@ -65,24 +65,19 @@ def round_keys(key):
 
 def encrypted(key, block):
     """A block as AES encrypts it."""
-    words = round_keys(key)
-    state = [word ^ its for word, its in zip(struct.unpack(">4I", block), words)]
+    words, (first, second, third, fourth) = round_keys(key), COLUMNS
+    a, b, c, d = (word ^ its for word, its in zip(struct.unpack(">4I", block), words))
     for at in range(4, 4 * ROUNDS, 4):
-        state = [
-            COLUMNS[0][state[place] >> 24]
-            ^ COLUMNS[1][state[place - 3] >> 16 & 0xFF]
-            ^ COLUMNS[2][state[place - 2] >> 8 & 0xFF]
-            ^ COLUMNS[3][state[place - 1] & 0xFF]
-            ^ words[at + place]
-            for place in range(4)
-        ]
-    last = [
-        BOX[state[place] >> 24] << 24
-        | BOX[state[place - 3] >> 16 & 0xFF] << 16
-        | BOX[state[place - 2] >> 8 & 0xFF] << 8
-        | BOX[state[place - 1] & 0xFF]
-        for place in range(4)
-    ]
+        a, b, c, d = (
+            first[a >> 24] ^ second[b >> 16 & 0xFF] ^ third[c >> 8 & 0xFF] ^ fourth[d & 0xFF] ^ words[at],
+            first[b >> 24] ^ second[c >> 16 & 0xFF] ^ third[d >> 8 & 0xFF] ^ fourth[a & 0xFF] ^ words[at + 1],
+            first[c >> 24] ^ second[d >> 16 & 0xFF] ^ third[a >> 8 & 0xFF] ^ fourth[b & 0xFF] ^ words[at + 2],
+            first[d >> 24] ^ second[a >> 16 & 0xFF] ^ third[b >> 8 & 0xFF] ^ fourth[c & 0xFF] ^ words[at + 3],
+        )
+    last = (
+        BOX[one >> 24] << 24 | BOX[two >> 16 & 0xFF] << 16 | BOX[three >> 8 & 0xFF] << 8 | BOX[four & 0xFF]
+        for one, two, three, four in ((a, b, c, d), (b, c, d, a), (c, d, a, b), (d, a, b, c))
+    )
     return struct.pack(">4I", *(word ^ its for word, its in zip(last, words[4 * ROUNDS :])))
 
 
@@ -129,10 +124,15 @@ def xor(first, second):
     return bytes(one ^ other for one, other in zip(first, second))
 
 
+@functools.lru_cache(256)
+def key_stream(key, iv, count):
+    """So many blocks of the counter."""
+    return b"".join(encrypted(key, iv + struct.pack(">I", place)) for place in range(2, count + 2))
+
+
 def counted(key, iv, text):
     """A text under the blocks of the counter, which seals it, and opens it again."""
-    count = -(-len(text) // 16)
-    return xor(text, b"".join(encrypted(key, iv + struct.pack(">I", place)) for place in range(2, count + 2)))
+    return xor(text, key_stream(key, iv, -(-len(text) // 16)))
 
 
 def seal(key, iv, text, beside):

@@ -18,6 +18,7 @@ import random
 import struct
 
 import bundles
+import command_lines
 import hostile
 from bundles import ABORT_TOKEN, EPOCH_TOKEN, IMMUTABLE, MEMORY, START_TOKEN, TD_STATE, VCPU_STATE, Header
 from machine import Outside, run
@@ -1331,6 +1332,8 @@ def long_script(chance, turn):
 COMMANDS = (
     "", "replay", "replay none", "replay -x", "replay --", "replay - script", "replay none/none",
     "replay script script", "run script", "replay .", "replay script --keys=x", "check script", "soak 2",
+    "replay -- script", "replay script --", "replay --guest-out=guest -- script", "replay script --guest-out -- guest",
+    "check - script", "check -- script", "check -", "soak 0", "soak 513", "soak 02", "soak +2", "soak -2", "soak -- 2",
     "replay script/none", "soak", "script", "Replay script", "--help", "none script", "check", "check none",
     "check -x", "check script script", "check script --guest-out guest", "check .", "replay --guest-out script",
     "replay --guest-out guest script", "replay script --guest-out guest --guest-out guest",
@@ -1362,7 +1365,9 @@ OTHERS = {
     "far": bytes(65_537),
     "cut": b"TDXBNDL1" + bytes(3),
     "bad": b"machine 1 8 1\nlp 0\n",
+    **dict.fromkeys(command_lines.DASHED, b"machine 1 8 1\nlp 0\nPHYMEM.CACHE.WB\nend\n"),
 }
+LINES = 12  # random ones beside three of COMMANDS
 # Lengths that a secrets file may not have, and those that a key file may not have.
 BAD_LENGTHS = (0, 1, 8, 64, 512, 4088, 4095, 4097, 4104, 8192, 65_536, 65_537)
 BAD_KEYS = (0, 1, 32, 63, 65, 128, 4096, 65_537)
@@ -1414,13 +1419,27 @@ def case(seed, place):
     chance = random.Random(f"{seed} {place}")
     round_, kind = divmod(place, KINDS_OF_A_ROUND)
     if kind == 0:
-        lines = [COMMANDS[(3 * round_ + place) % len(COMMANDS)].split() for place in range(3)]
-        return lines, {"script": text_of(["machine 1 8 1"]), **OTHERS}
+        given = [COMMANDS[(3 * round_ + place) % len(COMMANDS)].split() for place in range(3)]
+        files = {"script": text_of(["machine 1 8 1"]), **OTHERS}
+        return given + [command_lines.line(chance, files) for _ in range(LINES)], files
     script, scene = script_of(chance, round_, kind)
     words, files = with_keys(chance, scene, kind in RACES, *with_secrets(chance, ["replay", "script"], script))
     if scene is not None:
         words, files = [*words, "--bundles", "bundles"], {**files, "bundles": bundles.container_of(scene.inputs)}
     return [words], files
+
+
+def migration(seed, place):
+    """The migration at that place: a script of its destination, or of its source to which a token comes back, and beside it
+    the script of its source as far as its bundles."""
+    chance = random.Random(f"migration {seed} {place}")
+    round_, kind = divmod(place, len(MIGRATIONS))
+    script, scene = script_of(chance, round_, MIGRATIONS[kind])
+    words, files = with_keys(chance, scene, True, *with_secrets(chance, ["replay", "script"], script))
+    its = scene.source
+    lines = [f"machine 1 {its.scene.size} {its.scene.hkids}", "lp 0", *its.calls, "end", *joined(its.scene.code)]
+    files |= {"source": text_of(lines), "bundles": bundles.container_of(scene.inputs)}
+    return [[*words, "--bundles", "bundles"]], files
 
 
 def script_of(chance, round_, kind):
@@ -1440,4 +1459,4 @@ MAKES = {
     8: (story, 3), 11: (race, 8), 19: (crowd, 4), 23: (meeting, 4), 27: (noise, 1), 28: (session, 2), 30: (arrival, 3),
     33: (import_states, 2), 35: (gives_back, 1), 36: (arrived, 1),
 }
-KINDS_OF_A_ROUND, RACES = 37, range(11, 19)
+KINDS_OF_A_ROUND, RACES, MIGRATIONS = 37, range(11, 19), range(30, 37)

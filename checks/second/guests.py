@@ -73,6 +73,7 @@ class Guest:
         reason = yield from self.operations(most)
         self.processor.reply(f"EXIT {reason}")
         self.td.in_guest[parity] -= 1
+        self.processor.saw("count")
         yield
         while True:
             self.processor.release()
@@ -104,6 +105,7 @@ class Guest:
     def complete(self):
         """The operation is completed."""
         self.vcpu.position += 1
+        self.processor.saw("act")
 
     def note(self, line):
         """Puts a line of this entry into the guest file."""
@@ -114,7 +116,7 @@ class Guest:
         granted = self.processor.take(lock, weight)
         yield
         if not granted and weight == SHARED:
-            self.machine.locks[lock] -= SHARED
+            self.processor.take_back(lock)
             yield
         return granted
 
@@ -187,6 +189,7 @@ class Guest:
         elif self.how.startswith("by a walk") and writes and not self.allows_writing(gpa):
             self.how = "by a walk with a block for writing behind it"
         self.move(register, gpa, translation[2], self.vcpu.registers[register] if writes else None)
+        self.processor.saw("access")
         yield
         return None
 
@@ -224,10 +227,12 @@ class Guest:
             reached = state == "NL_MAPPED"
             if not reached:
                 self.how = f"at level {level} {state}"
+            self.processor.saw("walk")
             yield
             if not reached:
                 return None
         state = entry_state(self.td, gpa, 0)
+        self.processor.saw("walk")
         if state not in (WRITABLE if writes else READABLE):
             self.how = f"at {state}"
             yield
@@ -248,6 +253,7 @@ class Guest:
         page = (gpa - GPA_END) // PAGE_BYTES
         if page >= len(self.machine.pages) or page == self.vcpu_page:
             self.how = "at its own TDVPR page" if page == self.vcpu_page else "at no page"
+            self.processor.saw("act")
             yield
             return violation
         if not (yield from self.attempt(("P", page), SHARED)):
@@ -257,6 +263,7 @@ class Guest:
             self.move(register, gpa, page, self.machine.tell(self.vcpu.registers[register]) if writes else None)
         else:
             self.how = "at a page of a TD"
+            self.processor.saw("act")
         yield
         yield from self.release()
         return None if allowed else violation
@@ -270,6 +277,7 @@ class Guest:
         entry = None if gap else self.td.entries.get(entry_key(gpa, 0))
         if entry is None:
             self.how = gap or "at FREE"
+            self.processor.saw("act")
             yield
             yield from self.release()
             return violation
@@ -281,6 +289,7 @@ class Guest:
             entry.state = "MAPPED"
             self.machine.pages[entry.page].words = {}
         allowed = entry.state in READABLE
+        self.processor.saw("act")
         if allowed:
             self.complete()
         yield

@@ -151,6 +151,7 @@ class Processor:
         self.machine, self.number, self.calls, self.row = machine, number, calls, row
         self.replies = []  # of each call the reply, and how many locks the call had
         self.translations = []  # cached ones, oldest first
+        self.seen = None  # the last event: what it was, of which lock, and by which weight
         self.guest_lines = []
         self.made = 0
         self.begin()
@@ -172,7 +173,7 @@ class Processor:
         elif not self.replied:
             self.go_on()
         elif self.undo is not None:
-            self.machine.locks[self.undo] -= SHARED
+            self.take_back(self.undo)
             self.undo = None
         else:
             self.release()
@@ -189,9 +190,11 @@ class Processor:
                 next(tries)
             self.attempt(*next(tries))
         except Refused as refusal:
+            self.saw("act")
             self.reply(str(refusal))
         except StopIteration as end:
             value = end.value()
+            self.saw("act")
             if isinstance(value, Iterator):
                 self.guest = value
             else:
@@ -209,12 +212,23 @@ class Processor:
         granted = self.machine.try_shared(lock) if weight == SHARED else self.machine.try_exclusive(lock)
         if granted:
             self.held.append((lock, weight))
+        self.saw("try" if granted else "denied", lock, weight)
         return granted
+
+    def take_back(self, lock):
+        """The undo of a denied shared try."""
+        self.machine.locks[lock] -= SHARED
+        self.saw("undo", lock, SHARED)
 
     def release(self):
         """Releases the lock that was taken last."""
         lock, weight = self.held.pop()
         self.machine.locks[lock] -= weight
+        self.saw("release", lock, weight)
+
+    def saw(self, what, lock=None, weight=None):
+        """The event that is being made is this one."""
+        self.seen = what, lock, weight
 
     def reply(self, text):
         """The call has its reply, and releases its locks from now on."""

@@ -1,8 +1,9 @@
-"""The program's command line, statuses and texts of docs/profile.md: `replay`, `run` and `check` as they are built,
-and all four commands as they are to be."""
+"""The program's command line, statuses and texts of docs/profile.md: its four commands, as they are built and with
+what is to come."""
 
 import re
 import struct
+from functools import partial
 
 from bundles import BadContainer, bundles_of, container_of
 from calls import row
@@ -16,9 +17,8 @@ USAGE = (
 )
 INPUTS = ("--bundles", "--keys", "--secrets")
 OPTIONS = (*INPUTS, "--out-bundles", "--guest-out")
-# What the finished program has and this one hasn't.
-MISSING_COMMANDS = ("soak",)
 SECRETS = "<512Q"
+MOST_SOAKED = 512
 
 
 class Ended(Exception):
@@ -55,22 +55,33 @@ def run_threads(script, outside=None):
     return processors
 
 
-def answer(words, load):
-    """The status and the text of the command line with these words, as it is built, the files that it saves,
-    and the processors of the run where there was one. A file's bytes come from `load`, or None where it
-    can't be read."""
+def answer(words, load, late_pages=False):
+    """The status and the text of the command line with these words, the files that it saves, and the
+    processors of the run where there was one. A file's bytes come from `load`, or None where it can't be read.
+    With late pages it is the finished program's."""
     try:
-        need_usage(words and words[0] in COMMANDS and words[0] not in MISSING_COMMANDS)
-        if words[0] == "check":
-            return 0, *check(words[1:], load), []
-        need_usage(all(word in OPTIONS for word in words if word.startswith("-")))
-        return 0, *run_of(RUNS[words[0]], words[1:], load)
+        command, word, options = asked(words)
+        return 0, *COMMANDS[command](word, options, load, late_pages)
     except Ended as ended:
         return *ended.args, {}, []
     except Fault as fault:
         return 2, f"{fault}\n", {}, []
     except BadContainer as bad:
         return 6, f"bundle file byte {bad}\n", {}, []
+
+
+def file_at(name):
+    """The bytes of a file, or None where it can't be read."""
+    try:
+        with open(name, "rb") as file:
+            return file.read()
+    except (OSError, ValueError):
+        return None
+
+
+def whole_answer(words, load):
+    """The status and the text of the finished program for these words, and the files that it saves."""
+    return answer(words, load, True)[:3]
 
 
 def need_usage(holds):
@@ -105,6 +116,16 @@ def options_of(words):
     return rest, options
 
 
+def asked(words):
+    """The command that words ask for, the one word that it has, and its options with their values."""
+    need_usage(words and words[0] in COMMANDS)
+    rest, options = options_of(words[1:])
+    need_usage(len(rest) == 1 and (words[0] in RUNS or not options))
+    if words[0] == "soak":
+        need_usage(re.fullmatch("[1-9][0-9]{0,2}", rest[0]) and int(rest[0]) <= MOST_SOAKED)
+    return words[0], rest[0], options
+
+
 def outside_of(script, files, late_pages=False):
     """What a run is given by these input files, by option."""
     if len(files.get("--keys", bytes(0 if script.seals else 64))) != 64:
@@ -116,11 +137,9 @@ def outside_of(script, files, late_pages=False):
     return Outside(script.code, files["--bundles"], keys, secrets, late_pages=late_pages)
 
 
-def run_of(runs, words, load, late_pages=False):
+def run_of(runs, name, options, load, late_pages):
     """The text of `replay` or `run`, by what runs the script, the files that it saves, and its processors."""
-    rest, options = options_of(words)
-    need_usage(len(rest) == 1)
-    script = read(loaded(rest[0], load))
+    script = read(loaded(name, load))
     files = {name: loaded(options[name], load) for name in INPUTS if name in options}
     files["--bundles"] = bundles_of(files["--bundles"]) if "--bundles" in files else {}
     processors = runs(script, outside_of(script, files, late_pages))
@@ -132,44 +151,17 @@ def run_of(runs, words, load, late_pages=False):
     return reply_lines(processors), saved, processors
 
 
-RUNS = {"replay": replay, "run": run_threads}
-
-
-def replay_all(words, load):
-    """The text of `replay` with all calls and options, and the files that it saves."""
-    return run_of(replay, words, load, True)[:2]
-
-
-def run_all(words, load):
-    """The text of `run` with all calls and options in one order of its threads, and the files that it saves."""
-    return run_of(run_threads, words, load, True)[:2]
-
-
-def check(words, load):
-    """The text of `check`, which saves no file."""
-    need_usage(len(words) == 1 and not words[0].startswith("-"))
-    script = read(loaded(words[0], load))
+def check(name, _options, load, _late_pages):
+    """The text of `check`, which saves no file and runs nothing."""
+    script = read(loaded(name, load))
     counts = [sum(map(len, blocks.values())) for blocks in (script.calls, script.code)]
-    return f"ok {script.machine[0]} {counts[0]} {counts[1]} {len(script.schedule)}\n", {}
+    return f"ok {script.machine[0]} {counts[0]} {counts[1]} {len(script.schedule)}\n", {}, []
 
 
-def soak(words, _load):
-    """The text of `soak`."""
-    need_usage(len(words) == 1 and re.fullmatch("[1-9][0-9]{0,2}", words[0]) and int(words[0]) <= 512)
-    return soak_line(int(words[0]), read, replay), {}
+def soak(number, _options, _load, _late_pages):
+    """The text of `soak`, which reads and saves no file."""
+    return soak_line(int(number), read, replay), {}, []
 
 
-COMMANDS = {"replay": replay_all, "run": run_all, "check": check, "soak": soak}
-
-
-def whole_answer(words, load):
-    """The status and the text of the finished program for these words, and the files that it saves."""
-    try:
-        need_usage(words and words[0] in COMMANDS)
-        return 0, *COMMANDS[words[0]](words[1:], load)
-    except Ended as ended:
-        return *ended.args, {}
-    except Fault as fault:
-        return 2, f"{fault}\n", {}
-    except BadContainer as bad:
-        return 6, f"bundle file byte {bad}\n", {}
+RUNS = {"replay": partial(run_of, replay), "run": partial(run_of, run_threads)}
+COMMANDS = {**RUNS, "check": check, "soak": soak}
