@@ -61,6 +61,13 @@ impl<L: Leaf> Run<L> {
         self.stage
     }
 
+    /// The locks that it holds, the oldest first.
+    pub fn held(&self) -> &[HeldLock]
+        ensures { result.now ≡ self.now.held.items }
+    {
+        self.held.as_slice()
+    }
+
     /// Whether the newest lock that it holds is an E.
     pub fn gives_epoch_back(&self) -> bool
         ensures { result ≡ gives_epoch_back self.now.held.items }
