@@ -1,5 +1,6 @@
 """The grammar of scripts in docs/profile.md: what a script says, or its first bad line with the reason."""
 
+import functools
 import re
 
 from calls import ARGUMENTS
@@ -14,6 +15,8 @@ ITEMS = 1 << 20
 OUTSIDE = ("schedule", "lp", "code")
 # EXPORT.ABORT with a slot, which is a call of its own: the words of that mnemonic.
 BY_TOKEN = "EXPORT.ABORT by its token"
+PRINTABLE = re.compile(rb"[ -~]*")
+DECIMAL, HEXADECIMAL = re.compile("[0-9]+"), re.compile("0x[0-9a-fA-F]+")
 # Each call with its arguments. Of EXPORT.ABORT that is the form without a slot.
 CALLS = ARGUMENTS | {"EXPORT.ABORT": ("page",), BY_TOKEN: ("page", "input")}
 # Guest operations, with the values that each operand may have.
@@ -60,9 +63,9 @@ def need(holds, reason):
 
 def number(word):
     """The number that a word is, or None."""
-    if re.fullmatch("[0-9]+", word):
+    if DECIMAL.fullmatch(word):
         digits, base = word, 10
-    elif re.fullmatch("0x[0-9a-fA-F]+", word):
+    elif HEXADECIMAL.fullmatch(word):
         digits, base = word[2:], 16
     else:
         return None
@@ -182,15 +185,16 @@ def call_of(line):
     return BY_TOKEN if name == "EXPORT.ABORT" and len(words) == 2 else name
 
 
+@functools.lru_cache(4)
 def read(text):
-    """The script that these bytes are; raises its Fault."""
+    """The script that these bytes are, which nobody changes; raises its Fault."""
     if len(text) > SCRIPT_END:
         raise Fault(0, "LENGTH")
     *lines, cut = text.split(b"\n")
     script = Script()
     for place, line in enumerate(lines, 1):
         try:
-            need(all(0x20 <= byte <= 0x7E for byte in line), "BYTE")
+            need(PRINTABLE.fullmatch(line), "BYTE")
             words = line.decode().split()
             if words and not words[0].startswith("#"):
                 script.line(words)
