@@ -2,8 +2,10 @@
 use Rattle.std.proofs.Common.{◌≡◌, ◌⊎◌, ℕ, zero, suc, Bool, true, false, ◌-◌, ◌<◌, ◌≤◌, List, [], ◌∷◌, ◌++◌, map, length, drop, Option, Some, None, refl, ap, sym, ◌∙◌, subst, inl, inr, arith}
 use Rattle.std.proofs.lemmas.Bool.{cases_lt}
 use Rattle.td_words.specs.declared.calls.Call.{Call}
-use Rattle.td_words.specs.Place.{address}
+use Rattle.td_words.specs.Place.{WordPlace, address}
 use Rattle.mrtd_measure.specs.declared.measures.Measure.{Measure}
+use Rattle.flat_core.specs.World.{World}
+use Rattle.flat_core.specs.Processor.{Lp}
 use Rattle.flat_core.specs.Opening.{Opening}
 use Rattle.flat_core.specs.Event.{State, start, event, next_event, after_event, event_for, lines_left, calls_of}
 use Rattle.flat_core.specs.Run.{play, run, to_the_end}
@@ -21,12 +23,14 @@ use Rattle.leaf_engine.specs.Calls.{no_memory}
 use Rattle.leaf_engine.specs.OwnLists.{Piece, Unmarked, joined, marked_behind, running, LeafTable, WordLp, first_lp, step_leaf, EnteredTurn, LineTurn, LinesTurn, OwnTurns}
 use Rattle.leaf_engine.specs.Merges.{Item, part, steps_taken, order, no_table, AreLeaves, AreCodes}
 use Rattle.leaf_engine.specs.Guests.{WordGuest, gives_epoch_back}
+use Rattle.leaf_engine.specs.Standing.{RunStands, LpStands}
+use Rattle.leaf_engine.specs.Following.{run_in, run_at, hasher_of, hasher_at, StandsOn}
 use Rattle.merge_laws.specs.Merge.{Merge}
 use Rattle.merge_laws.specs.Laws.{nothing_made, IsShownBy, IsWhere, MergesAreRuns}
 use Rattle.merge_laws.proofs.Stores.{Due, over-none, laid-none}
 use Rattle.merge_laws.proofs.Swaps.{SwapDue, last_put}
 use Rattle.merge_laws.proofs.Owing.{Owed, Stores, Swaps, stores_in, swaps_in, FirstSwaps, FirstMisses, AreOwed}
-use Rattle.merge_laws.proofs.Standing.{Trees, table_for, Trees, Laws, leaf_for, AreTrees, Known, on_table, Fill, Position, Rest, RestBy, RestOf, Stands}
+use Rattle.merge_laws.proofs.Standing.{Trees, table_for, Trees, Laws, leaf_for, AreTrees, Known, on_table, HandKnown, guest_run, HasInHand, RunAt, StandsAt, Fill, Position, Rest, RestBy, RestOf, Stands}
 use Rattle.merge_laws.proofs.Merged.{known-of, Through, through}
 
 -- leaves by their trees
@@ -80,7 +84,14 @@ starts ls o trees = record {
 
 -- the end
 
-nothing-left : (ls : Laws) (o : Opening) (trees : Trees) (p : ℕ) (pos : Position) (end_ : WordLp) → RestOf o trees p pos [] end_ → (pos.owes ≡ []) × (pos.swaps ≡ []) × (pos.at ≡ end_)
+-- what hasher a processor has in hand is known
+record HasKnown (at : WordLp) : Type 0 where
+  hasher : Option Measure
+  has : HasInHand at hasher
+  hand : Hand
+  is : IsHand hasher hand
+
+nothing-left : (ls : Laws) (o : Opening) (trees : Trees) (p : ℕ) (pos : Position) (end_ : WordLp) → RestOf o trees p pos [] end_ → (pos.owes ≡ []) × (pos.swaps ≡ []) × (pos.at ≡ end_) × HasKnown pos.at
 nothing-left ls o trees p pos end_ rest = by-fill pos.fill rest
   where
     line : (c : Call) (cs : List Call) (r : Option Standing) (g : Option WordGuest) (e : RunEvent) (after : WordLp) → LineTurn (leaf_for o trees p) o.machine c cs r g pos.at.replies pos.at.beside e [] after → ⊥
@@ -105,8 +116,8 @@ nothing-left ls o trees p pos end_ rest = by-fill pos.fill rest
     no-items [] ps e = (refl, e)
     no-items (x ∷ xs) ps e = cc
 
-    by : (re : Rest o trees p pos.at pos.owes pos.swaps [] end_) → (os : List Owed) → re.owed ≡ os → AreOwed o.machine.pages re.hasher re.hand re.items os re.last → (pos.owes ≡ []) × (pos.swaps ≡ []) × (pos.at ≡ end_)
-    by re [] q of = (re.owes_are ∙ ap stores_in q, re.swaps_are ∙ ap swaps_in q, turns re.turns (no-items re.items (joined re.turns) re.pieces).1 re.own)
+    by : (re : Rest o trees p pos.at pos.owes pos.swaps [] end_) → (os : List Owed) → re.owed ≡ os → AreOwed o.machine.pages re.hasher re.hand re.items os re.last → (pos.owes ≡ []) × (pos.swaps ≡ []) × (pos.at ≡ end_) × HasKnown pos.at
+    by re [] q of = (re.owes_are ∙ ap stores_in q, re.swaps_are ∙ ap swaps_in q, turns re.turns (no-items re.items (joined re.turns) re.pieces).1 re.own, record { hasher = re.last; has = re.last_is; hand = re.hand; is = (of re.in_hand).1 })
     by re (Stores d ∷ os) q of = (let r = of re.in_hand in let bad = sym (no-items re.items (joined re.turns) re.pieces).0 ∙ r.items in cc)
     by re (Swaps d ∷ os) q of = absurd (no-swap (of re.in_hand))
       where
@@ -120,13 +131,13 @@ nothing-left ls o trees p pos end_ rest = by-fill pos.fill rest
     act-left [] (x ∷ xs) ps e = cc
     act-left (x ∷ xs) act ps e = cc
 
-    by-fill : (f : Option Fill) → RestBy o trees p pos [] end_ f → (pos.owes ≡ []) × (pos.swaps ≡ []) × (pos.at ≡ end_)
+    by-fill : (f : Option Fill) → RestBy o trees p pos [] end_ f → (pos.owes ≡ []) × (pos.swaps ≡ []) × (pos.at ≡ end_) × HasKnown pos.at
     by-fill None re = by re re.owed refl re.are
     by-fill (Some f) re = absurd (act-left re.stores re.act (joined re.turns) re.pieces)
 
 ends-so : (ls : Laws) (o : Opening) (trees : Trees) (s : State) (u : Table) (ends : ℕ → WordLp) → Through o trees s u ends → IsShownBy o.machine u s × IsWhere o ends s
 ends-so ls o trees s u ends th =
-    let left : (p : ℕ) → p < length o.calls → ((th.pos p).owes ≡ []) × ((th.pos p).swaps ≡ []) × ((th.pos p).at ≡ ends p) = λ p i. nothing-left ls o trees p (th.pos p) (ends p) (th.rest p i) in (
+    let left : (p : ℕ) → p < length o.calls → ((th.pos p).owes ≡ []) × ((th.pos p).swaps ≡ []) × ((th.pos p).at ≡ ends p) × HasKnown (th.pos p).at = λ p i. nothing-left ls o trees p (th.pos p) (ends p) (th.rest p i) in (
       record {
         memory = th.memory;
         is = record {
@@ -156,8 +167,79 @@ ends-so ls o trees s u ends th =
       },
     )
 
+-- each stands where the state has it, with what its run has in hand
+
+line-hand : (r : Standing) (h : Option Measure) (k : Hand) → IsHand h k → (r.hasher ≡ h) ⊎ ((x : Hand) × IsHand r.hasher x) → (x : Hand) × IsHand r.hasher x
+line-hand r h k is (inl e) = (k, subst (λ (z : Option Measure). IsHand z k) (sym e) is)
+line-hand r h k is (inr known) = known
+
+stands-so : (o : Opening) (trees : Trees) (p : ℕ) (w : World) (words : WordPlace → ℕ) (lp : Lp) (at : WordLp) → StandsAt o trees p w words lp at → HasKnown at → LpStands o (table_for o trees p) p w words lp at
+stands-so o trees p w words lp at st known = record { lines = st.lines; replies = st.replies; beside = st.beside; run = by at.lines at.run at.guest st.lines st.run known.has.0 }
+  where
+    by : (cs : List Call) (r : Option Standing) (g : Option WordGuest) → lines_left o p lp ≡ cs → RunAt o trees p w words lp cs r g at.replies at.beside → HandKnown r known.hasher
+        → RunStands o (table_for o trees p) p w words lp cs r g at.replies at.beside
+    by cs None None e run hand = run
+    by [] None (Some x) e run hand = absurd run
+    by [] (Some r) None e run hand = absurd run
+    by [] (Some r) (Some x) e run hand = absurd run
+    by (c ∷ cs) None (Some x) e run hand = absurd run
+    by (c ∷ cs) (Some r) None e run hand = record {
+      at = record {
+        line = record { call = c; further = cs; lines = e; row_is = refl };
+        guest = run.guest;
+        stage = run.runs.at.stage;
+        held = run.runs.at.held;
+        told = run.runs.at.told;
+      };
+      waits = run.runs.trying;
+    }
+    by (c ∷ cs) (Some r) (Some x) e run hand =
+        let mine = line-hand r known.hasher known.hand known.is hand in
+        record {
+          line_is = record { call = c; further = cs; lines = e; row_is = refl };
+          guest = run.guest;
+          is_in = run.is_in;
+          reply = run.reply;
+          answered = run.answered;
+          held = run.held;
+          at = run.at;
+          fresh = run.waits;
+          hand = mine.0;
+          in_hand = mine.1;
+        }
+
+run-hand : (h : Option Measure) (k : Hand) → IsHand h k → (r : Option Standing) → HandKnown r h → (x : Hand) × IsHand (hasher_of r) x
+run-hand h k is None known = (None, tt)
+run-hand h k is (Some r) known = line-hand r h k is known
+
+hand-at : (at : WordLp) → HasKnown at → (x : Hand) × IsHand (hasher_at at) x
+hand-at at known = by at.guest at.run known.has.0 known.has.1
+  where
+    in-guest : (x : WordGuest) (line : Standing) → HandKnown (Some line) known.hasher → HandKnown x.run known.hasher → (give : Bool) → (k : Hand) × IsHand (hasher_of (run_in x line give)) k
+    in-guest x line a b true = run-hand known.hasher known.hand known.is (Some line) a
+    in-guest x line a b false = run-hand known.hasher known.hand known.is x.run b
+
+    by : (g : Option WordGuest) (r : Option Standing) → HandKnown r known.hasher → HandKnown (guest_run g) known.hasher → (k : Hand) × IsHand (hasher_of (run_at g r)) k
+    by None r a b = run-hand known.hasher known.hand known.is r a
+    by (Some x) None a b = (None, tt)
+    by (Some x) (Some line) a b = in-guest x line a b (gives_epoch_back line.held)
+
+all-stand : (ls : Laws) (o : Opening) (trees : Trees) (s : State) (u : Table) (ends : ℕ → WordLp) → Through o trees s u ends → (p : ℕ) → p < length o.calls → StandsOn o (table_for o trees p) p s u (ends p)
+unfolding ends-so
+all-stand ls o trees s u ends th p i =
+    let left = nothing-left ls o trees p (th.pos p) (ends p) (th.rest p i) in
+    let shown : IsShownBy o.machine u s = (ends-so ls o trees s u ends th).0 in
+    subst (λ (x : WordLp). StandsOn o (table_for o trees p) p s u x) left.2
+    (let has = hand-at (th.pos p).at left.3 in
+    record {
+      memory = record (th.memory) { hand = has.0 };
+      is = record { words = shown.is.words; slots = shown.is.slots; hand = has.1 };
+      shows = th.stands.shows;
+      stands = stands-so o trees p s.world th.memory.words (s.lps p) (th.pos p).at (th.stands.holds p i).stands left.3;
+    })
+
 merges : (ls : Laws) (o : Opening) (leaf : ℕ → LeafTable) (is : List Item) (now : ℕ → WordLp) (u : Table) → length o.calls ≤ 8 → AreLeaves o leaf → AreCodes o → Merge o leaf is now u
-    → let s = play o (order is) (start o None) in PlaysTo no_table (steps_taken is) u × (IsShownBy o.machine u s × IsWhere o now s)
+    → let s = play o (order is) (start o None) in PlaysTo no_table (steps_taken is) u × (IsShownBy o.machine u s × IsWhere o now s) × ((p : ℕ) → p < length o.calls → StandsOn o (leaf p) p s u (now p))
 unfolding first_position
 merges ls o leaf is now u most are codes merge =
     let trees = trees_of leaf in
@@ -167,7 +249,11 @@ merges ls o leaf is now u most are codes merge =
     let went =
     through ls o trees is (start o None) no_memory no_table u (first_position o) now most (trees-are o leaf are codes) known (starts ls o trees)
     (λ p i. rest-first p (part p is) (merge.own p) (merge.merge.each p i) (own p i)) merge.merge.nothing_else merge.plays in
-    (went.0, ends-so ls o trees (play o (order is) (start o None)) u now went.1)
+    (
+      went.0,
+      ends-so ls o trees (play o (order is) (start o None)) u now went.1,
+      λ p i. subst (λ (t : LeafTable). StandsOn o t p (play o (order is) (start o None)) u (now p)) (sym (table-is o leaf are p)) (all-stand ls o trees (play o (order is) (start o None)) u now went.1 p i),
+    )
   where
     rest-first : (p : ℕ) (ps : List Piece) (tps : List (List Piece)) → ps ≡ joined tps → OwnTurns (table_for o (trees_of leaf) p) o.machine (first_lp (calls_of o.calls p)) tps (now p) → RestOf o (trees_of leaf) p (first_position o p) ps (now p)
     rest-first p ps tps e own = record {
@@ -210,6 +296,7 @@ pub merges-are-runs : Laws → MergesAreRuns
 merges-are-runs ls = record {
   none_misses = λ o leaf is now u most are codes merge. (merges ls o leaf is now u most are codes merge).0;
   turns = λ o leaf is now u most are codes merge. (merges ls o leaf is now u most are codes merge).1;
+  stand = λ o leaf is now u most are codes merge. (merges ls o leaf is now u most are codes merge).2;
   ended = λ o leaf is now u most are codes merge over.
       let got = (merges ls o leaf is now u most are codes merge).1 in
       let s : State = play o (order is) (start o None) in

@@ -11,6 +11,7 @@ use Rattle.leaf_engine.specs.Changes.{Memory}
 use Rattle.leaf_engine.specs.Besides.{beside_of}
 use Rattle.leaf_engine.specs.Tables.{IsMemory}
 use Rattle.leaf_engine.specs.OwnLists.{LeafTable, WordLp}
+use Rattle.leaf_engine.specs.Following.{StandsOn}
 use Rattle.leaf_engine.specs.Merges.{Item, steps_taken, order, no_table, AreLeaves, AreCodes}
 use Rattle.merge_laws.specs.Merge.{Merge}
 
@@ -42,11 +43,14 @@ pub record IsWhere (o : Opening) (now : ℕ → WordLp) (s : State) : Type 0 whe
 
 -- A merge is a run of the flat machine: its events, in the order in which they stand in the merge, lead to a state that
 -- its words show, and to where its processors are. Where each has come to its last line's end, that is where the whole run
--- ends. No swap misses: the items play as on a table that nobody else uses.
+-- ends. No swap misses: the items play as on a table that nobody else uses. And on the table where the merge leads each
+-- processor stands, in its call or its guest, where the state has it.
 pub record MergesAreRuns : Type 0 where
   pub none_misses : (o : Opening) (leaf : ℕ → LeafTable) (is : List Item) (now : ℕ → WordLp) (u : Table) → length o.calls ≤ 8 → AreLeaves o leaf → AreCodes o → Merge o leaf is now u
       → PlaysTo no_table (steps_taken is) u
   pub turns : (o : Opening) (leaf : ℕ → LeafTable) (is : List Item) (now : ℕ → WordLp) (u : Table) → length o.calls ≤ 8 → AreLeaves o leaf → AreCodes o → Merge o leaf is now u
       → let s = play o (order is) (start o None) in IsShownBy o.machine u s × IsWhere o now s
+  pub stand : (o : Opening) (leaf : ℕ → LeafTable) (is : List Item) (now : ℕ → WordLp) (u : Table) → length o.calls ≤ 8 → AreLeaves o leaf → AreCodes o → Merge o leaf is now u
+      → (p : ℕ) → p < length o.calls → StandsOn o (leaf p) p (play o (order is) (start o None)) u (now p)
   pub ended : (o : Opening) (leaf : ℕ → LeafTable) (is : List Item) (now : ℕ → WordLp) (u : Table) → length o.calls ≤ 8 → AreLeaves o leaf → AreCodes o → Merge o leaf is now u
       → ((p : ℕ) → p < length o.calls → (now p).lines ≡ []) → let s = run o (order is) in IsShownBy o.machine u s × IsWhere o now s
