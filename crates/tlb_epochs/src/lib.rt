@@ -12,4 +12,4 @@ mod translations;
 
 pub use epochs::{count_at, is_tracked};
 pub use laws::counts_tell;
-pub use translations::Tlb;
+pub use translations::{Cached, Tlb};

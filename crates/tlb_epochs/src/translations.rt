@@ -11,13 +11,14 @@ use td_words::Access;
 /// How many translations are cached at most.
 const ROOM: usize = 16;
 
-/// A cached translation of a TD's GPA page.
+/// A cached translation: the TDR page of its TD, its GPA divided by 4096, the page that it gives, and
+/// whether it allows stores.
 #[derive(Clone, Copy)]
-struct Cached {
-    tdr: u16,
-    gpa_page: u64,
-    page: u16,
-    may_write: bool,
+pub struct Cached {
+    pub tdr: u16,
+    pub gpa_page: u64,
+    pub page: u16,
+    pub may_write: bool,
 }
 
 impl Model for Cached {
@@ -93,6 +94,13 @@ impl Tlb {
         Tlb {
             cached: ArrayVec::new(),
         }
+    }
+
+    /// All of them, oldest first.
+    pub fn translations(&self) -> &[Cached]
+        ensures { result.now ≡ self.now }
+    {
+        self.cached.as_slice()
     }
 
     /// The page that a cached translation gives an access to a TD's GPA, if one allows it.
