@@ -1,0 +1,258 @@
+-- In which operation states calls come, and to which they lead; and in which life states.
+use Rattle.std.proofs.Common.{◌≡◌, refl, sym, ◌∙◌, ap, ℕ, zero, suc, [], ◌∷◌, Option, Some, None, Bool, true, false, ◌==◌}
+use Rattle.std.specs.Prelude.{slice_index_or}
+use Rattle.std.proofs.lemmas.Bool.{eqb-true}
+use Rattle.td_words.specs.declared.names.ReadField.TheVariants as field
+use Rattle.td_words.specs.declared.names.LifeState.{LifeState}
+use Rattle.td_words.specs.declared.names.LifeState.TheVariants as life
+use Rattle.td_words.specs.declared.names.OpState.{OpState}
+use Rattle.td_words.specs.declared.names.OpState.TheVariants as op
+use Rattle.td_words.specs.declared.names.EntryState.{EntryState}
+use Rattle.td_words.specs.declared.names.EntryState.TheVariants as entry
+use Rattle.td_words.specs.NameNumber.{life_number, op_number}
+use Rattle.td_words.specs.declared.calls.Call.{Call}
+use Rattle.td_words.specs.declared.calls.Call.TheVariants as call
+use Rattle.flat_core.specs.World.{World, put}
+use Rattle.flat_core.specs.Opening.{Opening}
+use Rattle.flat_core.specs.Row.{Passes}
+use Rattle.flat_core.specs.Conditions.{is_host_in}
+use Rattle.flat_core.specs.Tree.{entry_at}
+use Rattle.flat_core.specs.Inputs.{Input, input_in}
+use Rattle.flat_core.specs.ImportRows.{is_start, import_token_ops, op_then, fill_page}
+use Rattle.flat_core.specs.Table.{row_of}
+use Rattle.flat_core.specs.Event.{event}
+use Rattle.flat_core.proofs.Tests.{by_test}
+use Rattle.td_laws.specs.Steps.{Step, is_among, values_after, ComesIn, may_move}
+use Rattle.td_laws.specs.Ops.{each, token_in, op_step, ops_of, next_ops, CallsComeInTheirOps, EventsLeadOps, EventsMoveOps, FailedImportsStay}
+use Rattle.td_laws.specs.Lives.{each as each_life, with_keys, life_step, lives_of, next_lives, CallsComeInTheirLives, EventsLeadLives, EventsMoveLives}
+use Rattle.td_laws.proofs.Steps.{IsFit, put_elsewhere, moves, events_lead, events_move}
+
+-- A state is told by its number.
+abbrev op_at : ℕ → OpState
+op_at n = slice_index_or each n op.Uninitialized
+
+op_back : (s : OpState) → op_at (op_number s) ≡ s
+op_back op.Uninitialized = refl
+op_back _ = refl
+
+same_op : (a b : OpState) → op_number a ≡ op_number b → a ≡ b
+same_op a b e = sym (op_back a) ∙ (ap op_at e ∙ op_back b)
+
+any_op : (s : OpState) → is_among op_number s each ≡ true
+any_op op.Uninitialized = refl
+any_op _ = refl
+
+abbrev life_at : ℕ → LifeState
+life_at n = slice_index_or each_life n life.HkidAssigned
+
+life_back : (s : LifeState) → life_at (life_number s) ≡ s
+life_back life.HkidAssigned = refl
+life_back _ = refl
+
+same_life : (a b : LifeState) → life_number a ≡ life_number b → a ≡ b
+same_life a b e = sym (life_back a) ∙ (ap life_at e ∙ life_back b)
+
+any_life : (s : LifeState) → is_among life_number s each_life ≡ true
+any_life life.HkidAssigned = refl
+any_life _ = refl
+
+-- What a call asks of its TD besides: it has its keys, and is in one of these operation states. A TD that begins isn't asked.
+abbrev asked : Opening → Call → Option (Step OpState)
+asked o (call.MngCreate tdr hkid) = None
+asked o c = op_step o c
+
+abbrev Asks : World → Option (Step OpState) → Type 0
+Asks w None = Unit {0}
+Asks w (Some step) = (is_among life_number (w.tds.lives step.tdr) (life.KeysConfigured ∷ []) ≡ true) × (is_among op_number (w.tds.ops step.tdr) step.from ≡ true)
+
+module _ (o : Opening) (me : ℕ) (w : World) where
+  token_asks : (t : ℕ) (b : Bool) → is_among life_number (w.tds.lives t) (life.KeysConfigured ∷ []) ≡ true → is_among op_number (w.tds.ops t) (import_token_ops b) ≡ true → Asks w (token_in t b)
+  token_asks t true k h = (k, h)
+  token_asks t false k h = (k, h)
+
+  call_asks : (c : Call) → Passes ((row_of o me c).items w) → Asks w (asked o c)
+  call_asks (call.MngInit tdr) ps = let x = ps.1 in (x.1.0, x.1.1.1.0)
+  call_asks (call.MngRd tdr field.Op) ps = let x = ps.1 in (x.1.0, x.1.1.1.0)
+  call_asks (call.MngRd tdr field.Epoch) ps = let x = ps.1 in (x.1.0, x.1.1.1.0)
+  call_asks (call.MngRd tdr field.Mrtd) ps = let x = ps.1 in (x.1.0, x.1.1.1.0)
+  call_asks (call.MngRd tdr field.Life) ps = tt
+  call_asks (call.MrExtend tdr gpa) ps = let x = ps.1.1.1 in (x.1.0, x.1.1.1.0)
+  call_asks (call.MrFinalize tdr) ps = let x = ps.1 in (x.1.0, x.1.1.1.0)
+  call_asks (call.VpCreate tdr page) ps = let x = ps.1.1.1 in (x.1.0, x.1.1.1.0)
+  call_asks (call.VpInit tdr vp value) ps = let x = ps.1.1.1 in (x.1.0, x.1.1.1.0)
+  call_asks (call.VpEnter tdr vp max) ps = let x = ps.1.1.1.1 in (x.1.0, x.1.1.1.0)
+  call_asks (call.MemSeptAdd tdr gpa level page) ps = let x = ps.1.1.1.1.1.1 in (x.1.0, x.1.1.1.0)
+  call_asks (call.MemSeptRd tdr gpa level) ps = let x = ps.1.1.1.1 in (x.1.0, x.1.1.1.0)
+  call_asks (call.MemSeptRemove tdr gpa level) ps = let x = ps.1.1.1.1 in (x.1.0, x.1.1.1.0)
+  call_asks (call.MemPageAdd tdr gpa page source) ps = let x = ps.1.1.1.1.1.1.1.1 in (x.1.0, x.1.1.1.0)
+  call_asks (call.MemPageAug tdr gpa page) ps = let x = ps.1.1.1.1.1 in (x.1.0, x.1.1.1.0)
+  call_asks (call.MemPageRemove tdr gpa) ps = let x = ps.1.1.1 in (x.1.0, x.1.1.1.0)
+  call_asks (call.MemRangeBlock tdr gpa level) ps = let x = ps.1.1.1.1 in (x.1.0, x.1.1.1.0)
+  call_asks (call.MemRangeUnblock tdr gpa level) ps = let x = ps.1.1.1.1 in (x.1.0, x.1.1.1.0)
+  call_asks (call.MemTrack tdr) ps = let x = ps.1 in (x.1.0, x.1.1.1.0)
+  call_asks (call.MigStreamCreate tdr page) ps = let x = ps.1.1.1 in (x.1.0, x.1.1.1.0)
+  call_asks (call.ExportStateImmutable tdr slot) ps = let x = ps.1 in (x.1.0, x.1.1.1.0)
+  call_asks (call.ExportBlockw tdr gpa) ps = let x = ps.1.1.1 in (x.1.0, x.1.1.1.0)
+  call_asks (call.ExportUnblockw tdr gpa) ps = let x = ps.1.1.1 in (x.1.0, x.1.1.1.0)
+  call_asks (call.ExportMem tdr gpa stream slot) ps = let x = ps.1.1.1.1 in (x.1.0, x.1.1.1.0)
+  call_asks (call.ExportTrack tdr slot zero) ps = let x = ps.1.1 in (x.1.0, x.1.1.1.0)
+  call_asks (call.ExportTrack tdr slot (suc n)) ps = let x = ps.1.1 in (x.1.0, x.1.1.1.0)
+  call_asks (call.ExportPause tdr) ps = let x = ps.1 in (x.1.0, x.1.1.1.0)
+  call_asks (call.ExportStateTd tdr slot) ps = let x = ps.1 in (x.1.0, x.1.1.1.0)
+  call_asks (call.ExportStateVp tdr vp slot) ps = let x = ps.1.1.1 in (x.1.0, x.1.1.1.0)
+  call_asks (call.ExportAbort tdr) ps = let x = ps.1 in (x.1.0, x.1.1.1.0)
+  call_asks (call.ExportAbortByToken tdr slot) ps = let x = ps.1.1.1.1 in (x.1.0, x.1.1.1.0)
+  call_asks (call.ExportRestore tdr gpa) ps = let x = ps.1.1.1 in (x.1.0, x.1.1.1.0)
+  call_asks (call.ImportStateImmutable tdr slot) ps = let x = ps.1.1.1.1 in (x.1.0, x.1.1.1.0)
+  call_asks (call.ImportMem tdr slot page) ps = let x = ps.1.1.1.1.1.1 in (x.1.0, x.1.1.1.0)
+  call_asks (call.ImportTrack tdr slot) ps = let x = ps.1.1.1.1 in token_asks tdr (is_start (input_in (o.bundles slot)).header) x.1.0 x.1.1.1.0
+  call_asks (call.ImportStateTd tdr slot) ps = let x = ps.1.1.1.1 in (x.1.0, x.1.1.1.0)
+  call_asks (call.ImportStateVp tdr vp slot) ps = let x = ps.1.1.1.1.1.1 in (x.1.0, x.1.1.1.0)
+  call_asks (call.ImportCommit tdr) ps = let x = ps.1 in (x.1.0, x.1.1.1.0)
+  call_asks (call.ImportEnd tdr) ps = let x = ps.1 in (x.1.0, x.1.1.1.0)
+  call_asks (call.ImportAbort tdr slot) ps = let x = ps.1 in (x.1.0, x.1.1.1.0)
+  call_asks (call.HostRead page word) ps = tt
+  call_asks _ ps = tt
+
+  op_asked : (x : Option (Step OpState)) → Asks w x → ComesIn op_number w.tds.ops x
+  op_asked None h = tt
+  op_asked (Some step) h = h.1
+
+  keys_asked : (x : Option (Step OpState)) → Asks w x → ComesIn life_number w.tds.lives (with_keys x)
+  keys_asked None h = tt
+  keys_asked (Some step) h = h.0
+
+  pub op_comes : (c : Call) → Passes ((row_of o me c).items w) → ComesIn op_number w.tds.ops (op_step o c)
+  op_comes (call.MngCreate tdr hkid) ps = any_op (w.tds.ops tdr)
+  op_comes c ps = op_asked (asked o c) (call_asks c ps)
+
+  pub life_comes : (c : Call) → Passes ((row_of o me c).items w) → ComesIn life_number w.tds.lives (life_step o c)
+  life_comes (call.MngCreate tdr hkid) ps = any_life (w.tds.lives tdr)
+  life_comes (call.MngKeyConfig tdr) ps = ps.1.1.0
+  life_comes (call.MngAddcx tdr page) ps = ps.1.1.1.1.0
+  life_comes (call.VpFlush tdr vp) ps = ps.1.1.1.1.0
+  life_comes (call.MngVpflushdone tdr) ps = ps.1.1.0
+  life_comes (call.MngKeyFreeid tdr) ps = ps.1.1.0
+  life_comes (call.PhymemPageReclaim tdr page) ps = ps.1.1.1.0
+  life_comes c ps = keys_asked (asked o c) (call_asks c ps)
+
+  module _ (t : ℕ) where
+    token_leads : (tdr : ℕ) (b : Bool) → put w.tds.ops tdr (op_then b (w.tds.ops tdr)) t ≡ values_after (token_in tdr b) w.tds.ops t
+    token_leads tdr true = refl
+    token_leads tdr false = by_test (t == tdr) (λ y. rw y (ap w.tds.ops (sym (eqb-true t tdr y)))) (λ y. rw y refl)
+
+    -- a page that comes in leaves both
+    fill_leaves : (tdr gpa page : ℕ) (ws : ℕ → ℕ) (s : EntryState) → ((fill_page tdr gpa page ws s w).tds.ops ≡ w.tds.ops) × ((fill_page tdr gpa page ws s w).tds.lives ≡ w.tds.lives)
+    fill_leaves tdr gpa page ws entry.Free = (refl, refl)
+    fill_leaves tdr gpa page ws _ = (refl, refl)
+
+    pub op_leads : (c : Call) → ((row_of o me c).act w).tds.ops t ≡ values_after (op_step o c) w.tds.ops t
+    op_leads (call.MngRd tdr field.Life) = refl
+    op_leads (call.MngRd tdr _) = refl
+    op_leads (call.ExportTrack tdr slot zero) = refl
+    op_leads (call.ExportTrack tdr slot (suc n)) = refl
+    op_leads (call.ImportMem tdr slot page) =
+        let x : Input = input_in (o.bundles slot) in ap (λ (f : ℕ → OpState). f t) (fill_leaves tdr x.header.gpa page x.words (entry_at w tdr 0 x.header.gpa).state).0
+    op_leads (call.ImportTrack tdr slot) = token_leads tdr (is_start (input_in (o.bundles slot)).header)
+    op_leads (call.HostRead page word) = refl
+    op_leads _ = refl
+
+    kept_lives : (x : Option (Step OpState)) → w.tds.lives t ≡ values_after (with_keys x) w.tds.lives t
+    kept_lives None = refl
+    kept_lives (Some step) = refl
+
+    pub life_leads : (c : Call) → ((row_of o me c).act w).tds.lives t ≡ values_after (life_step o c) w.tds.lives t
+    life_leads (call.MngRd tdr f) = kept_lives (op_step o (call.MngRd tdr f))
+    life_leads (call.ExportTrack tdr slot zero) = refl
+    life_leads (call.ExportTrack tdr slot (suc n)) = refl
+    life_leads (call.ImportMem tdr slot page) =
+        let x : Input = input_in (o.bundles slot) in ap (λ (f : ℕ → LifeState). f t) (fill_leaves tdr x.header.gpa page x.words (entry_at w tdr 0 x.header.gpa).state).1
+    life_leads (call.ImportTrack tdr slot) = kept_lives (op_step o (call.ImportTrack tdr slot))
+    life_leads (call.HostRead page word) = refl
+    life_leads _ = refl
+
+pub calls_come_in_their_ops : CallsComeInTheirOps
+calls_come_in_their_ops o me c w ps = op_comes o me w c ps
+
+pub calls_come_in_their_lives : CallsComeInTheirLives
+calls_come_in_their_lives o me c w ps = life_comes o me w c ps
+
+pub events_lead_ops : EventsLeadOps
+events_lead_ops = events_lead ops_of (λ tds entries t. refl) op_step op_leads
+
+pub events_lead_lives : EventsLeadLives
+events_lead_lives = events_lead lives_of (λ tds entries t. refl) life_step life_leads
+
+-- Moves: each line of the tables goes along the state machines, and a TD begins at a host page.
+module _ (o : Opening) (me : ℕ) (w : World) (t : ℕ) (owned : is_host_in w.pages t ≡ false) where
+  elsewhere : (tdr : ℕ) → is_host_in w.pages tdr ≡ true → (t == tdr) ≡ false
+  elsewhere tdr host = by_test (t == tdr)
+      (λ y. let no : true ≡ false = sym host ∙ (ap (λ (z : ℕ). is_host_in w.pages z) (sym (eqb-true t tdr y)) ∙ owned) in cc)
+      (λ y. y)
+
+  abbrev OpMoves : Call → Type 0
+  OpMoves c = may_move op_number next_ops (w.tds.ops t) (values_after (op_step o c) w.tds.ops t) ≡ true
+
+  by_ops : (c : Call) → IsFit op_number same_op next_ops (op_step o c) → Passes ((row_of o me c).items w) → OpMoves c
+  by_ops c fit ps = moves op_number same_op next_ops w.tds.ops t (op_step o c) fit (op_comes o me w c ps)
+
+  token_fits : (tdr : ℕ) (b : Bool) → IsFit op_number same_op next_ops (token_in tdr b)
+  token_fits tdr true = refl
+  token_fits tdr false = tt
+
+  op_moves : (c : Call) → Passes ((row_of o me c).items w) → OpMoves c
+  op_moves (call.MngCreate tdr hkid) ps = put_elsewhere op_number same_op next_ops w.tds.ops t tdr op.Uninitialized (elsewhere tdr ps.1.1.0)
+  op_moves (call.MngInit tdr) ps = by_ops (call.MngInit tdr) refl ps
+  op_moves (call.MrFinalize tdr) ps = by_ops (call.MrFinalize tdr) refl ps
+  op_moves (call.ExportStateImmutable tdr slot) ps = by_ops (call.ExportStateImmutable tdr slot) refl ps
+  op_moves (call.ExportPause tdr) ps = by_ops (call.ExportPause tdr) refl ps
+  op_moves (call.ExportAbort tdr) ps = by_ops (call.ExportAbort tdr) refl ps
+  op_moves (call.ExportAbortByToken tdr slot) ps = by_ops (call.ExportAbortByToken tdr slot) refl ps
+  op_moves (call.ImportStateImmutable tdr slot) ps = by_ops (call.ImportStateImmutable tdr slot) refl ps
+  op_moves (call.ImportStateTd tdr slot) ps = by_ops (call.ImportStateTd tdr slot) refl ps
+  op_moves (call.ImportCommit tdr) ps = by_ops (call.ImportCommit tdr) refl ps
+  op_moves (call.ImportEnd tdr) ps = by_ops (call.ImportEnd tdr) refl ps
+  op_moves (call.ImportAbort tdr slot) ps = by_ops (call.ImportAbort tdr slot) refl ps
+  op_moves (call.ExportTrack tdr slot zero) ps = by_ops (call.ExportTrack tdr slot zero) tt ps
+  op_moves (call.ExportTrack tdr slot (suc n)) ps = by_ops (call.ExportTrack tdr slot (suc n)) refl ps
+  op_moves (call.ImportTrack tdr slot) ps = by_ops (call.ImportTrack tdr slot) (token_fits tdr (is_start (input_in (o.bundles slot)).header)) ps
+  op_moves (call.MngRd tdr field.Life) ps = by_ops (call.MngRd tdr field.Life) tt ps
+  op_moves (call.MngRd tdr field.Op) ps = by_ops (call.MngRd tdr field.Op) tt ps
+  op_moves (call.MngRd tdr field.Epoch) ps = by_ops (call.MngRd tdr field.Epoch) tt ps
+  op_moves (call.MngRd tdr field.Mrtd) ps = by_ops (call.MngRd tdr field.Mrtd) tt ps
+  op_moves (call.HostRead page word) ps = by_ops (call.HostRead page word) tt ps
+  op_moves c ps = by_ops c tt ps
+
+  abbrev LifeMoves : Call → Type 0
+  LifeMoves c = may_move life_number next_lives (w.tds.lives t) (values_after (life_step o c) w.tds.lives t) ≡ true
+
+  by_lives : (c : Call) → IsFit life_number same_life next_lives (life_step o c) → Passes ((row_of o me c).items w) → LifeMoves c
+  by_lives c fit ps = moves life_number same_life next_lives w.tds.lives t (life_step o c) fit (life_comes o me w c ps)
+
+  keys_fit : (x : Option (Step OpState)) → IsFit life_number same_life next_lives (with_keys x)
+  keys_fit None = tt
+  keys_fit (Some step) = tt
+
+  life_moves : (c : Call) → Passes ((row_of o me c).items w) → LifeMoves c
+  life_moves (call.MngCreate tdr hkid) ps = put_elsewhere life_number same_life next_lives w.tds.lives t tdr life.HkidAssigned (elsewhere tdr ps.1.1.0)
+  life_moves (call.MngKeyConfig tdr) ps = by_lives (call.MngKeyConfig tdr) refl ps
+  life_moves (call.MngVpflushdone tdr) ps = by_lives (call.MngVpflushdone tdr) refl ps
+  life_moves (call.MngKeyFreeid tdr) ps = by_lives (call.MngKeyFreeid tdr) refl ps
+  life_moves (call.MngAddcx tdr page) ps = by_lives (call.MngAddcx tdr page) tt ps
+  life_moves (call.VpFlush tdr vp) ps = by_lives (call.VpFlush tdr vp) tt ps
+  life_moves (call.PhymemPageReclaim tdr page) ps = by_lives (call.PhymemPageReclaim tdr page) tt ps
+  life_moves c ps = by_lives c (keys_fit (op_step o c)) ps
+
+pub events_move_ops : EventsMoveOps
+events_move_ops = events_move op_number same_op next_ops ops_of (λ tds entries t. refl) op_step op_leads op_moves
+
+pub events_move_lives : EventsMoveLives
+events_move_lives = events_move life_number same_life next_lives lives_of (λ tds entries t. refl) life_step life_leads life_moves
+
+pub failed_imports_stay : FailedImportsStay
+failed_imports_stay o s p t owned failed = only (s.world.tds.ops t) ((event o s p).world.tds.ops t) failed (events_move_ops o s p t owned)
+  where
+    only : (old new : OpState) → old ≡ op.FailedImport → may_move op_number next_ops old new ≡ true → new ≡ op.FailedImport
+    only op.FailedImport op.FailedImport e h = refl
+    only op.FailedImport _ e h = cc
+    only _ new e h = cc

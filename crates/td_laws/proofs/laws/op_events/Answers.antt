@@ -1,0 +1,14 @@
+use Rattle.td_laws.proofs.Ops.{calls_come_in_their_ops, events_lead_ops, events_move_ops, failed_imports_stay}
+use Rattle.td_laws.proofs.laws.op_events.Goals as goal
+
+pub returns-clause-come : goal.returns-clause-come
+returns-clause-come c = calls_come_in_their_ops
+
+pub returns-clause-lead : goal.returns-clause-lead
+returns-clause-lead c = events_lead_ops
+
+pub returns-clause-moves : goal.returns-clause-moves
+returns-clause-moves c = events_move_ops
+
+pub returns-clause-failed : goal.returns-clause-failed
+returns-clause-failed c = failed_imports_stay

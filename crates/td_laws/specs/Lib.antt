@@ -1,0 +1,5 @@
+pub mod Entries
+pub mod Keys
+pub mod Lives
+pub mod Ops
+pub mod Steps
