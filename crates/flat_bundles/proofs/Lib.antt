@@ -4,3 +4,4 @@ pub mod Steps
 pub mod Bundles
 pub mod Fills
 pub mod Formed
+pub mod Taken

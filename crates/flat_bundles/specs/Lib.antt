@@ -1,2 +1,3 @@
 pub mod Bundles
+pub mod Taken
 pub mod Formed

@@ -57,12 +57,10 @@ page_again (Some f) payload e =
     let same : payload_words f 512 ≡ payload = cc in
     subst (λ (z : List ℕ). payload_words (word_given z) 512 ≡ z) same (given_again f 512)
 
-page_from : (image : Image) (n : ℕ) (last : Option (List ℕ)) (words : List ℕ) → ((payload : List ℕ) → last ≡ Some payload → image_words image n ≡ Some payload) → given_words last ≡ Some words → image_words image n ≡ Some words
-page_from image n None words sent e = cc
-page_from image n (Some payload) words sent e =
-    let has = sent payload refl in
-    let same : payload_words (word_given payload) 512 ≡ words = cc in
-    has ∙ ap (λ (z : List ℕ). Some z) (sym (page_again (image.pages n) payload has) ∙ same)
+-- so a payload that is the page of an image gives itself
+page_sent : (image : Image) (n : ℕ) (last : Option (List ℕ)) → ((payload : List ℕ) → last ≡ Some payload → image_words image n ≡ Some payload) → given_words last ≡ last
+page_sent image n None has = refl
+page_sent image n (Some payload) has = ap (λ (z : List ℕ). Some z) (page_again (image.pages n) payload (has payload refl))
 
 module _ (source w : World) (t : ℕ) (src : IsSource source) (h : ImportHolds source.outgoing.bundles w t) (c : IsComplete (w.tds.sessions t) (counts_of w t) source.outgoing.bundles) where
   abbrev s : ℕ
@@ -152,15 +150,20 @@ module _ (source w : World) (t : ℕ) (src : IsSource source) (h : ImportHolds s
       let is : vp_image w at.vp ≡ new = same_vp (vp_image w at.vp) new (sym (place_of_map (vp_image w) (w.tds.vps t) i at.vp at.here) ∙ f) in
       subst (λ (z : VpImage). IsVpFrom z new) was (subst (λ (z : VpImage). IsVpFrom at.old z) is (record { registers = at.registers; position = at.position }))
 
+  -- the TD has just the pages that were sent before the token
+  pages_sent : (n : ℕ) → image_words (image_of w t) n ≡ last_payload s n c.before
+  pages_sent n = h.pages n ∙ (ap given_words (c.pages n) ∙ page_sent sent.image n (last_payload s n c.before) (sent.pages n))
+
   pub starts_from_pause : StartsFromPause source s (image_of w t)
   starts_from_pause = record {
     image = sent.image;
     noted = sent.noted;
     from = record {
-      pages = λ n words e. page_from sent.image n (last_payload s n c.before) words (λ payload k. sent.pages n payload k) (ap given_words (sym (c.pages n)) ∙ (sym (h.pages n) ∙ e));
+      pages = λ n words e. sent.pages n words (sym (pages_sent n) ∙ e);
       mrtd = mrtd_from;
       rtmrs = rtmrs_from;
       as_many = as_many;
       vps = vps_from;
     };
+    sent = λ n. pages_sent n ∙ sym (sent.last n);
   }

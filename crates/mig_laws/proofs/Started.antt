@@ -493,13 +493,15 @@ module _ (w : World) (pauses : PausesHold w) (states : StatesHold w) (h : Starts
           let off = at_place (λ y. is_of s y ≡ false) front back x (subst (All (λ y. is_of s y ≡ false)) rest whole.last) in
           by_test (is_page_at s n x) (λ y. absurd (let no : true ≡ false = sym (page_of_session s n x y) ∙ off in cc)) (λ y. y)
 
+  last_before : (n : ℕ) → last_payload s n w.outgoing.bundles ≡ last_payload s n before
+  last_before n = ap (last_payload s n) place ∙ (last-append (is_page_at s n) before (b ∷ after) ∙ rw (no_page_behind n) refl)
+
   pub is_started : IsStarted w s before
   is_started = record {
     image = whole.image;
     noted = whole.noted;
-    pages = λ n payload e.
-        let all : last_payload s n w.outgoing.bundles ≡ Some payload = ap (last_payload s n) place ∙ (last-append (is_page_at s n) before (b ∷ after) ∙ rw (no_page_behind n) e) in
-        subst (λ (i : Image). image_words i n ≡ Some payload) (same_image sent.image whole.image sent.noted whole.noted) (sent.pages n payload all);
+    pages = λ n payload e. subst (λ (i : Image). image_words i n ≡ Some payload) (same_image sent.image whole.image sent.noted whole.noted) (sent.pages n payload (last_before n ∙ e));
+    last = last_before;
     states = (let st = states.sent s has in subst (λ (i : Image). All (λ x. is_of s x ≡ true → IsStateOf i x) w.outgoing.bundles) (same_image st.image whole.image st.noted whole.noted) st.states);
     td = whole.td;
     vps = whole.vps;

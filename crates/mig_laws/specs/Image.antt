@@ -41,11 +41,13 @@ pub record StartsFrom (image start : Image) : Type 0 where
   pub as_many : length start.vps ≡ length image.vps
   pub vps : (i : ℕ) (old new : VpImage) → slice_get image.vps i ≡ Some old → slice_get start.vps i ≡ Some new → IsVpFrom old new
 
--- from the one that EXPORT.PAUSE noted under its session
+-- It starts from the image that EXPORT.PAUSE noted under its session, with the pages that the session sent: all of them and no
+-- others, each with its last payload.
 pub record StartsFromPause (source : World) (session : ℕ) (start : Image) : Type 0 where
   pub image : Image
   pub noted : source.hidden.paused session ≡ Some image
   pub from : StartsFrom image start
+  pub sent : (n : ℕ) → image_words start n ≡ last_payload session n source.outgoing.bundles
 
 -- The law, of any two runs: where no bundle that comes into the one is forged, all made by the other, what IMPORT.COMMIT notes
 -- under a session starts from that session's pause.
@@ -56,11 +58,12 @@ ImageLaw = (q : Opening) (words_to_tell : Option (List ℕ)) (schedule : List �
 -- What its source's half says
 
 -- a session whose start token comes behind these bundles was paused: their last payload of each page, and each state, is the
--- image's, and none of the states is missing
+-- image's, none of the states is missing, and no page is sent behind the token
 pub record IsStarted (source : World) (session : ℕ) (before : List Made) : Type 0 where
   pub image : Image
   pub noted : source.hidden.paused session ≡ Some image
   pub pages : (n : ℕ) (payload : List ℕ) → last_payload session n before ≡ Some payload → image_words image n ≡ Some payload
+  pub last : (n : ℕ) → last_payload session n source.outgoing.bundles ≡ last_payload session n before
   pub states : All (λ b. is_of session b ≡ true → IsStateOf image b) source.outgoing.bundles
   pub td : list_any (λ b. is_of session b && b.header.kind == 1) before ≡ true
   pub vps : (i : ℕ) → i < length image.vps → list_any (λ b. is_of session b && (b.header.kind == 2 && b.header.index == i)) before ≡ true

@@ -7,9 +7,10 @@ ghost use Rattle.mig_laws.specs.Started.{EveryRunIsASource, StartsAreKept};
 /// Every TD whose import is committed starts from what its source was at the pause, unless a tag was
 /// forged. Of any two runs, where each bundle of types 0 to 5 that comes into the one and opens was made
 /// by the other: under each session for which the one has noted at IMPORT.COMMIT what the TD starts
-/// with, EXPORT.PAUSE noted an image in the other. Each page that the TD was given has the image's
-/// words, MRTD and RTMRs are the image's, and there are as many virtual processors, each with the
-/// image's registers and position.
+/// with, EXPORT.PAUSE noted an image in the other. The TD has the pages that the session sent, all of
+/// them and no others, each with its last payload, which is the image's 512 words; MRTD and RTMRs are
+/// the image's, and there are as many virtual processors, each with the image's registers and position.
+/// A page of the image that was never sent isn't there.
 ///
 /// Why it is so is kept by each event. Of a TD that is being imported, as many bundles of each stream as
 /// it has counted were imported, none of a later migration epoch than it is in; each page that it was

@@ -1,5 +1,5 @@
--- Of two hosts that both hold a TD, at most one runs it: its source until the import is committed, and its destination from then
--- on (TD Migration Architecture, "Migration Session Control").
+-- Of two hosts that both hold a TD, at most one runs it: from its pause on its source doesn't where the import is committed, and
+-- before the commit its destination doesn't (TD Migration Architecture, "Migration Session Control").
 use Rattle.std.specs.Prelude.{◌≡◌, ◌≢◌, ℕ, ◌≤◌, List, [], ◌∷◌, Option, Some, None, Ok, Bool, true, false, All}
 use Rattle.td_words.specs.declared.names.OpState.{OpState}
 use Rattle.td_words.specs.declared.names.OpState.TheVariants as op

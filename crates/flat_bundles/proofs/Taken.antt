@@ -1,0 +1,111 @@
+-- What a row looks at of the bundles that have come in; and that a run goes by no others than its lines'.
+use Rattle.std.proofs.Common.{◌≡◌, refl, ◌∙◌, ap, subst, ℕ, ◌+◌, List, [], ◌∷◌, length, Option, Some, None, Bool, true, false}
+use Rattle.std.specs.List.{All}
+use Rattle.std.specs.Prelude.{nat_le}
+use Rattle.std.proofs.lemmas.List.Elements.{All-head, All-drop}
+use Rattle.td_words.specs.declared.calls.Call.{Call}
+use Rattle.td_words.specs.declared.calls.Call.TheVariants as call
+use Rattle.td_words.specs.declared.calls.GuestOp.{GuestOp}
+use Rattle.td_words.specs.declared.calls.GuestOp.TheVariants as op
+use Rattle.td_words.specs.declared.replies.Outcome.{Outcome}
+use Rattle.flat_core.specs.World.{World}
+use Rattle.flat_core.specs.Processor.{Phase, Trying, Undoing, Answered, Held, Guest, Lp}
+use Rattle.flat_core.specs.Opening.{Opening, Incoming}
+use Rattle.flat_core.specs.Row.{Row}
+use Rattle.flat_core.specs.Table.{row_of}
+use Rattle.flat_core.specs.Inputs.{input_in}
+use Rattle.flat_core.specs.ImportRows.{import_immutable, import_page, import_token, import_td, import_vp, abort_by_token}
+use Rattle.flat_core.specs.Guest.{operation_of}
+use Rattle.flat_core.specs.Event.{State, Event, start, event, after_event, event_for, line_event, entered_event, epoch_event, is_epoch_lock, guest_event, staying_event, due_event, operation_due, max_event, operation_event, lines_left, calls_of}
+use Rattle.flat_core.specs.Run.{play}
+use Rattle.flat_core.specs.Laws.{with_bundles}
+use Rattle.flat_bundles.specs.Taken.{TakesTheSame, CallsTakeTheirOwn, CallsNeedTheirOwn, RunsTakeTheirOwn}
+
+pub calls-take : CallsTakeTheirOwn
+calls-take o bundles me (call.ExportAbortByToken tdr slot) same = ap (λ (b : Option Incoming). abort_by_token o.machine b tdr slot) (same slot refl)
+calls-take o bundles me (call.ImportStateImmutable tdr slot) same = ap (λ (b : Option Incoming). import_immutable o.machine b tdr slot) (same slot refl)
+calls-take o bundles me (call.ImportMem tdr slot page) same = ap (λ (b : Option Incoming). import_page o.machine b tdr slot page) (same slot refl)
+calls-take o bundles me (call.ImportTrack tdr slot) same = ap (λ (b : Option Incoming). import_token o.machine b tdr slot) (same slot refl)
+calls-take o bundles me (call.ImportStateTd tdr slot) same = ap (λ (b : Option Incoming). import_td o.machine b tdr slot) (same slot refl)
+calls-take o bundles me (call.ImportStateVp tdr vp slot) same = ap (λ (b : Option Incoming). import_vp o.machine b tdr vp slot) (same slot refl)
+calls-take o bundles me _ same = refl
+
+-- where there is none, that there is one doesn't hold
+none-there : (bundles : ℕ → Option Incoming) (named slot : ℕ) → Some named ≡ Some slot → bundles slot ≡ None → (input_in (bundles named)).there ≡ true → ⊥
+none-there bundles named slot is none there =
+    let same : named ≡ slot = cc in
+    let no : false ≡ true = subst (λ (b : Option Incoming). (input_in b).there ≡ true) (ap bundles same ∙ none) there in
+    cc
+
+pub calls-need : CallsNeedTheirOwn
+calls-need o me (call.ExportAbortByToken tdr named) slot w is none ps = none-there o.bundles named slot is none ps.1.0
+calls-need o me (call.ImportStateImmutable tdr named) slot w is none ps = none-there o.bundles named slot is none ps.1.0
+calls-need o me (call.ImportMem tdr named page) slot w is none ps = none-there o.bundles named slot is none ps.1.1.1.0
+calls-need o me (call.ImportTrack tdr named) slot w is none ps = none-there o.bundles named slot is none ps.1.0
+calls-need o me (call.ImportStateTd tdr named) slot w is none ps = none-there o.bundles named slot is none ps.1.0
+calls-need o me (call.ImportStateVp tdr vp named) slot w is none ps = none-there o.bundles named slot is none ps.1.1.1.0
+calls-need o me _ slot w is none ps = cc
+
+module _ (o : Opening) (bundles : ℕ → Option Incoming) where
+  abbrev q : Opening
+  q = with_bundles o bundles
+
+  -- a guest's next event doesn't go by what has come in
+  module _ (w : World) (lp : Lp) (g : Guest) where
+    operation-same : (line : ℕ) (x : GuestOp) → operation_of q g.tdr g.vp line x ≡ operation_of o g.tdr g.vp line x
+    operation-same line (op.Set r v) = refl
+    operation-same line (op.Secret r k) = refl
+    operation-same line (op.Add r s) = refl
+    operation-same line (op.Load r gpa) = refl
+    operation-same line (op.Store r gpa) = refl
+    operation-same line (op.Accept gpa) = refl
+    operation-same line (op.Rtmr i) = refl
+    operation-same line (op.Vmcall r) = refl
+
+    max-same : (x : GuestOp) (full : Bool) → max_event q w lp g x full ≡ max_event o w lp g x full
+    max-same x true = refl
+    max-same x false = ap (operation_event w lp g) (operation-same (length lp.replies + 1) x)
+
+    due-same : (x : Option GuestOp) → due_event q w lp g x ≡ due_event o w lp g x
+    due-same None = refl
+    due-same (Some x) = max-same x (nat_le g.most g.completed)
+
+    staying-same : (phase : Phase (Option Outcome)) → staying_event q w lp g phase ≡ staying_event o w lp g phase
+    staying-same Trying = due-same (operation_due o w g)
+    staying-same (Undoing l) = refl
+    staying-same (Answered out) = refl
+
+    guest-same : (out : Option Outcome) → guest_event q w lp g out ≡ guest_event o w lp g out
+    guest-same (Some out) = refl
+    guest-same None = staying-same g.operation.phase
+
+    epoch-same : (row : Row) (h : Held) (epoch : Bool) → epoch_event q w lp row g h epoch ≡ epoch_event o w lp row g h epoch
+    epoch-same row h true = refl
+    epoch-same row h false = guest-same g.leaving
+
+    entered-same : (row : Row) (hs : List Held) → entered_event q w lp row g hs ≡ entered_event o w lp row g hs
+    entered-same row [] = guest-same g.leaving
+    entered-same row (h ∷ hs) = epoch-same row h (is_epoch_lock h.lock)
+
+  line-same : (w : World) (lp : Lp) (row : Row) (guest : Option Guest) → line_event q w lp row guest ≡ line_event o w lp row guest
+  line-same w lp row None = refl
+  line-same w lp row (Some g) = entered-same w lp g row lp.call.held
+
+  module _ (same : (p : ℕ) → All (TakesTheSame bundles o.bundles) (calls_of o.calls p)) where
+    lines-same : (w : World) (p : ℕ) (lp : Lp) (cs : List Call) → All (TakesTheSame bundles o.bundles) cs → event_for q w p lp cs ≡ event_for o w p lp cs
+    lines-same w p lp [] alike = refl
+    lines-same w p lp (c ∷ cs) alike =
+        ap (λ (row : Row). Some (line_event q w lp row lp.guest)) (calls-take o bundles p c (All-head (TakesTheSame bundles o.bundles) c cs alike))
+        ∙ ap (λ (e : Event). Some e) (line-same w lp (row_of o p c) lp.guest)
+
+    event-same : (s : State) (p : ℕ) → event q s p ≡ event o s p
+    event-same s p =
+        ap (after_event p s)
+        (lines-same s.world p (s.lps p) (lines_left o p (s.lps p)) (All-drop (TakesTheSame bundles o.bundles) (length (s.lps p).replies) (calls_of o.calls p) (same p)))
+
+    play-same : (ps : List ℕ) (s : State) → play q ps s ≡ play o ps s
+    play-same [] s = refl
+    play-same (p ∷ ps) s = ap (play q ps) (event-same s p) ∙ play-same ps (event o s p)
+
+pub runs-take : RunsTakeTheirOwn
+runs-take o bundles ws schedule same = play-same o bundles same schedule (start o ws)
