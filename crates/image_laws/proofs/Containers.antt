@@ -1,16 +1,19 @@
 -- What a run has sealed comes in as it was made, so nothing of it is forged.
-use Rattle.std.proofs.Common.{◌≡◌, sym, ◌∙◌, ap, subst, ℕ, List, [], ◌∷◌, ◌++◌, map, Some, Ok, Result, ◌==◌, nat_le}
+use Rattle.std.proofs.Common.{◌≡◌, sym, ◌∙◌, ap, subst, ℕ, List, [], ◌∷◌, ◌++◌, map, get_or, Option, Some, Ok, Result, ◌==◌, nat_le}
+use Rattle.std.specs.Prelude.{IfSome}
 use Rattle.std.specs.List.{All}
 use Rattle.std.proofs.lemmas.List.Elements.{All-nil, All-cons, All-head, All-tail}
 use Rattle.td_words.specs.declared.names.HeaderField.{HeaderField}
 use Rattle.flat_core.specs.World.{ClearHeader, Made}
-use Rattle.flat_core.specs.Opening.{Incoming}
+use Rattle.flat_core.specs.Opening.{Opening, Incoming}
 use Rattle.flat_core.specs.Run.{bundles_in}
 use Rattle.flat_core.specs.Laws.{reached}
 use Rattle.flat_core.proofs.Tests.{by_test}
-use Rattle.flat_bundles.specs.Formed.{IsFormed}
+use Rattle.flat_words.specs.Words.{BringsWords, GivesWords, AreToTell, HasWords}
+use Rattle.flat_words.proofs.Words.{bundles_have_words}
+use Rattle.flat_bundles.specs.Formed.{IsFormed, AreCodesShort}
 use Rattle.flat_bundles.proofs.Formed.{every_bundle_is_formed}
-use Rattle.mig_laws.specs.Image.{IsMade}
+use Rattle.mig_laws.specs.Image.{IsMade, Unforged}
 use Rattle.mig_laws.proofs.Places.{by_places, at_place}
 use Rattle.mig_laws.proofs.Destination.{starts_from_its_pause}
 use Rattle.bundle_texts.specs.Sealed.{key_of, iv_bytes, additional_bytes, sealed_payload, tag_of, sealed_bytes, sealed}
@@ -20,7 +23,7 @@ use Rattle.incoming.specs.Opened.{opened}
 use Rattle.incoming.specs.Arrivals.{incoming_in, at_slot}
 use Rattle.incoming.specs.Laws.{IsWhole}
 use Rattle.incoming.proofs.Sealed.{sealed-comes-in}
-use Rattle.image_laws.specs.Containers.{HasWords, NothingIsForged, ContainersBringImages}
+use Rattle.image_laws.specs.Containers.{brought, NothingIsForged, ContainersBringImages, ContainersBringWords}
 
 -- what holds of bundles holds of them in the order of their slots
 put_holds : (P : Made → Type 0) (m : Made) (ns : List Made) → P m → All P ns → All P (put_in m ns)
@@ -40,22 +43,30 @@ same_some : (a b : Incoming) → Some a ≡ Some b → a ≡ b
 same_some a b e = cc
 
 module _ (forward backward : List ℕ) (made : List Made) where
+  abbrev Whole : Made → Type 0
+  Whole = IsWhole forward backward
+
+  whole_at : (m : Made) → IsFormed m → HasWords m → Whole m
+  whole_at m form words = record {
+    lawful = form.lawful (tag_of forward backward m) (length-tag_bytes (key_of forward backward m.header) (iv_bytes m.header) (additional_bytes m.header) (sealed_payload forward backward m));
+    whole = length-word_bytes m.payload ∙ form.whole (tag_of forward backward m);
+    words = words;
+  }
+
+  each_whole : All IsFormed made → All HasWords made → All Whole made
+  each_whole forms words k d inside = whole_at (get_or made k d) (forms k d inside) (words k d inside)
+
   -- what one of them opens to is among them
   abbrev Opens : Made → Type 0
   Opens m = (b : Incoming) (h : ClearHeader) → opened forward backward (sealed_bytes forward backward m) ≡ b → b.header ≡ Ok h → IsMade h b.payload made
 
-  opens_at : (front back : List Made) (m : Made) → made ≡ front ++ m ∷ back → IsFormed m → HasWords m → Opens m
-  opens_at front back m place form words b h is has =
-      let whole : IsWhole forward backward m = record {
-        lawful = form.lawful (tag_of forward backward m) (length-tag_bytes (key_of forward backward m.header) (iv_bytes m.header) (additional_bytes m.header) (sealed_payload forward backward m));
-        whole = length-word_bytes m.payload ∙ form.whole (tag_of forward backward m);
-        words = words;
-      } in
+  opens_at : (front back : List Made) (m : Made) → made ≡ front ++ m ∷ back → Whole m → Opens m
+  opens_at front back m place whole b h is has =
       let same = sym (sealed-comes-in forward backward m whole) ∙ is in
       record { before = front; after = back; bundle = m; place = place; same_header = same_ok m.header h b.header (ap (λ (z : Incoming). z.header) (sym same)) has; same_words = ap (λ (z : Incoming). z.payload) same }
 
-  each_opens : All IsFormed made → All HasWords made → All Opens made
-  each_opens forms words = by_places Opens made (λ front back m is. opens_at front back m is (at_place IsFormed front back m (subst (All IsFormed) is forms)) (at_place HasWords front back m (subst (All HasWords) is words)))
+  each_opens : All Whole made → All Opens made
+  each_opens whole = by_places Opens made (λ front back m is. opens_at front back m is (at_place Whole front back m (subst (All Whole) is whole)))
 
   -- so is what comes in
   come_in : (ms : List Made) → All Opens ms → (slot : ℕ) (b : Incoming) (h : ClearHeader) → at_slot (map (incoming_in forward backward) (map (sealed forward backward) ms)) slot ≡ Some b → b.header ≡ Ok h → IsMade h b.payload made
@@ -64,11 +75,32 @@ module _ (forward backward : List ℕ) (made : List Made) where
       (λ y. All-head Opens m ms opens b h (same_some (opened forward backward (sealed_bytes forward backward m)) b (rw y at is)) has)
       (λ y. come_in ms (All-tail Opens m ms opens) slot b h (rw y at is) has)
 
+  -- and it brings words
+  brings : (ms : List Made) → All Whole ms → (slot : ℕ) → IfSome (at_slot (map (incoming_in forward backward) (map (sealed forward backward) ms)) slot) BringsWords
+  brings [] whole slot = tt
+  brings (m ∷ ms) whole slot = by_test (m.slot == slot)
+      (λ y. let own = All-head Whole m ms whole in rw y (subst BringsWords (sym (sealed-comes-in forward backward m own)) own.words))
+      (λ y. rw y (brings ms (All-tail Whole m ms whole) slot))
+
+module _ (forward backward : List ℕ) (q : Opening) (to_tell : Option (List ℕ)) (schedule : List ℕ) (short : AreCodesShort q) (gives : GivesWords q) (telling : AreToTell to_tell) where
+  abbrev made : List Made
+  made = bundles_in (reached q to_tell schedule)
+
+  all_whole : All (Whole forward backward made) made
+  all_whole = each_whole forward backward made (every_bundle_is_formed q to_tell schedule short) (bundles_have_words q to_tell schedule gives telling)
+
+  unforged : (o : Opening) → ((slot : ℕ) → o.bundles slot ≡ brought forward backward made slot) → Unforged o made
+  unforged o same slot b h is has opens kind =
+      come_in forward backward made (in_slot_order made) (order_holds (Opens forward backward made) made (each_opens forward backward made all_whole)) slot b h (sym (same slot) ∙ is) has
+
 pub nothing_is_forged : NothingIsForged
-nothing_is_forged forward backward q to_tell schedule short words o same slot b h is has opens kind =
-    let made : List Made = bundles_in (reached q to_tell schedule) in
-    come_in forward backward made (in_slot_order made)
-    (order_holds (Opens forward backward made) made (each_opens forward backward made (every_bundle_is_formed q to_tell schedule short) words)) slot b h (sym (same slot) ∙ is) has
+nothing_is_forged forward backward q to_tell schedule short gives telling = unforged forward backward q to_tell schedule short gives telling
 
 pub containers_bring_images : ContainersBringImages
-containers_bring_images forward backward q to_tell schedule short words o ws events same = starts_from_its_pause q to_tell schedule o ws events (nothing_is_forged forward backward q to_tell schedule short words o same)
+containers_bring_images forward backward q to_tell schedule short gives telling o ws events same =
+    starts_from_its_pause q to_tell schedule o ws events (unforged forward backward q to_tell schedule short gives telling o same)
+
+pub containers_bring_words : ContainersBringWords
+containers_bring_words forward backward q to_tell schedule short gives telling =
+    let made : List Made = bundles_in (reached q to_tell schedule) in
+    brings forward backward made (in_slot_order made) (order_holds (Whole forward backward made) made (all_whole forward backward q to_tell schedule short gives telling))

@@ -1,9 +1,10 @@
 -- What comes in by a container is what was sealed into it (TD Migration Architecture, "Migration Bundles").
-use Rattle.std.specs.Prelude.{◌≡◌, ℕ, ◌^◌, ◌<◌, List, map, Option, Some, All}
+use Rattle.std.specs.Prelude.{◌≡◌, ℕ, List, map, Option, Some, IfSome}
 use Rattle.flat_core.specs.World.{Image, Made}
 use Rattle.flat_core.specs.Opening.{Opening, Incoming}
 use Rattle.flat_core.specs.Run.{bundles_in}
 use Rattle.flat_core.specs.Laws.{reached, HoldsInRuns}
+use Rattle.flat_words.specs.Words.{BringsWords, GivesWords, AreToTell}
 use Rattle.flat_bundles.specs.Formed.{AreCodesShort}
 use Rattle.mig_laws.specs.Image.{Unforged, StartsFromPause}
 use Rattle.bundle_texts.specs.Sealed.{sealed}
@@ -14,17 +15,20 @@ use Rattle.incoming.specs.Arrivals.{incoming_in, at_slot}
 abbrev pub brought : (forward backward : List ℕ) → List Made → ℕ → Option Incoming
 brought forward backward made = at_slot (map (incoming_in forward backward) (map (sealed forward backward) (in_slot_order made)))
 
--- a payload of words of 64 bits
-abbrev pub HasWords : Made → Type 0
-HasWords m = All (λ x. x < 2 ^ 64) m.payload
-
--- Of what a run has made, nothing that comes in so is forged.
+-- Of what a run has made that was given words of 64 bits, nothing that comes in so is forged.
 abbrev pub NothingIsForged : Type 0
-NothingIsForged = (forward backward : List ℕ) (q : Opening) (words_to_tell : Option (List ℕ)) (schedule : List ℕ) → AreCodesShort q → let made = bundles_in (reached q words_to_tell schedule) in All HasWords made
-    → (o : Opening) → ((slot : ℕ) → o.bundles slot ≡ brought forward backward made slot) → Unforged o made
+NothingIsForged = (forward backward : List ℕ) (q : Opening) (words_to_tell : Option (List ℕ)) (schedule : List ℕ) → AreCodesShort q → GivesWords q → AreToTell words_to_tell
+    → let made = bundles_in (reached q words_to_tell schedule) in
+    (o : Opening) → ((slot : ℕ) → o.bundles slot ≡ brought forward backward made slot) → Unforged o made
 
 -- So what is committed of it starts from the pause.
 abbrev pub ContainersBringImages : Type 0
-ContainersBringImages = (forward backward : List ℕ) (q : Opening) (words_to_tell : Option (List ℕ)) (schedule : List ℕ) → AreCodesShort q → let source = reached q words_to_tell schedule in All HasWords (bundles_in source)
-    → HoldsInRuns (λ o s. ((slot : ℕ) → o.bundles slot ≡ brought forward backward (bundles_in source) slot)
+ContainersBringImages = (forward backward : List ℕ) (q : Opening) (words_to_tell : Option (List ℕ)) (schedule : List ℕ) → AreCodesShort q → GivesWords q → AreToTell words_to_tell
+    → let source = reached q words_to_tell schedule in
+    HoldsInRuns (λ o s. ((slot : ℕ) → o.bundles slot ≡ brought forward backward (bundles_in source) slot)
     → (session : ℕ) (start : Image) → s.world.hidden.given session ≡ Some start → StartsFromPause source.world session start)
+
+-- And each bundle that comes in so gives words of 64 bits again.
+abbrev pub ContainersBringWords : Type 0
+ContainersBringWords = (forward backward : List ℕ) (q : Opening) (words_to_tell : Option (List ℕ)) (schedule : List ℕ) → AreCodesShort q → GivesWords q → AreToTell words_to_tell
+    → (slot : ℕ) → IfSome (brought forward backward (bundles_in (reached q words_to_tell schedule)) slot) BringsWords

@@ -1,1 +1,4 @@
 pub mod Containers
+pub mod IvBytes
+pub mod Values
+pub mod Covered
