@@ -248,8 +248,7 @@ merges ls o leaf is now u most are codes merge =
     λ p i. subst (λ (t : LeafTable). OwnTurns t o.machine (first_lp (calls_of o.calls p)) (merge.own p) (now p)) (table-is o leaf are p) (merge.turns p i) in
     let went =
     through ls o trees is (start o None) no_memory no_table u (first_position o) now most (trees-are o leaf are codes) known (starts ls o trees)
-    (λ p i. rest-first p (part p is) (merge.own p) (merge.merge.each p i) (own p i)) merge.merge.nothing_else merge.plays in
-    (
+    (λ p i. rest-first p (part p is) (merge.own p) (merge.merge.each p i) (own p i)) merge.merge.nothing_else merge.plays in (
       went.0,
       ends-so ls o trees (play o (order is) (start o None)) u now went.1,
       λ p i. subst (λ (t : LeafTable). StandsOn o t p (play o (order is) (start o None)) u (now p)) (sym (table-is o leaf are p)) (all-stand ls o trees (play o (order is) (start o None)) u now went.1 p i),

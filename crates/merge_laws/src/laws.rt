@@ -12,7 +12,8 @@ use word_rules::{respects_compose, start_is_shown, views_are_kept, words_never_c
 /// A merge of the own lists of a script's processors, in which each load reads what the merge has
 /// stored and a swap may miss where another processor has one on its slot under way, is a run of
 /// the flat machine under the order of its events: with the same replies, and its last state is
-/// what the words show. No swap of it misses.
+/// what the words show; each processor stands there, in its call or its guest, where that state has
+/// it. No swap of it misses.
 pub fn merge_law()
     ensures { MergesAreRuns }
 {

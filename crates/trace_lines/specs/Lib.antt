@@ -1,0 +1,3 @@
+pub mod Traces
+pub mod Laws
+pub mod Worked
