@@ -1,10 +1,12 @@
 pub mod Answers
 pub mod Bounds
+pub mod Held
 pub mod Running
 pub mod Kept
 pub mod Guests
 pub mod Inside
 pub mod States
+pub mod Due
 pub mod Follows
 pub mod NoteRooms
 pub mod BundleRooms

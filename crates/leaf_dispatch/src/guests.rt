@@ -46,6 +46,16 @@ pub struct GuestAt<'a> {
     pub leaving: Option<Outcome>,
 }
 
+/// What is told of a virtual processor in guest: the TDR page of its TD, its own page, how many
+/// operations it may complete in this entry, and how many it has completed.
+#[derive(Clone, Copy)]
+pub struct InGuest {
+    pub tdr: u16,
+    pub vp: u16,
+    pub most: u64,
+    pub completed: u64,
+}
+
 /// The guest's next step, by the translations that are cached.
 pub fn next_step(guest: &GuestAt<'_>, cached: &Tlb) -> Step
     requires low { IsLow guest.now.walk }

@@ -5,8 +5,9 @@
 //! may use that `LpState` is a `Processor`. From its calls on (`first` of `new`) each turn is the next
 //! event of its present call's leaf, or in a guest that of the guest's next step, told in pieces; the
 //! reply comes in with the call's last event. A turn takes no memory. What guests note and tell stands
-//! in `notes` and `told`, and the bundles that calls make in `bundles`. By `processors_follow` a turn is
-//! the flat machine's next event.
+//! in `notes` and `told`, and the bundles that calls make in `bundles`; `guest`, `next_step` and `cached`
+//! tell of the guest that a processor is in. By `processors_follow` a turn is the flat machine's next
+//! event.
 #![tactic(auto)]
 
 mod answers;
@@ -19,5 +20,6 @@ mod states;
 mod turns;
 
 pub use first_lists::FirstLists;
+pub use guests::InGuest;
 pub use laws::processors_follow;
 pub use states::LpState;

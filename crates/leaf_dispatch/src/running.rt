@@ -15,12 +15,13 @@ ghost use Rattle.leaf_dispatch.specs.Answers.{act_of};
 ghost use Rattle.leaf_dispatch.specs.NoteRooms.{run_room};
 ghost use Rattle.leaf_dispatch.specs.BundleRooms.{count_of, words_of, payload_words, HasAdded};
 ghost use Rattle.leaf_table.specs.PageRooms.{is_spare, leaf_room};
+ghost use Rattle.leaf_dispatch.specs.Held.{held_by};
 ghost use Rattle.leaf_dispatch.specs.Running.{standing_of, run_seen, answered_with, IsAnswered, turn_of, act_in, made_in_run, kept_until, holds_room, IsUnderWay, IsRunOf, IsKept, CanTurn, HasTurned, LeafTurned};
 
 use crate::rooms::add_bundle;
 use bundles::Bundles;
 use export_pages::PageWords;
-use leaf_engine::{Event, Place, Run, RunTurn, Stage};
+use leaf_engine::{Event, HeldLock, Place, Run, RunTurn, Stage};
 use leaf_table::{AnyLeaf, Given, Step, leaf_of, step_leaf};
 use std::mem;
 use step_core::Bench;
@@ -272,6 +273,16 @@ fn words_of(kept: &mut Option<Running<'_>>) -> PageWords
         unreachable!()
     };
     leaf.into_words()
+}
+
+/// The locks that a kept run holds, the oldest first.
+pub fn held_of<'b>(kept: &'b Option<Running<'_>>) -> &'b [HeldLock]
+    ensures { result.now ≡ held_by (run_seen kept.now) }
+{
+    match kept {
+        Some(Running { run }) => run.held(),
+        None => &[],
+    }
 }
 
 /// Keeps no run any more.

@@ -10,14 +10,14 @@ ghost use Rattle.leaf_dispatch.specs.BundleRooms.{count_of, words_of, still_make
 ghost use Rattle.leaf_dispatch.specs.FirstLists.{AreFirstLists, AreFirstLists-prop};
 
 use crate::first_lists::FirstLists;
-use crate::guests::GuestAt;
+use crate::guests::{GuestAt, InGuest, next_step};
 use crate::rooms::{add_note, add_word, lines_bundles, lines_payloads, lines_room, longest};
-use crate::running::{Running, forget};
+use crate::running::{Running, forget, held_of};
 use crate::turns::{GuestTurn, LineTurn, acting, answer_exit, entered_or, turn_guest, turn_line};
 use bundles::Bundles;
 use export_pages::PageWords;
-use leaf_engine::{Event, Place, Processor, Turn, turns_in_pieces};
-use leaf_table::Given;
+use leaf_engine::{Event, HeldLock, Place, Processor, Turn, turns_in_pieces};
+use leaf_table::{Given, Step};
 use report_text::GuestNote;
 use std::alloc::Global;
 use step_core::Bench;
@@ -59,14 +59,18 @@ pub struct LpState<'a> {
 }
 
 impl<'a> LpState<'a> {
-    ghost use Rattle.std.specs.Prelude.{◌≡◌, ◌<◌, ◌^◌, ◌∷◌, None, Some, length, map, IfOk};
+    ghost use Rattle.std.specs.Prelude.{◌≡◌, ◌<◌, ◌^◌, ◌∷◌, None, Some, length, map, option_map, IfOk};
     ghost use Rattle.td_words.specs.Limits.{IsMachine};
     ghost use Rattle.leaf_engine.specs.OwnLists.{first_lp};
     ghost use Rattle.leaf_dispatch.specs.Guests.{note_seen};
     ghost use Rattle.leaf_dispatch.specs.Inside.{AreOperations, acting};
     ghost use Rattle.leaf_dispatch.specs.FirstLists.{AreFirstLists};
     ghost use Rattle.leaf_table.specs.Given.{given_in};
+    ghost use Rattle.leaf_table.specs.Steps.{step_seen};
+    ghost use Rattle.leaf_table.specs.Table.{code_in};
     ghost use Rattle.leaf_dispatch.specs.States.{seen_of, HasMoved};
+    ghost use Rattle.leaf_dispatch.specs.Held.{held_by};
+    ghost use Rattle.leaf_dispatch.specs.Due.{step_due, in_guest, step_held};
 
     /// At the first of its calls, with the lists of operations, what the run is given, and where the
     /// lists stand. All the memory is taken here that its replies need, what its guests can note and
@@ -157,6 +161,56 @@ impl<'a> LpState<'a> {
         ensures { result.now.made ≡ (seen_of self.now).beside.bundles }
     {
         &self.bundles
+    }
+
+    /// The step by which its guest makes its next event, once its VP.ENTER has given E back; none outside
+    /// guests.
+    pub fn next_step(&self) -> Option<Step>
+        ensures { option_map step_seen result ≡ step_due (code_in self.now.codes.now) (seen_of self.now) }
+    {
+        match &self.guest {
+            None => None,
+            Some(guest) => Some(next_step(guest, &self.cached)),
+        }
+    }
+
+    /// The guest that it is in.
+    pub fn guest(&self) -> Option<InGuest>
+        ensures { result ≡ option_map in_guest (seen_of self.now).guest }
+    {
+        match &self.guest {
+            None => None,
+            Some(guest) => Some(InGuest {
+                tdr: guest.tdr,
+                vp: guest.vp,
+                most: guest.most,
+                completed: guest.completed,
+            }),
+        }
+    }
+
+    /// The locks that the run of its call holds, the oldest first.
+    pub fn call_held(&self) -> &[HeldLock]
+        ensures { result.now ≡ held_by (seen_of self.now).run }
+    {
+        held_of(&self.run)
+    }
+
+    /// The locks that the run of its guest's step holds, the oldest first.
+    pub fn step_held(&self) -> &[HeldLock]
+        ensures { result.now ≡ step_held (seen_of self.now).guest }
+    {
+        match &self.guest {
+            None => &[],
+            Some(_) => held_of(&self.step_run),
+        }
+    }
+
+    /// Its cached translations, the oldest first.
+    pub fn cached(&self) -> &Tlb
+        ensures { result.now ≡ (seen_of self.now).beside.cached }
+    {
+        &self.cached
     }
 
     // The next event of the present line's own leaf.

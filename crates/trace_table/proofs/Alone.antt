@@ -45,9 +45,13 @@ plays-one (m ∷ ms) t u none h = by (eqb_tells m.list 0) (λ v g. plays-one ms 
             of (inl t) = t.0
             of (inr f) = absurd (f.1 refl)
 
-pub alone : (m : Machine) (own : List Taken) (words : List ℕ) → MergesTo m (own ∷ []) words → (t : Table) × PlaysTo no_table own t
-alone m own words h = (h.table, subst (λ (xs : List Taken). PlaysTo no_table xs h.table) (h.merge 0) (plays-one h.made no_table h.table (λ p ne. h.merge p ∙ none p ne) h.plays))
+-- the table where a merge of one list leads
+pub alone-at : (m : Machine) (own : List Taken) (words : List ℕ) (h : MergesTo m (own ∷ []) words) → PlaysTo no_table own h.table
+alone-at m own words h = subst (λ (xs : List Taken). PlaysTo no_table xs h.table) (h.merge 0) (plays-one h.made no_table h.table (λ p ne. h.merge p ∙ none p ne) h.plays)
   where
     none : (p : ℕ) → p ≢ 0 → slice_index_or (own ∷ []) p [] ≡ []
     none zero ne = absurd (ne refl)
     none (suc p) ne = refl
+
+pub alone : (m : Machine) (own : List Taken) (words : List ℕ) → MergesTo m (own ∷ []) words → (t : Table) × PlaysTo no_table own t
+alone m own words h = (h.table, alone-at m own words h)
