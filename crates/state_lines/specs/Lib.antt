@@ -1,0 +1,7 @@
+pub mod After
+pub mod Numbers
+pub mod Lines
+pub mod StateText
+pub mod WordText
+pub mod LpRead
+pub mod Laws

@@ -1,0 +1,88 @@
+-- The same of pages, read from the words of a machine by their addresses.
+use Rattle.std.specs.Prelude.{ℕ, ◌+◌, ◌-◌, ◌%◌, ◌==◌, if◌then◌else◌, List, [], Option, Some, None, slice_index}
+use Rattle.td_words.specs.declared.names.PageKind.{PageKind}
+use Rattle.td_words.specs.declared.names.PageKind.TheVariants as kind
+use Rattle.td_words.specs.declared.places.TheConstants.{TDR_LIFE, TDR_HKID, TDR_CHILDREN, TDR_TDCX_COUNT, TDR_TDCS, TDCS_OP, TDCS_EPOCH, TDCS_ENTERED, TDCS_MIG_EPOCH, TDCS_SESSION, TDCS_VP_COUNT, TDCS_STREAM_COUNT, VP_INDEX, VP_STATE, VP_ASSOCIATED, VP_LAST_EPOCH, VP_POSITION, STREAM_COUNTER}
+use Rattle.td_words.specs.Address.{pamt_at, word_at}
+use Rattle.td_words.specs.Packing.{Pamt, pamt_in}
+use Rattle.state_lines.specs.declared.seen.TdcsSeen.{TdcsSeen}
+use Rattle.state_lines.specs.declared.seen.TdSeen.{TdSeen}
+use Rattle.state_lines.specs.declared.seen.VcpuSeen.{VcpuSeen}
+use Rattle.state_lines.specs.declared.seen.StreamSeen.{StreamSeen}
+use Rattle.state_lines.specs.declared.seen.Content.{Content}
+use Rattle.state_lines.specs.declared.seen.Content.TheVariants as content
+use Rattle.state_lines.specs.Numbers.{life_of, op_of, vcpu_of}
+use Rattle.state_lines.specs.Lines.{page_text}
+use Rattle.state_lines.specs.StateText.{stands}
+
+-- a content word of a page
+abbrev pub word_in : List ℕ → (page index : ℕ) → ℕ
+word_in words p i = slice_index words (word_at p i)
+
+abbrev pub pamt_seen : List ℕ → ℕ → Option Pamt
+pamt_seen words p = pamt_in (slice_index words (pamt_at p))
+
+abbrev pub tdcs_seen : List ℕ → (page : ℕ) → TdcsSeen
+tdcs_seen words c =
+    let epoch = word_in words c TDCS_EPOCH in
+    record {
+      page = c;
+      op = op_of (word_in words c TDCS_OP);
+      epoch = epoch;
+      entered = word_in words c (TDCS_ENTERED + epoch % 2);
+      entered_before = word_in words c (TDCS_ENTERED + (1 - epoch % 2));
+      vcpus = word_in words c TDCS_VP_COUNT;
+      streams = word_in words c TDCS_STREAM_COUNT;
+      session = word_in words c TDCS_SESSION;
+      mig_epoch = word_in words c TDCS_MIG_EPOCH;
+    }
+
+abbrev pub tdcs_found : List ℕ → (tdr : ℕ) → Option TdcsSeen
+tdcs_found words t =
+    if word_in words t TDR_TDCX_COUNT == 0 then None
+    else stands (life_of (word_in words t TDR_LIFE)) (Some (tdcs_seen words (word_in words t TDR_TDCS % 65536))) None
+
+abbrev pub td_seen : List ℕ → ℕ → TdSeen
+td_seen words t = record {
+  life = life_of (word_in words t TDR_LIFE);
+  hkid = word_in words t TDR_HKID;
+  children = word_in words t TDR_CHILDREN;
+  tdcs = tdcs_found words t;
+}
+
+-- the logical processor with that number, where it isn't 0, less 1
+abbrev pub lp_in : ℕ → Option ℕ
+lp_in word = if word == 0 then None else Some (word - 1)
+
+abbrev pub vcpu_seen : List ℕ → ℕ → VcpuSeen
+vcpu_seen words v = record {
+  index = word_in words v VP_INDEX;
+  state = vcpu_of (word_in words v VP_STATE);
+  position = word_in words v VP_POSITION;
+  associated = lp_in (word_in words v VP_ASSOCIATED);
+  last_epoch = word_in words v VP_LAST_EPOCH;
+}
+
+abbrev pub stream_seen : List ℕ → ℕ → StreamSeen
+stream_seen words s = record { counter = word_in words s STREAM_COUNTER }
+
+abbrev pub content_in : List ℕ → (page owner : ℕ) → PageKind → Content
+content_in words p t kind.Tdr = content.Td (td_seen words p)
+content_in words p t kind.Tdvpr = stands (life_of (word_in words t TDR_LIFE)) (content.Vcpu (vcpu_seen words p)) content.Nothing
+content_in words p t kind.Migsc = stands (life_of (word_in words t TDR_LIFE)) (content.Stream (stream_seen words p)) content.Nothing
+content_in words p t _ = content.Nothing
+
+abbrev pub page_if : List ℕ → ℕ → Option Pamt → List ℕ
+page_if words p None = []
+page_if words p (Some m) = page_text p m (content_in words p m.owner m.kind)
+
+abbrev pub page_read : List ℕ → ℕ → List ℕ
+page_read words p = page_if words p (pamt_seen words p)
+
+-- the TD that a page is of
+abbrev pub owner_if : Option Pamt → ℕ
+owner_if None = 0
+owner_if (Some m) = m.owner
+
+abbrev pub owner_read : List ℕ → ℕ → ℕ
+owner_read words p = owner_if (pamt_seen words p)

@@ -1,0 +1,20 @@
+//! The lines of a machine's state: its pages with what they have, and its logical processors.
+//!
+//! Stands on `flat_core`, whose states these are, on `word_rules`, by which words show a state, and on
+//! `pamt_core`, which takes PAMT words apart. A layer above may use that `push_pages` reads the lines of a
+//! state's pages from words that show it (`words_tell_pages`), and what each other call adds to a text.
+#![tactic(auto)]
+
+mod laws;
+mod lines;
+mod lps;
+mod pages;
+mod seen;
+mod words;
+
+pub use laws::{lps_tell, states_go_on, words_tell_pages};
+pub use lines::{push_done, push_guest};
+pub use lps::{push_locks, push_translations};
+pub use pages::push_pages;
+pub use seen::{Content, Holder, StreamSeen, TdSeen, TdcsSeen, VcpuSeen};
+pub use words::owner_of;
