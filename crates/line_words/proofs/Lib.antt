@@ -1,4 +1,7 @@
 pub mod Pieces
 pub mod NextWords
-pub mod Far
+pub mod Printable
 pub mod Texts
+pub mod Names
+pub mod Decimals
+pub mod Runs

@@ -8,7 +8,7 @@ use Rattle.std.proofs.lemmas.Fmt.{decimal_by_steps}
 use Rattle.std.proofs.lemmas.List.{length-append, append-nil, append_assoc}
 use Rattle.std.proofs.lemmas.List.Elements.{All-nil, All-cons, All-head, All-tail}
 use Rattle.std.proofs.lemmas.List.Folds.{list_all-append}
-use Rattle.line_words.specs.Number.{digit, number, number_on}
+use Rattle.line_words.specs.Number.{digit, is_digit, number, number_on}
 use Rattle.line_words.specs.Words.{words, pieces, is_printable}
 use Rattle.line_words.specs.Lines.{words_text, line_text}
 
@@ -34,17 +34,14 @@ uncut p (x ∷ w) h =
 abbrev pub is_word_byte : ℕ → Bool
 is_word_byte b = nat_le 33 b && nat_le b 126
 
-abbrev pub is_digit : ℕ → Bool
-is_digit b = nat_le 48 b && nat_le b 57
-
 pub record IsWord (w : List ℕ) : Type 0 where
   pub bytes : list_all is_word_byte w ≡ true
   pub some : (length w == 0) ≡ false
 
-digit_in_word : (b : ℕ) → is_digit b ≡ true → is_word_byte b ≡ true
+pub digit_in_word : (b : ℕ) → is_digit b ≡ true → is_word_byte b ≡ true
 digit_in_word b h = grind arith
 
-unspaced : (b : ℕ) → is_word_byte b ≡ true → not (b == 32) ≡ true
+pub unspaced : (b : ℕ) → is_word_byte b ≡ true → not (b == 32) ≡ true
 unspaced b h = grind arith
 
 -- what decimal digits are
@@ -59,7 +56,7 @@ digit_is r h = grind arith
 is_digit_at : (r : ℕ) → r < 10 → is_digit (48 + r) ≡ true
 is_digit_at r h = grind arith
 
-one_digit : (m r : ℕ) → r < 10 → m * 10 + r < 2 ^ 64 → number_on 10 m ((48 + r) ∷ []) ≡ Some (m * 10 + r)
+pub one_digit : (m r : ℕ) → r < 10 → m * 10 + r < 2 ^ 64 → number_on 10 m ((48 + r) ∷ []) ≡ Some (m * 10 + r)
 one_digit m r small fits =
     let a : nat_lt r 10 ≡ true = grind arith in
     let b : nat_lt (m * 10 + r) (2 ^ 64) ≡ true = grind arith in
@@ -69,7 +66,7 @@ push_cases : (b : Bool) (m k : ℕ) (ds : List ℕ) (c : ℕ) → (number_on 10 
 push_cases true m k ds c ih h = ih h
 push_cases false m k ds c ih h = cc
 
-number_push : (m k : ℕ) (ds : List ℕ) (c : ℕ) → number_on 10 m ds ≡ Some k → number_on 10 m (ds ++ c ∷ []) ≡ number_on 10 k (c ∷ [])
+pub number_push : (m k : ℕ) (ds : List ℕ) (c : ℕ) → number_on 10 m ds ≡ Some k → number_on 10 m (ds ++ c ∷ []) ≡ number_on 10 k (c ∷ [])
 number_push m k [] c h = let e : m ≡ k = cc in ap (λ (x : ℕ). number_on 10 x (c ∷ [])) e
 number_push m k (x ∷ ds) c h = push_cases (nat_lt (digit x) 10 && nat_lt (m * 10 + digit x) (2 ^ 64)) (m * 10 + digit x) k ds c (number_push (m * 10 + digit x) k ds c) h
 
@@ -109,7 +106,7 @@ no_prefix false b = refl
 not_letter : (b : ℕ) → is_digit b ≡ true → (b == 120) ≡ false
 not_letter b h = grind arith
 
-number_of : (n : ℕ) (ds : List ℕ) → list_all is_digit ds ≡ true → (length ds == 0) ≡ false → number_on 10 0 ds ≡ Some n → number ds ≡ Some n
+pub number_of : (n : ℕ) (ds : List ℕ) → list_all is_digit ds ≡ true → (length ds == 0) ≡ false → number_on 10 0 ds ≡ Some n → number ds ≡ Some n
 number_of n [] h k e = cc
 number_of n (a ∷ []) h k e = e
 number_of n (a ∷ b ∷ ds) h k e =

@@ -9,6 +9,9 @@ digit c =
     else if nat_le 65 c && nat_le c 70 then c - 55
     else 99
 
+abbrev pub is_digit : ℕ → Bool
+is_digit b = nat_le 48 b && nat_le b 57
+
 -- the number so far, and the digits that follow
 abbrev pub number_on : ℕ → ℕ → List ℕ → Option ℕ
 number_on base n [] = Some n

@@ -1,6 +1,6 @@
 //! The mnemonics of calls.
 
-ghost use Rattle.std.specs.Prelude.{◌≡◌, map};
+ghost use Rattle.std.specs.Prelude.{ℕ, List, ◌≡◌, ◌≢◌, ◌∷◌, ◌++◌, None, map, MatchOption};
 ghost use Rattle.std.specs.Str.{bytes_eq};
 ghost use Rattle.line_words.specs.Mnemonics.{mnemonic_in, mnemonics};
 
@@ -124,10 +124,27 @@ const MNEMONICS: [(&str, CallName, usize, usize); 46] = [
 ];
 
 /// Whether a word is that name.
+#[inline(always)]
+#[tactic(auto, using(crate::proofs::Names::same_length, crate::proofs::Names::other_length))]
 pub fn is(word: &[u8], name: &str) -> bool
     ensures { result ≡ bytes_eq word.now name.now }
 {
-    word == name.as_bytes()
+    // Where a name is a constant its length makes the test of a front a few comparisons.
+    word.len() == name.len() && word.starts_with(name.as_bytes())
+}
+
+/// What stands behind a name and the space after it. None exactly where a text doesn't begin with these.
+#[tactic(auto, using(crate::proofs::Names::name_before))]
+pub fn behind_name<'a>(name: &str, text: &'a [u8]) -> Option<&'a [u8]>
+    ensures cut { MatchOption result Unit (λ rest. text.now ≡ name.now ++ 32 ∷ rest.now) }
+    ensures none { result ≡ None → (rest : List ℕ) → text.now ≢ name.now ++ 32 ∷ rest }
+{
+    let end = name.len();
+    if end < text.len() && text.starts_with(name.as_bytes()) && text[end] == b' ' {
+        Some(&text[end + 1..])
+    } else {
+        None
+    }
 }
 
 fn find(table: &[(&str, CallName, usize, usize)], word: &[u8]) -> Option<Mnemonic>

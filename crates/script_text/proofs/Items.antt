@@ -6,7 +6,8 @@ use Rattle.std.specs.Fmt.{decimal}
 use Rattle.std.proofs.lemmas.Bool.{and_parts, not-true}
 use Rattle.std.proofs.lemmas.List.{length-append, append_assoc, append-nil}
 use Rattle.std.proofs.lemmas.List.Elements.{All-head, All-tail}
-use Rattle.line_words.proofs.Texts.{is_digit, decimal_is, number_decimal, implied}
+use Rattle.line_words.specs.Number.{is_digit}
+use Rattle.line_words.proofs.Texts.{decimal_is, number_decimal, implied}
 use Rattle.script_text.specs.Schedule.{item_of, turns_in, written_of, schedule_of}
 
 -- a number has no star

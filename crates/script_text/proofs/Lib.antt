@@ -9,3 +9,5 @@ pub mod InRange
 pub mod FiveWords
 pub mod Ordered
 pub mod Short
+pub mod Names
+pub mod Eights

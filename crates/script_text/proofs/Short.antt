@@ -25,7 +25,7 @@ item_short b low high =
     let zero : 0 + (b - 48) ≡ b - 48 = omega arith in
     rw (star, below, above, ten, big) (ap (λ n. Some (record { lp = n; times = 1 })) zero)
 
-short_turns : (lps b : ℕ) (rest : List ℕ) → 48 ≤ b → b ≤ 57 → b - 48 < lps → IsCutTo lps (b ∷ 32 ∷ rest) (Some (record { lp = b - 48; times = 1 })) rest
+pub short_turns : (lps b : ℕ) (rest : List ℕ) → 48 ≤ b → b ≤ 57 → b - 48 < lps → IsCutTo lps (b ∷ 32 ∷ rest) (Some (record { lp = b - 48; times = 1 })) rest
 short_turns lps b rest low high inside =
     let space : (b == 32) ≡ false = grind arith in
     let e : ltb (b - 48) lps ≡ true = grind arith in

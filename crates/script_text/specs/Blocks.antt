@@ -94,6 +94,16 @@ operation_of word =
     else if bytes_eq word (codes "vmcall") then Some op.Vmcall
     else None
 
+abbrev pub name_of : OpName → List ℕ
+name_of op.Set = codes "set"
+name_of op.Secret = codes "secret"
+name_of op.Add = codes "add"
+name_of op.Load = codes "load"
+name_of op.Store = codes "store"
+name_of op.Accept = codes "accept"
+name_of op.Rtmr = codes "rtmr"
+name_of op.Vmcall = codes "vmcall"
+
 abbrev pub first_operand_of : OpName → Operand
 first_operand_of op.Accept = operand.PageGpa
 first_operand_of op.Rtmr = operand.RtmrIndex
@@ -144,3 +154,7 @@ guest_op_of op.Store register gpa = guest.Store register gpa
 guest_op_of op.Accept gpa none = guest.Accept gpa
 guest_op_of op.Rtmr index none = guest.Rtmr index
 guest_op_of op.Vmcall register none = guest.Vmcall register
+
+-- the operation of a name and those numbers, or the first reason why there is none
+abbrev pub operation_with : OpName → List (Option ℕ) → Result GuestOp Reason
+operation_with o ns = operands_of o ns >>= (λ t. Ok (guest_op_of o (argument ns 0) (argument ns 1)))

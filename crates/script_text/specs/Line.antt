@@ -1,5 +1,5 @@
 -- What one line says, by its first word and the numbers behind it, or the first reason why it is bad.
-use Rattle.std.specs.Prelude.{ℕ, List, Option, Some, None, is_some, Result, Ok, Err, Bool, true, false, not, ◌==◌, ◌&&◌, nat_lt, nat_le, slice_index_or, length, if◌then◌else◌, codes}
+use Rattle.std.specs.Prelude.{ℕ, List, [], ◌∷◌, map, Option, Some, None, is_some, Result, Ok, Err, Bool, true, false, not, ◌==◌, ◌&&◌, nat_lt, nat_le, slice_index_or, length, if◌then◌else◌, codes}
 use Rattle.std.specs.List.{list_all}
 use Rattle.std.specs.Str.{bytes_eq}
 use Rattle.td_words.specs.declared.calls.Call.TheVariants as calls
@@ -9,6 +9,7 @@ use Rattle.line_words.specs.declared.mnemonics.CallName.{CallName}
 use Rattle.line_words.specs.declared.mnemonics.CallName.TheVariants as name
 use Rattle.line_words.specs.declared.mnemonics.Mnemonic.{Mnemonic}
 use Rattle.line_words.specs.Mnemonics.{mnemonics, mnemonic_in}
+use Rattle.line_words.specs.Number.{number}
 use Rattle.script_text.specs.declared.faults.Reason.{Reason}
 use Rattle.script_text.specs.declared.faults.Reason.TheVariants as reason
 use Rattle.script_text.specs.declared.operations.OpName.{OpName}
@@ -150,6 +151,11 @@ unfoldable pub operation_line_of : Option OpName → List (Option ℕ) → Resul
 operation_line_of None ns = Err reason.Word
 operation_line_of (Some o) ns = operands_of o ns >>= (λ t. Ok (entry.Operation (guest_op_of o (argument ns 0) (argument ns 1))))
 
+-- what words say of which the first is the name of an operation
+abbrev pub operation_in : List (List ℕ) → Result Entry Reason
+operation_in [] = Err reason.Word
+operation_in (w ∷ ws) = operation_line_of (operation_of w) (map number ws)
+
 -- a later line outside blocks; the items of a schedule line aren't looked at here
 abbrev pub outside_of : Machine → List Bool → List Bool → Option Keyword → List (Option ℕ) → Result Entry Reason
 outside_of m had listed (Some keyword.Machine) ns = Err reason.Machine
@@ -158,6 +164,11 @@ outside_of m had listed (Some keyword.Schedule) ns = Ok (entry.Schedule m.lps)
 outside_of m had listed (Some keyword.Code) ns = list_of m listed ns
 outside_of m had listed (Some keyword.Lp) ns = block_of m had ns
 outside_of m had listed None ns = Err reason.Word
+
+-- a list of operations is open
+abbrev pub is_list : Option Block → Bool
+is_list (Some (block.Code place)) = true
+is_list _ = false
 
 -- a processor's block has calls, a list operations
 abbrev pub named_of : Block → List ℕ → List (Option ℕ) → Result Entry Reason

@@ -44,6 +44,10 @@ turns_in lps word = in_range_of lps (item_of word)
 abbrev pub IsCutTo : ℕ → List ℕ → Option Turns → List ℕ → Type 0
 IsCutTo lps text turns more = map (turns_in lps) (words text) ≡ turns ∷ map (turns_in lps) (words more)
 
+-- a text is items of one turn each, of those processors, and more text behind them
+abbrev pub AreCutTo : ℕ → List ℕ → List ℕ → List ℕ → Type 0
+AreCutTo lps text items more = map (turns_in lps) (words text) ≡ map (λ lp. Some (record { lp = lp; times = 1 })) items ++ map (turns_in lps) (words more)
+
 -- the reason of a line that can't be written for that reason: NUMBER of any before RANGE of any, and then that
 abbrev pub first_reason : ℕ → List (List ℕ) → Reason → Reason
 first_reason lps items r =

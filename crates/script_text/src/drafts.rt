@@ -1,17 +1,19 @@
 //! What the lines so far say.
 
-ghost use Rattle.std.specs.Prelude.{◌≡◌, map, replicate, [], ◌∷◌, slice_set, true, Ok, IfOk};
-ghost use Rattle.line_words.specs.Words.{words};
+ghost use Rattle.std.specs.Prelude.{◌≡◌, map, replicate, [], ◌∷◌, slice_set, true, false, ◌&&◌, is_some, Ok, IfOk};
+ghost use Rattle.line_words.specs.Words.{words, is_printable, is_comment};
 ghost use Rattle.script_text.specs.Counted.{IsAnsweredAt};
 ghost use Rattle.script_text.specs.Blocks.{with_slot};
+ghost use Rattle.script_text.specs.Line.{is_list};
 ghost use Rattle.script_text.specs.Reading.{draft_seen, with_call, called_of, with_op, closed_of, entered_of, worded_of, line_of};
 
 use crate::code_blocks::{CodePlace, list_place};
 use crate::faults::{Reason, Taken, bad};
 use crate::fields::field_in;
 use crate::lines::{Block, Entry, Stage, entry_at, is_marked};
+use crate::operations::short_operation;
 use crate::schedules::schedule_line;
-use line_words::{first_numbers, is_comment, is_printable, next_word};
+use line_words::{Line, first_numbers, is_skipped, next_word, without_front_spaces};
 use std::alloc::{AllocError, Global};
 use std::mem;
 use td_words::{Call, Code, GuestOp};
@@ -143,31 +145,56 @@ fn enter(draft: &mut Draft, alloc: Global, number: u64, entry: Entry, text: &[u8
     }
 }
 
-// A line's first word, and what stands behind it.
+// Whether a list of operations is open, behind a machine.
+fn is_in_list(stage: &Stage) -> bool
+    ensures { result ≡ (is_some stage.now.machine && is_list stage.now.block) }
+{
+    stage.machine.is_some() && matches!(stage.block, Some(Block::Code(_)))
+}
+
+// A line's first word, and what stands behind it. It isn't inlined, so that what it clears as it begins
+// costs nothing where a line is an operation.
+#[inline(never)]
 #[tactic(auto, unfolding(crate::specs::Reading::worded_of), using(crate::proofs::FiveWords::five_suffice))]
 fn take_words(draft: &mut Draft, alloc: Global, number: u64, word: &[u8], text: &[u8]) -> Taken
+    requires { is_comment word.now ≡ false }
     ensures { IsAnsweredAt number (worded_of (draft_seen draft.old) (word.now ∷ words text.now)) (draft_seen draft.new) result }
 {
-    if is_comment(word) {
-        return Ok(());
-    }
-    let numbers = first_numbers(alloc, text)?;
-    match entry_at(&draft.stage, &draft.listed, word, &numbers) {
+    let mut numbers = [None; 5];
+    let count = first_numbers(text, &mut numbers);
+    match entry_at(&draft.stage, &draft.listed, word, &numbers[..count]) {
         Ok(entry) => enter(draft, alloc, number, entry, text),
         Err(reason) => Err(bad(number, reason)),
     }
 }
 
-/// Takes in one line. After a fault the draft isn't read again.
-#[tactic(auto, unfolding(crate::specs::Reading::line_of, crate::specs::Reading::worded_of))]
-pub fn take_line(draft: &mut Draft, alloc: Global, number: u64, line: &[u8]) -> Taken
-    ensures { IsAnsweredAt number (line_of (draft_seen draft.old) line.now) (draft_seen draft.new) result }
+// A line without the spaces before its first word.
+#[tactic(auto, unfolding(crate::specs::Reading::worded_of))]
+fn take_text(draft: &mut Draft, alloc: Global, number: u64, text: &[u8]) -> Taken
+    ensures { IsAnsweredAt number (worded_of (draft_seen draft.old) (words text.now)) (draft_seen draft.new) result }
 {
-    if !is_printable(line) {
+    if is_in_list(&draft.stage) {
+        if let Some(op) = short_operation(text) {
+            return add_op(&mut draft.ops, number, op);
+        }
+    }
+    if is_skipped(text) {
+        return Ok(());
+    }
+    match next_word(text) {
+        None => Ok(()),
+        Some((word, rest)) => take_words(draft, alloc, number, word, rest),
+    }
+}
+
+/// Takes in one line. After a fault the draft isn't read again.
+#[tactic(auto, unfolding(crate::specs::Reading::line_of))]
+pub fn take_line(draft: &mut Draft, alloc: Global, number: u64, line: Line<'_>) -> Taken
+    requires { line.is_printable ≡ is_printable line.bytes.now }
+    ensures { IsAnsweredAt number (line_of (draft_seen draft.old) line.entry.bytes.now) (draft_seen draft.new) result }
+{
+    if !line.is_printable {
         return Err(bad(number, Reason::Byte));
     }
-    match next_word(line) {
-        None => Ok(()),
-        Some((word, text)) => take_words(draft, alloc, number, word, text),
-    }
+    take_text(draft, alloc, number, without_front_spaces(line.bytes))
 }

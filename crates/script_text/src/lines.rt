@@ -9,7 +9,7 @@ ghost use Rattle.script_text.specs.Line.{keyword_of, machine_in, machine_of, blo
 use crate::code_blocks::{CodePlace, code_line};
 use crate::faults::Reason;
 use crate::fields::{fits_slot, slot_at, slot_place};
-use crate::operations::{OpName, check_operands, guest_op, operation_at};
+use crate::operations::{OpName, operation_at, operation_with};
 use line_words::{CallName, Mnemonic, is, mnemonic_at};
 use td_words::{Call, GuestOp, Machine};
 
@@ -310,11 +310,13 @@ fn list_line(machine: Machine, listed: &[bool], numbers: &[Option<u64>]) -> Said
 fn operation_line(op: Option<OpName>, numbers: &[Option<u64>]) -> Said
     ensures { result ≡ operation_line_of op numbers.now }
 {
-    let op = op.ok_or(Reason::Word)?;
-    check_operands(op, numbers)?;
-    // Operands in range fit the types of the operation's fields.
-    let named = guest_op(op, argument(numbers, 0), argument(numbers, 1));
-    Ok(Entry::Operation(named))
+    match op {
+        None => Err(Reason::Word),
+        Some(op) => match operation_with(op, numbers) {
+            Ok(named) => Ok(Entry::Operation(named)),
+            Err(reason) => Err(reason),
+        },
+    }
 }
 
 fn outside_at(

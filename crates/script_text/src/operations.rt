@@ -1,11 +1,14 @@
 //! The words of guest operations.
 
-ghost use Rattle.std.specs.Prelude.{◌≡◌, true};
-ghost use Rattle.script_text.specs.Blocks.{operation_of, first_operand_of, second_operand_of, is_operand, fit_operands, operands_of, guest_op_of};
+ghost use Rattle.std.specs.Prelude.{◌≡◌, ◌∷◌, ◌++◌, [], Some, None, Ok, is_some, map, nat_lt, if◌then◌else◌, MatchOption};
+ghost use Rattle.line_words.specs.Number.{number};
+ghost use Rattle.line_words.specs.Words.{words};
+ghost use Rattle.script_text.specs.Blocks.{operation_of, name_of, second_operand_of, is_operand, fit_operands, guest_op_of, operation_with};
+ghost use Rattle.script_text.specs.Line.{operation_in};
 
 use crate::faults::Reason;
-use crate::lines::{are_numbers, argument, check_count};
-use line_words::is;
+use crate::lines::{Entry, are_numbers, argument, check_count};
+use line_words::{behind_name, is, next_number};
 use td_words::GuestOp;
 
 /// The name of a guest operation.
@@ -63,25 +66,13 @@ pub fn operation_at(word: &[u8]) -> Option<OpName>
     }
 }
 
-fn first_operand(op: OpName) -> Operand
-    ensures { result ≡ first_operand_of op }
+// Whether an operation has a second operand.
+fn has_second(op: OpName) -> bool
+    ensures { result ≡ is_some (second_operand_of op) }
 {
     match op {
-        OpName::Accept => Operand::PageGpa,
-        OpName::Rtmr => Operand::RtmrIndex,
-        _ => Operand::Register,
-    }
-}
-
-fn second_operand(op: OpName) -> Option<Operand>
-    ensures { result ≡ second_operand_of op }
-{
-    match op {
-        OpName::Set => Some(Operand::Value),
-        OpName::Secret => Some(Operand::SecretWord),
-        OpName::Add => Some(Operand::Register),
-        OpName::Load | OpName::Store => Some(Operand::WordGpa),
-        _ => None,
+        OpName::Accept | OpName::Rtmr | OpName::Vmcall => false,
+        _ => true,
     }
 }
 
@@ -98,55 +89,155 @@ fn is_operand(operand: Operand, number: u64) -> bool
     }
 }
 
-/// Whether an operation's words behind the first may be those numbers, or the first reason why not.
-pub fn check_operands(op: OpName, numbers: &[Option<u64>]) -> Result<(), Reason>
-    ensures { result ≡ operands_of op numbers.now }
+// A number, where it is in range.
+fn operand_in(operand: Operand, number: u64) -> Option<u64>
+    ensures { result ≡ (if is_operand operand number then Some number else None) }
 {
-    let second = second_operand(op);
-    check_count(numbers, if second.is_some() { 2 } else { 1 })?;
+    if is_operand(operand, number) {
+        Some(number)
+    } else {
+        None
+    }
+}
+
+fn register_in(number: u64) -> Option<u8>
+    ensures { result ≡ (if nat_lt number 8 then Some number else None) }
+{
+    if is_operand(Operand::Register, number) {
+        Some(number as u8)
+    } else {
+        None
+    }
+}
+
+fn secret_in(number: u64) -> Option<u16>
+    ensures { result ≡ (if nat_lt number 512 then Some number else None) }
+{
+    if is_operand(Operand::SecretWord, number) {
+        Some(number as u16)
+    } else {
+        None
+    }
+}
+
+// The operation of that name and those operands, where these are in range. The second one doesn't count
+// where the operation has one.
+fn ranged_operation(op: OpName, first: u64, second: u64) -> Option<GuestOp>
+    ensures { result ≡ (if fit_operands op first second then Some (guest_op_of op first second) else None) }
+{
+    match op {
+        OpName::Set => {
+            let register = register_in(first)?;
+            Some(GuestOp::Set {
+                register,
+                value: second,
+            })
+        }
+        OpName::Secret => {
+            let register = register_in(first)?;
+            let number = secret_in(second)?;
+            Some(GuestOp::Secret { register, number })
+        }
+        OpName::Add => {
+            let register = register_in(first)?;
+            let other = register_in(second)?;
+            Some(GuestOp::Add { register, other })
+        }
+        OpName::Load => {
+            let register = register_in(first)?;
+            let gpa = operand_in(Operand::WordGpa, second)?;
+            Some(GuestOp::Load { register, gpa })
+        }
+        OpName::Store => {
+            let register = register_in(first)?;
+            let gpa = operand_in(Operand::WordGpa, second)?;
+            Some(GuestOp::Store { register, gpa })
+        }
+        OpName::Accept => {
+            let gpa = operand_in(Operand::PageGpa, first)?;
+            Some(GuestOp::Accept { gpa })
+        }
+        OpName::Rtmr => {
+            let index = operand_in(Operand::RtmrIndex, first)?;
+            Some(GuestOp::Rtmr { index: index as u8 })
+        }
+        OpName::Vmcall => {
+            let register = register_in(first)?;
+            Some(GuestOp::Vmcall { register })
+        }
+    }
+}
+
+/// The operation of that name whose words behind the first are those numbers, or the first reason why
+/// there is none.
+pub fn operation_with(op: OpName, numbers: &[Option<u64>]) -> Result<GuestOp, Reason>
+    ensures { result ≡ operation_with op numbers.now }
+{
+    check_count(numbers, if has_second(op) { 2 } else { 1 })?;
     if !are_numbers(numbers) {
         return Err(Reason::Number);
     }
-    let fits_second = match second {
-        None => true,
-        Some(operand) => is_operand(operand, argument(numbers, 1)),
-    };
-    if !(is_operand(first_operand(op), argument(numbers, 0)) && fits_second) {
-        return Err(Reason::Range);
-    }
-    Ok(())
+    ranged_operation(op, argument(numbers, 0), argument(numbers, 1)).ok_or(Reason::Range)
 }
 
-/// The operation of that name and those operands.
-pub fn guest_op(op: OpName, first: u64, second: u64) -> GuestOp
-    requires { fit_operands op first second ≡ true }
-    ensures { result ≡ guest_op_of op first second }
+// The numbers that a text's words are, where they are as many as the operation has operands; 0 where it
+// has no second one. None tells nothing.
+fn operand_numbers(op: OpName, text: &[u8]) -> Option<(u64, u64)>
+    ensures { MatchOption result Unit (λ n. map number (words text.now) ≡ (if is_some (second_operand_of op) then Some n.0 ∷ Some n.1 ∷ [] else Some n.0 ∷ [])) }
 {
-    match op {
-        OpName::Set => GuestOp::Set {
-            register: first as u8,
-            value: second,
-        },
-        OpName::Secret => GuestOp::Secret {
-            register: first as u8,
-            number: second as u16,
-        },
-        OpName::Add => GuestOp::Add {
-            register: first as u8,
-            other: second as u8,
-        },
-        OpName::Load => GuestOp::Load {
-            register: first as u8,
-            gpa: second,
-        },
-        OpName::Store => GuestOp::Store {
-            register: first as u8,
-            gpa: second,
-        },
-        OpName::Accept => GuestOp::Accept { gpa: first },
-        OpName::Rtmr => GuestOp::Rtmr { index: first as u8 },
-        OpName::Vmcall => GuestOp::Vmcall {
-            register: first as u8,
-        },
+    let (number, rest) = next_number(text)?;
+    let first = number?;
+    if has_second(op) {
+        let second = last_number(rest)?;
+        Some((first, second))
+    } else if rest.is_empty() {
+        Some((first, 0))
+    } else {
+        None
     }
+}
+
+// The one number that a text's words are. None tells nothing.
+fn last_number(text: &[u8]) -> Option<u64>
+    ensures { MatchOption result Unit (λ n. map number (words text.now) ≡ Some n ∷ []) }
+{
+    let (number, rest) = next_number(text)?;
+    if rest.is_empty() { number } else { None }
+}
+
+// The operation whose name a text begins with, and what stands behind the space after that. None tells
+// nothing. Those come first that lists have most of.
+fn named_operation(text: &[u8]) -> Option<(OpName, &[u8])>
+    ensures { MatchOption result Unit (λ x. text.now ≡ name_of x.0 ++ 32 ∷ x.1.now) }
+{
+    if let Some(rest) = behind_name("load", text) {
+        Some((OpName::Load, rest))
+    } else if let Some(rest) = behind_name("store", text) {
+        Some((OpName::Store, rest))
+    } else if let Some(rest) = behind_name("add", text) {
+        Some((OpName::Add, rest))
+    } else if let Some(rest) = behind_name("set", text) {
+        Some((OpName::Set, rest))
+    } else if let Some(rest) = behind_name("vmcall", text) {
+        Some((OpName::Vmcall, rest))
+    } else if let Some(rest) = behind_name("secret", text) {
+        Some((OpName::Secret, rest))
+    } else if let Some(rest) = behind_name("accept", text) {
+        Some((OpName::Accept, rest))
+    } else if let Some(rest) = behind_name("rtmr", text) {
+        Some((OpName::Rtmr, rest))
+    } else {
+        None
+    }
+}
+
+/// The operation that a text says, where it begins with its name, and no reason holds that it is none.
+/// None tells nothing.
+#[tactic(auto, using(crate::proofs::Names::said))]
+pub fn short_operation(text: &[u8]) -> Option<GuestOp>
+    ensures { MatchOption result Unit (λ g. operation_in (words text.now) ≡ Ok (Entry.Operation g)) }
+{
+    let (op, rest) = named_operation(text)?;
+    let (first, second) = operand_numbers(op, rest)?;
+    ranged_operation(op, first, second)
 }

@@ -1,14 +1,15 @@
 //! The items of schedule lines.
 
-ghost use Rattle.std.specs.Prelude.{◌≡◌, ◌<◌, [], Some, is_some, length, map, MatchOption};
+ghost use Rattle.std.specs.Prelude.{◌≡◌, ◌<◌, ◌≤◌, [], Some, is_some, length, map, drop, IfOk, MatchOption};
 ghost use Rattle.std.specs.List.{list_all};
 ghost use Rattle.line_words.specs.Number.{number};
 ghost use Rattle.line_words.specs.Words.{words};
 ghost use Rattle.script_text.specs.Counted.{IsAnsweredAt};
-ghost use Rattle.script_text.specs.Schedule.{item_from, item_of, in_range_of, turns_in, with_turns, written_of, IsCutTo, first_reason, schedule_of};
+ghost use Rattle.script_text.specs.Schedule.{item_from, item_of, in_range_of, turns_in, with_turns, written_of, IsCutTo, AreCutTo, first_reason, schedule_of};
 
 use crate::faults::{Reason, ScriptFault, Taken, bad};
 use line_words::{next_word, number, place_of};
+use std::alloc::AllocError;
 
 /// So many turns of a processor, one after the other.
 #[derive(Clone, Copy, Debug, PartialEq, Eq)]
@@ -130,7 +131,42 @@ fn next_turns(lps: u8, text: &[u8]) -> Option<(Option<Turns>, &[u8])>
     Some((turns_of(lps, item_at(word)), more))
 }
 
-fn write_items(schedule: &mut Vec<u8>, line: u64, lps: u8, text: &[u8]) -> Taken
+// The processors of eight items of one digit, each with a space behind it, where a text begins with
+// these. None tells nothing. Without a way out of the loop they are tested at once.
+#[tactic(auto, using(crate::proofs::Eights::eight_cut))]
+fn eight_items(lps: u8, text: &[u8]) -> Option<[u8; 8]>
+    requires { 16 ≤ length text.now }
+    ensures { MatchOption result Unit (λ items. AreCutTo lps text.now items (drop 16 text.now)) }
+{
+    let digits = if lps < 10 { lps } else { 10 };
+    let mut items = [0; 8];
+    let mut is_good = true;
+    for place in 0..8 {
+        let item = text[2 * place].wrapping_sub(b'0');
+        is_good &= item < digits;
+        is_good &= text[2 * place + 1] == b' ';
+        items[place] = item;
+    }
+    if is_good { Some(items) } else { None }
+}
+
+// Writes items by eights, as long as they are that short and there is room, and answers what stands
+// behind them.
+fn write_eights<'a>(schedule: &mut Vec<u8>, lps: u8, text: &'a [u8]) -> Result<&'a [u8], AllocError>
+    ensures { IfOk result (λ rest. written_of schedule.old.items (map (turns_in lps) (words text.now)) ≡ written_of schedule.new.items (map (turns_in lps) (words rest.now))) }
+{
+    let mut rest = text;
+    while rest.len() >= 16 && schedule.len() + 8 <= MOST_ITEMS {
+        let Some(items) = eight_items(lps, rest) else {
+            return Ok(rest);
+        };
+        schedule.extend_from_slice(&items)?;
+        rest = &rest[16..];
+    }
+    Ok(rest)
+}
+
+fn write_singly(schedule: &mut Vec<u8>, line: u64, lps: u8, text: &[u8]) -> Taken
     ensures { IsAnsweredAt line (written_of schedule.old.items (map (turns_in lps) (words text.now))) schedule.new.items result }
 {
     let mut rest = text;
@@ -142,6 +178,15 @@ fn write_items(schedule: &mut Vec<u8>, line: u64, lps: u8, text: &[u8]) -> Taken
         rest = more;
     }
     Ok(())
+}
+
+fn write_items(schedule: &mut Vec<u8>, line: u64, lps: u8, text: &[u8]) -> Taken
+    ensures { IsAnsweredAt line (written_of schedule.old.items (map (turns_in lps) (words text.now))) schedule.new.items result }
+{
+    match write_eights(schedule, lps, text) {
+        Ok(rest) => write_singly(schedule, line, lps, rest),
+        Err(AllocError) => Err(ScriptFault::OutOfMemory),
+    }
 }
 
 fn first_reason(lps: u8, text: &[u8], reason: Reason) -> Reason

@@ -11,7 +11,7 @@ use crate::drafts::{Draft, take_line};
 use crate::faults::{Reason, ScriptFault, bad};
 use crate::fields::none_named;
 use crate::lines::Stage;
-use line_words::first_line;
+use line_words::next_line;
 use std::alloc::Global;
 use std::marker::Model;
 use td_words::{Call, Code, Machine};
@@ -74,10 +74,10 @@ fn read_lines(alloc: Global, bytes: &[u8]) -> Result<Script, ScriptFault>
     };
     let mut number = 1;
     let mut rest = bytes;
-    while let Some((line, more)) = first_line(rest) {
+    while let Some(line) = next_line(rest) {
         take_line(&mut draft, alloc, number, line)?;
         number += 1;
-        rest = more;
+        rest = line.rest;
     }
     ended(draft, number, rest)
 }

@@ -9,13 +9,13 @@ pub returns-in_err-take_line : goal.returns-in_err-take_line
 returns-in_err-take_line c =
     let p = err_from_is_err_and c.from_residual.result c.from_residual.ensures.1 in
     rw (p.1, p.2)
-    (bad_line (draft_seen c.loop-line.draft) (draft_seen c.take_line.new.draft) c.loop-line.number c.loop-line.rest.now c.in-Some.line.now c.in-Some.more.now c.in_err-take_line.field-0.0
+    (bad_line (draft_seen c.loop-line.draft) (draft_seen c.take_line.new.draft) c.loop-line.number c.loop-line.rest.now c.in-Some.line.bytes.now c.in-Some.line.rest.now c.in_err-take_line.field-0.0
     (read_from nothing_yet 1 (pieces c.args.bytes.now)) c.in-Some.ensures.cut c.loop-line.invariant.so_far c.in_err-take_line.ensures)
 
 pub loop-line-preserved : goal.loop-line-preserved
 loop-line-preserved c = record {
   so_far =
-      sym (good_line (draft_seen c.loop-line.draft) (draft_seen c.take_line.new.draft) c.loop-line.number c.loop-line.rest.now c.in-Some.line.now c.in-Some.more.now c.in-Some.ensures.cut c.in_ok-take_line.ensures)
+      sym (good_line (draft_seen c.loop-line.draft) (draft_seen c.take_line.new.draft) c.loop-line.number c.loop-line.rest.now c.in-Some.line.bytes.now c.in-Some.line.rest.now c.in-Some.ensures.cut c.in_ok-take_line.ensures)
       ∙ c.loop-line.invariant.so_far;
   few = omega (arith, c.in-Some.ensures.shorter);
 }

@@ -1,7 +1,7 @@
 use Rattle.std.proofs.Common.{◌≡◌, length, map}
 use Rattle.line_words.specs.Words.{words}
 use Rattle.script_text.specs.Schedule.{turns_in, written_of}
-use Rattle.script_text.proofs.schedules.write_items.Given as goal
+use Rattle.script_text.proofs.schedules.write_singly.Given as goal
 
 -- the words that are left go on from the schedule so far
 abbrev pub invariant-loop-turns : goal.invariant-loop-turns
