@@ -1,5 +1,5 @@
 -- Benches that were taken in: the lists that are kept, and each one's place among them.
-use Rattle.std.proofs.Common.{◌≡◌, refl, sym, ◌∙◌, ap, subst, ℕ, zero, suc, ◌<◌, ◌≤◌, List, [], ◌∷◌, ◌++◌, length, get_or, slice_index_or, arith, append-nil, append_assoc}
+use Rattle.std.proofs.Common.{◌≡◌, refl, sym, ◌∙◌, ap, subst, ℕ, zero, suc, ◌+◌, ◌<◌, ◌≤◌, List, [], ◌∷◌, ◌++◌, length, get_or, slice_index_or, arith, append-nil, append_assoc}
 use Rattle.std.specs.List.{All}
 use Rattle.std.proofs.lemmas.List.{length_push}
 use Rattle.std.proofs.lemmas.List.Elements.{All-head, All-tail}
@@ -7,7 +7,7 @@ use Rattle.step_core.specs.declared.items.Taken.{Taken}
 use Rattle.trace_table.specs.Benches.{BenchSeen, bench_of, has_one_out, has_taken_in}
 use Rattle.leaf_dispatch.specs.declared.states.LpState.{LpState}
 use Rattle.lp_threads.specs.declared.lanes.Lane.{Lane}
-use Rattle.run_texts.specs.Lanes.{benches_of, has_out, with_all}
+use Rattle.run_texts.specs.Lanes.{benches_of, AreInPlace, has_out, with_all}
 
 -- the lists of benches, one behind another
 abbrev pub lists_in : List BenchSeen → List (List Taken)
@@ -56,6 +56,11 @@ none-beyond (b ∷ bs) zero h each = absurd (omega arith)
 none-beyond (b ∷ bs) (suc k) h each =
     let one = All-head HasOne b bs each in
     subst (λ (ls : List (List Taken)). slice_index_or (ls ++ lists_in bs) (suc k) [] ≡ []) (sym one.1) (none-beyond bs k (omega arith) (All-tail HasOne b bs each))
+
+-- one lane more, which has the next number
+pub in-place-more : (n : ℕ) (lanes : List (Lane LpState)) (x : Lane LpState) → AreInPlace n lanes → x.lp ≡ n + length lanes → AreInPlace n (lanes ++ x ∷ [])
+in-place-more n [] x h e = (omega (arith, e), tt)
+in-place-more n (a ∷ lanes) x h e = (h.0, in-place-more (suc n) lanes x h.1 (omega (arith, e)))
 
 -- one more bench out
 pub out-more : {A : Type 0} (b now new : BenchSeen) (ys : List A) (y : A) → now ≡ has_out b (length ys) → new ≡ has_one_out now → new ≡ has_out b (length (ys ++ y ∷ []))

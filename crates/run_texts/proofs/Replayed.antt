@@ -83,7 +83,7 @@ at-start o given codes schedule lps t h play = record {
 }
 
 -- items that play one after another have a table between them
-between : (t v : Table) (xs ys : List Taken) → PlaysTo t (xs ++ ys) v → (u : Table) × PlaysTo t xs u × PlaysTo u ys v
+pub between : (t v : Table) (xs ys : List Taken) → PlaysTo t (xs ++ ys) v → (u : Table) × PlaysTo t xs u × PlaysTo u ys v
 between t v [] ys h = (t, (refl, refl), h)
 between t v (Stepped s a ∷ xs) ys h = let r = between (record t { words = after_step t.words s }) v xs ys h.1 in (r.0, (h.0, r.1), r.2)
 between t v (Swapped k put taken ∷ xs) ys h = let r = between (record t { slots = with_slot t.slots k put }) v xs ys h.1 in (r.0, (h.0, r.1), r.2)
@@ -94,11 +94,11 @@ pub are-leaves : TurnsAreEvents → (o : Opening) → IsOpen o → AreLeaves o (
 are-leaves ls o op = ls.leaves o (given_of o) o.codes op.machine (record { secrets = λ k. refl; bundles = λ slot. refl }) (λ t i. refl)
 
 -- where the flat machine is after the events of a merge
-where-now : TurnsAreEvents → (o : Opening) (made : List Item) (now : ℕ → WordLp) (u : Table) → IsOpen o → Merge o (leaf_table o.machine (given_of o) o.codes) made now u → IsWhere o now (play o (order made) (start o None))
+pub where-now : TurnsAreEvents → (o : Opening) (made : List Item) (now : ℕ → WordLp) (u : Table) → IsOpen o → Merge o (leaf_table o.machine (given_of o) o.codes) made now u → IsWhere o now (play o (order made) (start o None))
 where-now ls o made now u op m = (ls.merges.turns o (leaf_table o.machine (given_of o) o.codes) made now u op.few (are-leaves ls o op) op.codes m).1
 
 -- a processor without lines has none in the flat machine
-ended-flat : TurnsAreEvents → (o : Opening) (schedule left : List ℕ) (lps : List LpState) (t : Table) (p : ℕ) → IsOpen o → (l : IsMidway o schedule left lps t) → p < length o.calls → (seen_at lps p).lines ≡ []
+pub ended-flat : TurnsAreEvents → (o : Opening) (schedule left : List ℕ) (lps : List LpState) (t : Table) (p : ℕ) → IsOpen o → (l : IsMidway o schedule left lps t) → p < length o.calls → (seen_at lps p).lines ≡ []
     → lines_left o p ((play o (order l.made) (start o None)).lps p) ≡ []
 ended-flat ls o schedule left lps t p op l inside e = (where-now ls o l.made (seen_at lps) t op l.merge).lines p inside ∙ e
 
@@ -118,7 +118,7 @@ one-more-left ls o schedule lps id b p op inside ended l = record {
       };
 }
 
-no-lines : (cs : List Call) → false ≡ not (length cs == 0) → cs ≡ []
+pub no-lines : (cs : List Call) → false ≡ not (length cs == 0) → cs ≡ []
 no-lines cs e = by (eqb_tells (length cs) 0)
   where
     empty : (cs : List Call) → length cs ≡ 0 → cs ≡ []
@@ -136,23 +136,24 @@ module _ (ls : TurnsAreEvents) (o : Opening) (schedule rest : List ℕ) (lps : L
   place : s.place ≡ record { machine = o.machine; lp = p }
   place = place-at o 0 lps p d numbered inside ∙ ap (λ (k : ℕ). record { machine = o.machine; lp = k }) (omega arith)
 
-  -- its event, in these pieces
-  moved : (t t' : Table) → IsMidway o schedule (p ∷ rest) lps t → (e : Event) (ps : List Piece) → PlaysTo t (taken_in ps) t' → Moves s e ps s' → IsMidway o schedule rest (set lps p s') t'
+  -- its turn, in these pieces
+  pub turns : (e : Event) (ps : List Piece) → Moves s e ps s' → LpTurns (leaf_table o.machine (given_of o) o.codes p) o.machine (seen_at lps p) e ps (seen_at (set lps p s') p)
+  turns e ps moves =
+      subst (λ (x : WordLp). LpTurns (leaf_table o.machine (given_of o) o.codes p) o.machine x e ps (seen_at (set lps p s') p)) (sym (seen-at lps p d inside))
+      (subst (λ (x : WordLp). LpTurns (leaf_table o.machine (given_of o) o.codes p) o.machine (seen_of s) e ps x) (sym (seen-own lps p s' inside))
+      (subst (λ (w : Given). LpTurns (leaf_table o.machine w o.codes p) o.machine (seen_of s) e ps (seen_of s')) (given-at o 0 lps p d numbered inside)
+      (subst (λ (x : ℕ → ℕ → List GuestOp). LpTurns (leaf_table o.machine (given_in s.given) x p) o.machine (seen_of s) e ps (seen_of s')) (codes-at o 0 lps p d numbered inside)
+      (subst (λ (z : Place). LpTurns (place_table z (given_in s.given) (code_in s.codes.now)) z.machine (seen_of s) e ps (seen_of s')) place moves.3))))
+
+  -- its event
+  pub moved : (t t' : Table) → IsMidway o schedule (p ∷ rest) lps t → (e : Event) (ps : List Piece) → PlaysTo t (taken_in ps) t' → Moves s e ps s' → IsMidway o schedule rest (set lps p s') t'
   moved t t' l e ps did moves = record {
     made = l.made ++ made_by p ps;
     merge =
-        merge-more o (leaf_table o.machine (given_of o) o.codes) l.made (seen_at lps) (seen_at (set lps p s')) t t' p e ps l.merge (omega (arith, count)) turns
+        merge-more o (leaf_table o.machine (given_of o) o.codes) l.made (seen_at lps) (seen_at (set lps p s')) t t' p e ps l.merge (omega (arith, count)) (turns e ps moves)
         (λ q ne. seen-other lps p s' q ne) did;
     same = ap (run o) (order-more l.made p ps rest (one-event ls.pieces (place_table s.place (given_in s.given) (code_in s.codes.now)) s.place.machine (seen_of s) (seen_of s') e ps moves.3)) ∙ l.same;
   }
-    where
-      turns : LpTurns (leaf_table o.machine (given_of o) o.codes p) o.machine (seen_at lps p) e ps (seen_at (set lps p s') p)
-      turns =
-          subst (λ (x : WordLp). LpTurns (leaf_table o.machine (given_of o) o.codes p) o.machine x e ps (seen_at (set lps p s') p)) (sym (seen-at lps p d inside))
-          (subst (λ (x : WordLp). LpTurns (leaf_table o.machine (given_of o) o.codes p) o.machine (seen_of s) e ps x) (sym (seen-own lps p s' inside))
-          (subst (λ (w : Given). LpTurns (leaf_table o.machine w o.codes p) o.machine (seen_of s) e ps (seen_of s')) (given-at o 0 lps p d numbered inside)
-          (subst (λ (x : ℕ → ℕ → List GuestOp). LpTurns (leaf_table o.machine (given_in s.given) x p) o.machine (seen_of s) e ps (seen_of s')) (codes-at o 0 lps p d numbered inside)
-          (subst (λ (z : Place). LpTurns (place_table z (given_in s.given) (code_in s.codes.now)) z.machine (seen_of s) e ps (seen_of s')) place moves.3))))
 
   -- or nothing, where it has ended
   ended : (t : Table) → IsMidway o schedule (p ∷ rest) lps t → s' ≡ s → (seen_at lps p).lines ≡ [] → IsMidway o schedule rest (set lps p s') t
@@ -161,7 +162,7 @@ module _ (ls : TurnsAreEvents) (o : Opening) (schedule rest : List ℕ) (lps : L
       subst (λ (z : List LpState). IsMidway o schedule rest z t) (sym stay)
       (record { made = l.made; merge = l.merge; same = sym (idle-item o (order l.made) rest p (ended-flat ls o schedule (p ∷ rest) lps t p op l (omega (arith, count)) none)) ∙ l.same })
 
-  numbered-now : s'.place ≡ s.place → given_in s'.given ≡ given_in s.given → s'.codes.now ≡ s.codes.now → AreNumbered o 0 (set lps p s')
+  pub numbered-now : s'.place ≡ s.place → given_in s'.given ≡ given_in s.given → s'.codes.now ≡ s.codes.now → AreNumbered o 0 (set lps p s')
   numbered-now same given has =
       numbered-set o 0 lps p s' numbered (same ∙ place-at o 0 lps p d numbered inside) (given ∙ given-at o 0 lps p d numbered inside) (ap code_in has ∙ codes-at o 0 lps p d numbered inside)
 

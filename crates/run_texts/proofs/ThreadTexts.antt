@@ -42,7 +42,7 @@ use Rattle.run_texts.specs.Sealing.{bundles_seen, bundles_text}
 use Rattle.run_texts.specs.declared.replay.Texts.{Texts}
 use Rattle.run_texts.specs.Replaying.{AreFirst, TurnsAreEvents, seen_at, lines_seen, notes_seen, TellAll}
 use Rattle.run_texts.specs.Lanes.{processors_of, benches_of, has_out, IsOther, with_all}
-use Rattle.run_texts.specs.Threaded.{AreOfSomeRun, AreOfThreads}
+use Rattle.run_texts.specs.Threaded.{AreOfThreads}
 use Rattle.run_texts.proofs.Making.{fit-run, fits-there, seals-there}
 use Rattle.run_texts.proofs.Places.{seen-at, place-at, given-at, codes-at, first-count, first-numbered, first-seen}
 use Rattle.run_texts.proofs.Replayed.{IsOpen, are-leaves, same-lines, same-notes}
@@ -259,13 +259,6 @@ module _ (ls : TurnsAreEvents) (threads : ThreadsAreRuns) (o : Opening) (op : Is
           subst (λ (x : List ℕ). IfSome guest_out (λ name. t.guest.items ≡ x)) p.1 told.2,
         )
 
-    pub of-some : AreOfSomeRun o forward backward out_bundles guest_out t
-    of-some = record {
-      schedule = order one-run.made;
-      processors = order-inside (length o.calls) one-run.made one-run.merge.merge.nothing_else;
-      told = tells-run (order one-run.made) one-run.lps;
-    }
-
     pub of-threads : AreOfThreads o forward backward out_bundles guest_out t
     of-threads = record {
       own = λ p. joined (one-run.merge.own p);
@@ -273,6 +266,7 @@ module _ (ls : TurnsAreEvents) (threads : ThreadsAreRuns) (o : Opening) (op : Is
       made = one-run.made;
       table = one-run.table;
       ordered = record { merge = one-run.merge.merge; plays = ls.merges.none_misses o (leaf_table o.machine (given_of o) o.codes) one-run.made now one-run.table op.few (are-leaves ls o op) op.codes one-run.merge };
+      processors = order-inside (length o.calls) one-run.made one-run.merge.merge.nothing_else;
       each = λ made u ordered.
           let merge : Merge o (leaf_table o.machine (given_of o) o.codes) made now u =
           record { own = one-run.merge.own; turns = one-run.merge.turns; merge = ordered.merge; plays = plays-alone made no_table u ordered.plays } in

@@ -1,5 +1,5 @@
 -- The lanes of a script's processors, and benches that are made and taken in one after another.
-use Rattle.std.specs.Prelude.{◌≡◌, ℕ, ◌+◌, false, List, [], ◌∷◌, map}
+use Rattle.std.specs.Prelude.{◌≡◌, ℕ, suc, ◌+◌, false, List, [], ◌∷◌, map}
 use Rattle.trace_table.specs.Benches.{BenchSeen, bench_of, has_taken_in}
 use Rattle.leaf_dispatch.specs.declared.states.LpState.{LpState}
 use Rattle.lp_threads.specs.declared.lanes.Lane.{Lane}
@@ -10,6 +10,11 @@ processors_of = map (λ a. a.processor)
 
 abbrev pub benches_of : List (Lane LpState) → List BenchSeen
 benches_of = map (λ a. bench_of a.bench)
+
+-- each lane has its place as its number, from n on
+abbrev pub AreInPlace : ℕ → List (Lane LpState) → Type 0
+AreInPlace n [] = Unit {0}
+AreInPlace n (a ∷ lanes) = (a.lp ≡ n) × AreInPlace (suc n) lanes
 
 -- a bench that has so many more out
 abbrev pub has_out : BenchSeen → ℕ → BenchSeen

@@ -14,13 +14,6 @@ use Rattle.run_texts.specs.declared.replay.Texts.{Texts}
 use Rattle.run_texts.specs.Sealing.{bundles_text}
 use Rattle.run_texts.specs.Replaying.{TellAll}
 
--- There is a schedule, each of whose items is a processor of the script, under which the flat machine's run prints these texts
--- and makes these bundles, sealed under these keys.
-pub record AreOfSomeRun (o : Opening) (forward backward : List ℕ) (out_bundles guest_out : Option (List ℕ)) (t : Texts) : Type 0 where
-  pub schedule : List ℕ
-  pub processors : All (λ p. p < length o.calls) schedule
-  pub told : TellAll out_bundles guest_out (host_text o schedule) (bundles_text forward backward o schedule) (guest_text o schedule) t
-
 -- Processor p's own list of word steps: what its turns did, from the first of its lines to the end of the last one, each step
 -- with the answer that it got.
 pub record IsOwnList (o : Opening) (p : ℕ) (own : List Piece) : Type 0 where
@@ -36,12 +29,14 @@ pub record PlaysInOrder (o : Opening) (own : ℕ → List Piece) (made : List It
   pub merge : IsMerge (length o.calls) own made
   pub plays : PlaysTo no_table (steps_taken made) u
 
--- The processors have own lists of word steps that have such an order. Every such order, also one that didn't come about,
--- is one of events under which the flat machine's run prints these texts and makes these bundles.
+-- The processors have own lists of word steps that have such an order, whose events are theirs. Every such order, also one that
+-- didn't come about, is one of events under which the flat machine's run prints these texts and makes these bundles, sealed under
+-- these keys.
 pub record AreOfThreads (o : Opening) (forward backward : List ℕ) (out_bundles guest_out : Option (List ℕ)) (t : Texts) : Type 0 where
   pub own : ℕ → List Piece
   pub lists : (p : ℕ) → p < length o.calls → IsOwnList o p (own p)
   pub made : List Item
   pub table : Table
   pub ordered : PlaysInOrder o own made table
+  pub processors : All (λ p. p < length o.calls) (order made)
   pub each : (made : List Item) (u : Table) → PlaysInOrder o own made u → TellAll out_bundles guest_out (host_text o (order made)) (bundles_text forward backward o (order made)) (guest_text o (order made)) t

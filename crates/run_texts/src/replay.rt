@@ -30,8 +30,8 @@ use std::alloc::Global;
 use td_words::{Call, Code, Machine, OutOfMemory};
 use trace_table::{SharedBench, SharedTable};
 
-// What turns over words have to do with events of the flat machine, and its bundles with lines.
-pub(crate) fn laws_of_turns()
+/// What turns over words have to do with events of the flat machine, and its bundles with lines.
+pub fn laws_of_turns()
     ensures { TurnsAreEvents }
 {
     merge_law();
@@ -42,9 +42,9 @@ pub(crate) fn laws_of_turns()
     bundle_law();
 }
 
-// The processors of a machine, each at the first of its calls, with what the run is given, and with the
-// lists of operations and where they stand.
-pub(crate) fn processors<'a>(
+/// The processors of a machine, each at the first of its calls, with what the run is given, and with the
+/// lists of operations and where they stand.
+pub fn processors<'a>(
     alloc: Global,
     machine: Machine,
     codes: &'a [Code],

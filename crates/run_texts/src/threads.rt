@@ -6,8 +6,8 @@ ghost use Rattle.script_text.specs.Laws.{IsInForm};
 ghost use Rattle.trace_table.specs.Benches.{bench_of, new_bench};
 ghost use Rattle.leaf_table.specs.Given.{given_in};
 ghost use Rattle.run_texts.specs.Openings.{opening_of};
-ghost use Rattle.run_texts.specs.Lanes.{processors_of, benches_of, has_out, IsOther, with_all};
-ghost use Rattle.run_texts.specs.Threaded.{AreOfSomeRun, AreOfThreads};
+ghost use Rattle.run_texts.specs.Lanes.{processors_of, benches_of, AreInPlace, has_out, IsOther, with_all};
+ghost use Rattle.run_texts.specs.Threaded.{AreOfThreads};
 
 use crate::key_pairs::KeyPair;
 use crate::replay::{Texts, all_texts, laws_of_turns, processors};
@@ -31,6 +31,7 @@ fn lanes_at<'t, 'a>(
     requires few { length states.items ≤ 8 }
     requires first { (bench_of first.old).pass.first ≡ true }
     ensures processors { IfOk result (λ v. processors_of v.items ≡ states.entry.items) }
+    ensures numbers { IfOk result (λ v. AreInPlace 0 v.items) }
     ensures benches { IfOk result (λ v. All (λ a. bench_of a.bench ≡ new_bench (bench_of first.old)) v.items) }
     ensures first { OnOk result (bench_of first.new ≡ has_out (bench_of first.old) (length states.entry.items)) }
 {
@@ -92,7 +93,6 @@ pub fn threaded_texts<R: Threads + Sync, G: Gate + Sync>(
     gate: &G,
 ) -> Result<Texts, OutOfMemory>
     requires form { IsInForm script.now }
-    ensures some { IfOk result (λ t. AreOfSomeRun (opening_of (given_in given.entry) script.now) keys.now.forward keys.now.backward (option_map (λ name. name.now) out_bundles.entry) (option_map (λ name. name.now) guest_out.entry) t) }
     ensures each { IfOk result (λ t. AreOfThreads (opening_of (given_in given.entry) script.now) keys.now.forward keys.now.backward (option_map (λ name. name.now) out_bundles.entry) (option_map (λ name. name.now) guest_out.entry) t) }
 {
     laws_of_turns();

@@ -11,14 +11,17 @@ use Rattle.script_runner.specs.Ending.{success_end, handed_held, HandedOut, open
 use Rattle.script_runner.specs.Saving.{Writes}
 use Rattle.script_runner.specs.Blind.{IsBlind, HasBlindText}
 use Rattle.script_runner.specs.Ends.{OneRun, ShowsBlind}
-use Rattle.script_runner.specs.Done.{PutsRun, PutsAndSaved, PutsBlind, PutsHeadline}
+use Rattle.script_runner.specs.Threads.{ThreadsOf}
+use Rattle.script_runner.specs.Brings.{CarryingLaws}
+use Rattle.script_runner.proofs.Brings.{of_run}
+use Rattle.script_runner.specs.Done.{HoldsOfRun, PutsRun, PutsThreads, PutsBlind, PutsHeadline}
 use Rattle.mig_laws.specs.Image.{ImageLaw}
 use Rattle.script_runner.proofs.Accesses.{own-accesses}
 use Rattle.script_runner.proofs.Images.{starts-from-pauses}
 
 module _ (prints : BlindRunsPrintTheSame) (bundles : BlindRunsMakeTheSameBundles) (agreeing : AgreeingRunsShowTheSame) where
   blind_text : (o : Opening) (order : List ℕ) → IsBlind o order (host_text o order)
-  blind_text o order = record { zeros = prints o order; bundles = bundles o order; others = λ q agree told. (agreeing o q order agree told).0 }
+  blind_text o order = record { zeros = prints o order; bundles = bundles o order; others = λ q agree told. agreeing o q order agree told }
 
   has_blind_text : (k : CommandSeen) (s : ScriptSeen) (handed : HandedOut) (order : List ℕ) → HasBlindText k s handed order (success_end k s handed order).text
   has_blind_text (Replay n) s handed order = blind_text (opening_by handed s) order
@@ -35,15 +38,17 @@ module _ (prints : BlindRunsPrintTheSame) (bundles : BlindRunsMakeTheSameBundles
   one-blind (Some k) c old new w w' h =
       (h, has_blind_text h.command h.script (handed_held k h.command) h.order)
 
-  -- of the same run, with its accesses and with what it committed
-  pub headline : AccessesAreOwn → ImageLaw → (c : Option CommandSeen) (loads loads' : List Loaded) (puts puts' : List Put) (w w' : Writes) → PutsAndSaved c loads loads' puts puts' w w'
+  -- with the accesses of the same run, and what it committed
+  pub holds-of-run : AccessesAreOwn → ImageLaw → (k : CommandSeen) (s : ScriptSeen) (handed : HandedOut) (order : List ℕ) → ThreadsOf k s handed order (success_end k s handed order) → HoldsOfRun k s handed order
+  holds-of-run law image k s handed order threads = record {
+    threads = threads;
+    accesses = own-accesses law (opening_by handed s) order;
+    blind = has_blind_text k s handed order;
+    images = starts-from-pauses image (opening_by handed s) order;
+  }
+
+  pub headline : AccessesAreOwn → ImageLaw → CarryingLaws → (c : Option CommandSeen) (loads loads' : List Loaded) (puts puts' : List Put) (w w' : Writes) → PutsThreads c loads loads' puts puts' w w'
       → PutsHeadline c loads loads' puts puts' w w'
-  headline law image c loads loads' puts puts' w w' h =
+  headline law image laws c loads loads' puts puts' w w' h =
       let r = h.0 in
-      record {
-        run = r;
-        saved = h.1;
-        accesses = own-accesses law (opening_by r.handed r.script) r.order;
-        blind = has_blind_text r.command r.script r.handed r.order;
-        images = starts-from-pauses image (opening_by r.handed r.script) r.order;
-      }
+      record { run = r; saved = h.1; holds = holds-of-run law image r.command r.script r.handed r.order h.2; brings = of_run laws c loads loads' puts puts' (Ok tt) r }

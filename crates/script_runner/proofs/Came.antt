@@ -1,5 +1,5 @@
 -- What was loaded, by the ending that it came to.
-use Rattle.std.proofs.Common.{◌≡◌, ◌≢◌, ◌⊎◌, slice_index, inl, inr, refl, sym, ◌∙◌, ap, subst, ℕ, ◌^◌, ◌≤◌, List, [], ◌∷◌, ◌++◌, append-nil, append_assoc, length, suc, Option, Some, None, IfNone, IfOk, Result, Ok, Err, Bool, true, false, ◌==◌, if◌then◌else◌, arith}
+use Rattle.std.proofs.Common.{lit<, ◌≡◌, ◌≢◌, ◌⊎◌, slice_index, inl, inr, refl, sym, ◌∙◌, ap, subst, ℕ, ◌^◌, ◌≤◌, List, [], ◌∷◌, ◌++◌, ◌+◌, append-nil, append_assoc, length, length-append, suc, Option, Some, None, IfNone, IfOk, Result, Ok, Err, Bool, true, false, ◌==◌, if◌then◌else◌, arith}
 use Rattle.std.proofs.lemmas.Bool.Decides.{eqb_tells}
 use Rattle.std.specs.Global.{Vec}
 use Rattle.std.specs.declared.alloc.AllocError.{AllocError}
@@ -25,11 +25,12 @@ use Rattle.command_files.specs.declared.inputs.Inputs.{Inputs}
 use Rattle.command_files.specs.Commands.{NamedSeen, CommandSeen, Replay, Run, Check, named_of, script_name}
 use Rattle.command_files.specs.Inputs.{Reads, Loads, LoadsNamed, LoadsNext, TakesInputs, AreSecrets, IsDue, due, load_fault, unread_fault, form_fault, container_fault, length_fault, keys_fault, secrets_fault, place_fault, first, bundles_read, bundles_in, keys_in}
 use Rattle.script_runner.specs.declared.ending.Ending.{Ending}
-use Rattle.script_runner.specs.Ending.{ToSave, Ended, ending_seen, file_named, usage_end, bad_end, unread_end, memory_end, container_end, keys_end, secrets_end, run_end, success_end, name_in, input_name, IsOrderOf, HandedOut, opening_by, keys_or_none, no_keys}
+use Rattle.script_runner.specs.Ending.{ToSave, Ended, ending_seen, file_named, usage_end, bad_end, unread_end, memory_end, container_end, keys_end, secrets_end, run_end, success_end, name_in, input_name, IsOrderOf, HandedOut, opening_by, keys_or_none, no_keys, bundles_named}
 use Rattle.script_runner.specs.Saving.{named_once, outs_of, out_names}
 use Rattle.script_runner.specs.Ends.{IsRead}
 use Rattle.script_runner.specs.Threads.{ThreadsOf}
-use Rattle.script_runner.specs.Done.{LoadsOnce, LoadsFirst, IsFirstFault, IsUnread, AreHandedOut, AreWordsHandedOut, AreKeysHandedOut, AreBundlesHandedOut}
+use Rattle.script_runner.specs.Brings.{HandsWords}
+use Rattle.script_runner.specs.Done.{LoadsOnce, LoadsFirst, IsFirstFault, IsUnread, AreHandedOut, AreWordsHandedOut, AreKeysHandedOut, AreBundlesHandedOut, LoadsBehind, before_keys, before_secrets}
 use Rattle.script_runner.specs.Commanded.{Comes, AnswerEnd, ReadEnd, ScriptEnd, NamedEnd, InputsEnd, EndsRun, handed_in}
 use Rattle.script_runner.proofs.Asked.{asks}
 use Rattle.script_runner.proofs.Named.{secrets_of, input_of, success_of, keys_of_command, bundles_of_command}
@@ -37,17 +38,16 @@ use Rattle.script_runner.proofs.Due.{first_cases}
 use Rattle.command_files.specs.declared.inputs.KeyBytes.{KeyBytes}
 use Rattle.run_texts.specs.Sealing.{bundles_text}
 
--- the file that an option names was loaded, and hasn't so many bytes
-pub record LengthCame (file : NamedSeen → Option (List ℕ)) (count : ℕ) (f : InputFault) (told : Ended) (c : Option CommandSeen) (r r' : Reads) (e : Ended) : Type 0 where
+-- the file that an option names was loaded, behind so many others, and hasn't so many bytes
+pub record LengthCame (file : NamedSeen → Option (List ℕ)) (behind : NamedSeen → ℕ) (count : ℕ) (f : InputFault) (told : Ended) (c : Option CommandSeen) (r r' : Reads) (e : Ended) : Type 0 where
   pub command : CommandSeen
   pub read_as : c ≡ Some command
   pub options : NamedSeen
   pub has : named_of command ≡ Some options
   pub name : List ℕ
   pub named : file options ≡ Some name
-  pub before : List Loaded
   pub answer : Result (Vec ℕ) LoadFault
-  pub loaded : LoadsFirst (r.loads ++ before) name answer r'.loads
+  pub loaded : LoadsBehind (behind options) r.loads name answer r'.loads
   pub wrong : length_fault count f (Some answer) ≡ Some f
   pub is : e ≡ told
 
@@ -66,7 +66,7 @@ pub record LacksCame (c : Option CommandSeen) (r r' : Reads) (e : Ended) : Type 
   pub is : e ≡ keys_end
 
 abbrev pub SomeLength : Option CommandSeen → Reads → Reads → Ended → Type 0
-SomeLength c r r' e = LengthCame (λ n. n.keys) 64 fault.Keys keys_end c r r' e ⊎ LengthCame (λ n. n.secrets) 4096 fault.Secrets secrets_end c r r' e ⊎ LacksCame c r r' e
+SomeLength c r r' e = LengthCame (λ n. n.keys) before_keys 64 fault.Keys keys_end c r r' e ⊎ LengthCame (λ n. n.secrets) before_secrets 4096 fault.Secrets secrets_end c r r' e ⊎ LacksCame c r r' e
 
 pub data Came (contents : Option (List ℕ → Option (List ℕ))) (c : Option CommandSeen) (r r' : Reads) (e : Ended) : Type 0 where
   Usage : c ≡ None → r'.loads ≡ r.loads → e ≡ usage_end → Came contents c r r' e
@@ -76,12 +76,12 @@ pub data Came (contents : Option (List ℕ → Option (List ℕ))) (c : Option C
       → (line : ℕ) (reason : Reason) → IsFirstFault answer line reason → e ≡ bad_end line reason → Came contents c r r' e
   Want : (command : CommandSeen) → c ≡ Some command → e ≡ memory_end → Came contents c r r' e
   Place : (command : CommandSeen) → c ≡ Some command → (options : NamedSeen) → named_of command ≡ Some options → (name : List ℕ) → options.bundles ≡ Some name
-      → (before : List Loaded) (answer : Result (Vec ℕ) LoadFault) → LoadsFirst (r.loads ++ before) name answer r'.loads
+      → (answer : Result (Vec ℕ) LoadFault) → LoadsBehind 1 r.loads name answer r'.loads
       → (place : ℕ) → container_fault (Some answer) ≡ Some (fault.Container place) → e ≡ container_end place → Came contents c r r' e
   WrongLength : SomeLength c r r' e → e.status ≡ 7 → e.files ≡ [] → Came contents c r r' e
   Success : (command : CommandSeen) → c ≡ Some command → (given : Vec ℕ) → LoadsFirst r.loads (script_name command) (Ok given) r'.loads
       → (s : ScriptSeen) → read_of given.items ≡ Ok s → (handed : HandedOut) → AreHandedOut command r.loads r'.loads handed
-      → (order : List ℕ) → IsOrderOf command s order → e ≡ success_end command s handed order → ThreadsOf command s handed e → Came contents c r r' e
+      → (order : List ℕ) → IsOrderOf command s order → e ≡ success_end command s handed order → ThreadsOf command s handed order e → Came contents c r r' e
 
 -- ---- counts
 
@@ -114,16 +114,16 @@ loading contents most (Some n) old None new h = absurd h
 loading contents most (Some n) old (Some x) new h = Once n x refl refl h
 
 more_loads : (contents : Option (List ℕ → Option (List ℕ))) (most : ℕ) (name : Option (List ℕ)) (old : Reads) (a : Option (Result (Vec ℕ) LoadFault)) (new : Reads)
-    → LoadsNamed contents most name old a new → (more : List Loaded) × (new.loads ≡ old.loads ++ more)
+    → LoadsNamed contents most name old a new → (more : List Loaded) × (new.loads ≡ old.loads ++ more) × (length more ≡ length (named_once name))
 more_loads contents most name old a new h = elim (loading contents most name old a new h) [
-  | Not no_name none same ↦ ([], ap (λ (x : Reads). x.loads) same ∙ sym (append-nil old.loads))
-  | Once n x named answered l ↦ (_, l.noted)
+  | Not no_name none same ↦ ([], ap (λ (x : Reads). x.loads) same ∙ sym (append-nil old.loads), ap (λ (x : Option (List ℕ)). length (named_once x)) (sym no_name))
+  | Once n x named answered l ↦ (record { name = n; answer = x } ∷ [], l.noted, ap (λ (x : Option (List ℕ)). length (named_once x)) (sym named))
 ]
 
 more_next : (contents : Option (List ℕ → Option (List ℕ))) (f : Option InputFault) (name : Option (List ℕ)) (old : Reads) (a : Option (Result (Vec ℕ) LoadFault)) (new : Reads)
-    → LoadsNext contents f name old a new → (more : List Loaded) × (new.loads ≡ old.loads ++ more)
-more_next contents None name old a new h = more_loads contents (2 ^ 16) name old a new h
-more_next contents (Some f) name old a new h = ([], ap (λ (x : Reads). x.loads) h.1 ∙ sym (append-nil old.loads))
+    → LoadsNext contents f name old a new → (more : List Loaded) × (new.loads ≡ old.loads ++ more) × (f ≡ None → length more ≡ length (named_once name))
+more_next contents None name old a new h = let (more, grew, count) = more_loads contents (2 ^ 16) name old a new h in (more, grew, λ q. count)
+more_next contents (Some f) name old a new h = ([], ap (λ (x : Reads). x.loads) h.1 ∙ sym (append-nil old.loads), λ q. absurd (cc))
 
 pub loads_later : (contents : Option (List ℕ → Option (List ℕ))) (most : ℕ) (name : Option (List ℕ)) (old : Reads) (a : Option (Result (Vec ℕ) LoadFault)) (new : Reads)
     → LoadsNamed contents most name old a new → old.faults ≤ new.faults
@@ -267,6 +267,15 @@ words_handed contents (Some n) old (Some (Err load.TooLong)) new l fine right lo
 words_handed contents (Some n) old (Some (Err load.Failed)) new l fine right loads more grew words w = absurd (cc)
 words_handed contents (Some n) old (Some (Err load.OutOfMemory)) new l fine right loads more grew words w = absurd (cc)
 
+-- one load behind so many, and others behind it
+one_behind : (loads before later now new last : List Loaded) (name : List ℕ) (answer : Result (Vec ℕ) LoadFault) (count : ℕ)
+    → length before ≡ count → now ≡ loads ++ before → new ≡ now ++ record { name = name; answer = answer } ∷ [] → last ≡ new ++ later → LoadsBehind count loads name answer last
+one_behind loads before later now new last name answer count many at one others = (
+  before,
+  many,
+  (later, others ∙ ap (λ (z : List Loaded). z ++ later) (one ∙ ap (λ (z : List Loaded). z ++ record { name = name; answer = answer } ∷ []) at) ∙ append_assoc (loads ++ before) (record { name = name; answer = answer } ∷ []) later),
+)
+
 -- ---- keys
 
 length_64 : (needed : Bool) (v : Vec ℕ) → keys_fault needed (Some (Ok v)) ≡ None → length v.items ≡ 64
@@ -279,26 +288,18 @@ length_64 needed v h = by (eqb_tells (length v.items) 64)
         absurd (cc)
 
 -- the keys that were taken are those that a load handed out
-keys_handed : (contents : Option (List ℕ → Option (List ℕ))) (needed : Bool) (name : Option (List ℕ)) (old : Reads) (a : Option (Result (Vec ℕ) LoadFault)) (new r' : Reads) → LoadsNamed contents (2 ^ 16) name old a new
-    → load_fault input.Keys a ≡ None → keys_fault needed a ≡ None → (loads more later : List Loaded) → old.loads ≡ loads ++ more → r'.loads ≡ new.loads ++ later
-    → AreKeysHandedOut name loads r'.loads (keys_or_none (keys_in a))
-keys_handed contents needed None old None new r' l fine right loads more later grew after = refl
-keys_handed contents needed None old (Some x) new r' l fine right loads more later grew after = absurd l
-keys_handed contents needed (Some n) old None new r' l fine right loads more later grew after = absurd l
-keys_handed contents needed (Some n) old (Some (Ok v)) new r' l fine right loads more later grew after = (
-  more,
-  v,
-  (
-    later,
-    after ∙ ap (λ (z : List Loaded). z ++ later) (l.noted ∙ ap (λ (z : List Loaded). z ++ record { name = n; answer = Ok v } ∷ []) grew) ∙ append_assoc (loads ++ more) (record { name = n; answer = Ok v } ∷ []) later,
-  ),
-  length_64 needed v right,
-  refl,
-)
-keys_handed contents needed (Some n) old (Some (Err load.Absent)) new r' l fine right loads more later grew after = absurd (cc)
-keys_handed contents needed (Some n) old (Some (Err load.TooLong)) new r' l fine right loads more later grew after = absurd (cc)
-keys_handed contents needed (Some n) old (Some (Err load.Failed)) new r' l fine right loads more later grew after = absurd (cc)
-keys_handed contents needed (Some n) old (Some (Err load.OutOfMemory)) new r' l fine right loads more later grew after = absurd (cc)
+keys_handed : (contents : Option (List ℕ → Option (List ℕ))) (needed : Bool) (bundles name : Option (List ℕ)) (old : Reads) (a : Option (Result (Vec ℕ) LoadFault)) (new r' : Reads) → LoadsNamed contents (2 ^ 16) name old a new
+    → load_fault input.Keys a ≡ None → keys_fault needed a ≡ None → (loads more later : List Loaded) → length more ≡ 1 + length (named_once bundles) → old.loads ≡ loads ++ more → r'.loads ≡ new.loads ++ later
+    → AreKeysHandedOut bundles name loads r'.loads (keys_or_none (keys_in a))
+keys_handed contents needed bundles None old None new r' l fine right loads more later count grew after = refl
+keys_handed contents needed bundles None old (Some x) new r' l fine right loads more later count grew after = absurd l
+keys_handed contents needed bundles (Some n) old None new r' l fine right loads more later count grew after = absurd l
+keys_handed contents needed bundles (Some n) old (Some (Ok v)) new r' l fine right loads more later count grew after =
+    (v, one_behind loads more later old.loads new.loads r'.loads n (Ok v) (1 + length (named_once bundles)) count grew l.noted after, length_64 needed v right, refl)
+keys_handed contents needed bundles (Some n) old (Some (Err load.Absent)) new r' l fine right loads more later count grew after = absurd (cc)
+keys_handed contents needed bundles (Some n) old (Some (Err load.TooLong)) new r' l fine right loads more later count grew after = absurd (cc)
+keys_handed contents needed bundles (Some n) old (Some (Err load.Failed)) new r' l fine right loads more later count grew after = absurd (cc)
+keys_handed contents needed bundles (Some n) old (Some (Err load.OutOfMemory)) new r' l fine right loads more later count grew after = absurd (cc)
 
 -- ---- bundles
 
@@ -308,24 +309,17 @@ read_is (Err place) h = absurd (cc)
 
 -- the bundles that were taken are those of the container that a load handed out
 bundles_handed : (contents : Option (List ℕ → Option (List ℕ))) (name : Option (List ℕ)) (old : Reads) (a : Option (Result (Vec ℕ) LoadFault)) (new r' : Reads) → LoadsNamed contents (2 ^ 29) name old a new
-    → load_fault input.Bundles a ≡ None → container_fault a ≡ None → (loads more later : List Loaded) → old.loads ≡ loads ++ more → r'.loads ≡ new.loads ++ later
+    → load_fault input.Bundles a ≡ None → container_fault a ≡ None → (loads more later : List Loaded) → length more ≡ 1 → old.loads ≡ loads ++ more → r'.loads ≡ new.loads ++ later
     → AreBundlesHandedOut name loads r'.loads (bundles_in a)
-bundles_handed contents None old None new r' l fine right loads more later grew after = refl
-bundles_handed contents None old (Some x) new r' l fine right loads more later grew after = absurd l
-bundles_handed contents (Some n) old None new r' l fine right loads more later grew after = absurd l
-bundles_handed contents (Some n) old (Some (Ok v)) new r' l fine right loads more later grew after = (
-  more,
-  v,
-  (
-    later,
-    after ∙ ap (λ (z : List Loaded). z ++ later) (l.noted ∙ ap (λ (z : List Loaded). z ++ record { name = n; answer = Ok v } ∷ []) grew) ∙ append_assoc (loads ++ more) (record { name = n; answer = Ok v } ∷ []) later,
-  ),
-  read_is (container_in v.items) right,
-)
-bundles_handed contents (Some n) old (Some (Err load.Absent)) new r' l fine right loads more later grew after = absurd (cc)
-bundles_handed contents (Some n) old (Some (Err load.TooLong)) new r' l fine right loads more later grew after = absurd (cc)
-bundles_handed contents (Some n) old (Some (Err load.Failed)) new r' l fine right loads more later grew after = absurd (cc)
-bundles_handed contents (Some n) old (Some (Err load.OutOfMemory)) new r' l fine right loads more later grew after = absurd (cc)
+bundles_handed contents None old None new r' l fine right loads more later count grew after = refl
+bundles_handed contents None old (Some x) new r' l fine right loads more later count grew after = absurd l
+bundles_handed contents (Some n) old None new r' l fine right loads more later count grew after = absurd l
+bundles_handed contents (Some n) old (Some (Ok v)) new r' l fine right loads more later count grew after =
+    (v, one_behind loads more later old.loads new.loads r'.loads n (Ok v) 1 count grew l.noted after, read_is (container_in v.items) right)
+bundles_handed contents (Some n) old (Some (Err load.Absent)) new r' l fine right loads more later count grew after = absurd (cc)
+bundles_handed contents (Some n) old (Some (Err load.TooLong)) new r' l fine right loads more later count grew after = absurd (cc)
+bundles_handed contents (Some n) old (Some (Err load.Failed)) new r' l fine right loads more later count grew after = absurd (cc)
+bundles_handed contents (Some n) old (Some (Err load.OutOfMemory)) new r' l fine right loads more later count grew after = absurd (cc)
 
 -- ---- the whole
 
@@ -350,23 +344,20 @@ module _ (contents : Option (List ℕ → Option (List ℕ))) (k : CommandSeen) 
       (is ∙ ap unread_end (sym is_name ∙ ap name_in is_n))
 
   -- the named file was loaded behind the script and some others, and hasn't its length
-  input_length : (file : NamedSeen → Option (List ℕ)) (count : ℕ) (g : InputFault) (told : Ended) (mid now : Reads) (a : Option (Result (Vec ℕ) LoadFault)) (more rest : List Loaded) (e : Ended)
-      → mid.loads ≡ b.loads ++ more → Loading contents (2 ^ 16) (file c) mid a now → r'.loads ≡ now.loads ++ rest → length_fault count g a ≡ Some g → e ≡ told → LengthCame file count g told (Some k) r r' e
-  input_length file count g told mid now a more rest e grew (Not no_name none same) then_more h is = let (x, answered, wrong) = length_at count g a g h in absurd (cc)
-  input_length file count g told mid now a more rest e grew (Once n x is_n answered l) then_more h is = record {
+  input_length : (file : NamedSeen → Option (List ℕ)) (behind : NamedSeen → ℕ) (count : ℕ) (g : InputFault) (told : Ended) (mid now : Reads) (a : Option (Result (Vec ℕ) LoadFault)) (more rest : List Loaded) (e : Ended)
+      → suc (length more) ≡ behind c → mid.loads ≡ b.loads ++ more → Loading contents (2 ^ 16) (file c) mid a now → r'.loads ≡ now.loads ++ rest → length_fault count g a ≡ Some g → e ≡ told
+      → LengthCame file behind count g told (Some k) r r' e
+  input_length file behind count g told mid now a more rest e many grew (Not no_name none same) then_more h is = let (x, answered, wrong) = length_at count g a g h in absurd (cc)
+  input_length file behind count g told mid now a more rest e many grew (Once n x is_n answered l) then_more h is = record {
     command = k;
     read_as = refl;
     options = c;
     has = has;
     name = n;
     named = is_n;
-    before = script_load ∷ more;
     answer = x;
-    loaded = (
-      rest,
-      then_more ∙ ap (λ (z : List Loaded). z ++ rest) (l.noted ∙ ap (λ (z : List Loaded). z ++ record { name = n; answer = x } ∷ []) (grew ∙ ap (λ (z : List Loaded). z ++ more) loaded.noted ∙ append_assoc r.loads (script_load ∷ []) more))
-          ∙ append_assoc (r.loads ++ script_load ∷ more) (record { name = n; answer = x } ∷ []) rest,
-    );
+    loaded =
+        one_behind r.loads (script_load ∷ more) rest mid.loads now.loads r'.loads n x (behind c) many (grew ∙ ap (λ (z : List Loaded). z ++ more) loaded.noted ∙ append_assoc r.loads (script_load ∷ []) more) l.noted then_more;
     wrong = subst (λ (z : Option (Result (Vec ℕ) LoadFault)). length_fault count g z ≡ Some g) answered h;
     is = is;
   }
@@ -375,18 +366,24 @@ module _ (contents : Option (List ℕ → Option (List ℕ))) (k : CommandSeen) 
   inputs_came : (s : ScriptSeen) (res : Result Inputs InputFault) (e : Ended) → read_of given.items ≡ Ok s → TakesInputs contents (needs_keys s.calls) c b r' res → InputsEnd k c s res e → Came contents (Some k) r r' e
   inputs_came s res e reads t ends = by res t.is_due t.words t.key_bytes t.bundle_list ends
     where
-      bundles_more : (more : List Loaded) × (t.behind_bundles.loads ≡ b.loads ++ more)
+      bundles_more : (more : List Loaded) × (t.behind_bundles.loads ≡ b.loads ++ more) × (length more ≡ length (named_once c.bundles))
       bundles_more = more_loads contents (2 ^ 29) c.bundles b t.bundles t.behind_bundles t.bundles_loaded
 
-      keys_more : (more : List Loaded) × (t.behind_keys.loads ≡ t.behind_bundles.loads ++ more)
+      keys_more : (more : List Loaded) × (t.behind_keys.loads ≡ t.behind_bundles.loads ++ more) × (load_fault input.Bundles t.bundles ≡ None → length more ≡ length (named_once c.keys))
       keys_more = more_next contents (load_fault input.Bundles t.bundles) c.keys t.behind_bundles t.keys t.behind_keys t.keys_loaded
 
-      secrets_more : (more : List Loaded) × (r'.loads ≡ t.behind_keys.loads ++ more)
+      secrets_more : (more : List Loaded) × (r'.loads ≡ t.behind_keys.loads ++ more) × (first (load_fault input.Bundles t.bundles) (load_fault input.Keys t.keys) ≡ None → length more ≡ length (named_once c.secrets))
       secrets_more = more_next contents (first (load_fault input.Bundles t.bundles) (load_fault input.Keys t.keys)) c.secrets t.behind_keys t.secrets r' t.secrets_loaded
 
       -- the first two are loaded behind the script
       both_more : t.behind_keys.loads ≡ b.loads ++ (bundles_more.0 ++ keys_more.0)
       both_more = keys_more.1 ∙ ap (λ (z : List Loaded). z ++ keys_more.0) bundles_more.1 ∙ append_assoc b.loads bundles_more.0 keys_more.0
+
+      bundles_many : suc (length bundles_more.0) ≡ before_keys c
+      bundles_many = let a = bundles_more.2 in omega (arith, a)
+
+      both_many : load_fault input.Bundles t.bundles ≡ None → suc (length (bundles_more.0 ++ keys_more.0)) ≡ before_secrets c
+      both_many fine = let a = bundles_more.2 in let b = keys_more.2 fine in omega (arith, length-append bundles_more.0 keys_more.0, a, b)
 
       -- and all three are
       all_loaded : LoadsFirst r.loads (script_name k) (Ok given) r'.loads
@@ -420,8 +417,8 @@ module _ (contents : Option (List ℕ → Option (List ℕ))) (k : CommandSeen) 
           let h : LoadsNext contents (Some f) c.secrets t.behind_keys t.secrets r' = subst (λ (x : Option InputFault). LoadsNext contents x c.secrets t.behind_keys t.secrets r') some t.secrets_loaded in
           h.1
 
-      run : (inputs : Inputs) → due (needs_keys s.calls) t.bundles t.keys t.secrets ≡ None → AreSecrets t.secrets inputs.secrets.items → inputs.keys ≡ keys_in t.keys → inputs.bundles.items ≡ bundles_in t.bundles → EndsRun k c s (handed_in inputs) e → Came contents (Some k) r r' e
-      run inputs none words key_bytes listed (order, is_order, is, threads) =
+      run : (inputs : Inputs) → due (needs_keys s.calls) t.bundles t.keys t.secrets ≡ None → AreSecrets t.secrets inputs.secrets.items → inputs.keys ≡ keys_in t.keys → inputs.bundles.items ≡ bundles_in t.bundles → EndsRun k c s (handed_in inputs) e × HandsWords (handed_in inputs) → Came contents (Some k) r r' e
+      run inputs none words key_bytes listed ((order, is_order, is, threads), fit) =
           let (unread, form) = first_none _ _ none in
           let (fine, fine', fine'') = all_read t.bundles t.keys t.secrets unread in
           let lengths = (first_none _ _ form).1 in
@@ -433,15 +430,17 @@ module _ (contents : Option (List ℕ → Option (List ℕ))) (k : CommandSeen) 
                 (both_more ∙ ap (λ (z : List Loaded). z ++ (bundles_more.0 ++ keys_more.0)) loaded.noted ∙ append_assoc r.loads (script_load ∷ []) (bundles_more.0 ++ keys_more.0))
                 inputs.secrets.items words);
             key_bytes =
-                subst (λ (x : Option (List ℕ)). AreKeysHandedOut x r.loads r'.loads (keys_or_none inputs.keys)) (sym (keys_of_command k c has))
-                (subst (λ (x : Option KeyBytes). AreKeysHandedOut c.keys r.loads r'.loads (keys_or_none x)) (sym key_bytes)
-                (keys_handed contents (needs_keys s.calls) c.keys t.behind_bundles t.keys t.behind_keys r' (keys_named fine) fine' (first_none _ _ lengths).0 r.loads (script_load ∷ bundles_more.0) secrets_more.0
-                (bundles_more.1 ∙ ap (λ (z : List Loaded). z ++ bundles_more.0) loaded.noted ∙ append_assoc r.loads (script_load ∷ []) bundles_more.0) secrets_more.1));
+                subst (λ (x : Option (List ℕ)). AreKeysHandedOut (bundles_named k) x r.loads r'.loads (keys_or_none inputs.keys)) (sym (keys_of_command k c has))
+                (subst (λ (x : Option (List ℕ)). AreKeysHandedOut x c.keys r.loads r'.loads (keys_or_none inputs.keys)) (sym (bundles_of_command k c has))
+                (subst (λ (x : Option KeyBytes). AreKeysHandedOut c.bundles c.keys r.loads r'.loads (keys_or_none x)) (sym key_bytes)
+                (keys_handed contents (needs_keys s.calls) c.bundles c.keys t.behind_bundles t.keys t.behind_keys r' (keys_named fine) fine' (first_none _ _ lengths).0 r.loads (script_load ∷ bundles_more.0) secrets_more.0 bundles_many
+                (bundles_more.1 ∙ ap (λ (z : List Loaded). z ++ bundles_more.0) loaded.noted ∙ append_assoc r.loads (script_load ∷ []) bundles_more.0) secrets_more.1)));
             bundle_list =
                 subst (λ (x : Option (List ℕ)). AreBundlesHandedOut x r.loads r'.loads inputs.bundles.items) (sym (bundles_of_command k c has))
                 (subst (AreBundlesHandedOut c.bundles r.loads r'.loads) (sym listed)
-                (bundles_handed contents c.bundles b t.bundles t.behind_bundles r' t.bundles_loaded fine (first_none _ _ form).0 r.loads (script_load ∷ []) (keys_more.0 ++ secrets_more.0) loaded.noted
+                (bundles_handed contents c.bundles b t.bundles t.behind_bundles r' t.bundles_loaded fine (first_none _ _ form).0 r.loads (script_load ∷ []) (keys_more.0 ++ secrets_more.0) refl loaded.noted
                 (secrets_more.1 ∙ ap (λ (z : List Loaded). z ++ secrets_more.0) keys_more.1 ∙ append_assoc t.behind_bundles.loads keys_more.0 secrets_more.0)));
+            fit = fit;
           })
           order is_order (is ∙ sym (success_of k c s (handed_in inputs) order has)) threads
 
@@ -467,13 +466,9 @@ module _ (contents : Option (List ℕ → Option (List ℕ))) (k : CommandSeen) 
       place_of : (place : ℕ) → container_fault t.bundles ≡ Some (fault.Container place) → Loading contents (2 ^ 29) c.bundles b t.bundles t.behind_bundles → e ≡ container_end place → Came contents (Some k) r r' e
       place_of place h (Not no_name none same) is = let (x, p, answered, wrong) = container_at t.bundles _ h in absurd (cc)
       place_of place h (Once n x named answered l) is =
-          Place k refl c has n named (script_load ∷ []) x (
-            keys_more.0 ++ secrets_more.0,
-            secrets_more.1
-                ∙ ap (λ (z : List Loaded). z ++ secrets_more.0) (keys_more.1 ∙ ap (λ (z : List Loaded). z ++ keys_more.0) (l.noted ∙ ap (λ (z : List Loaded). z ++ record { name = n; answer = x } ∷ []) loaded.noted))
-                ∙ append_assoc ((r.loads ++ script_load ∷ []) ++ record { name = n; answer = x } ∷ []) keys_more.0 secrets_more.0
-                ∙ append_assoc (r.loads ++ script_load ∷ []) (record { name = n; answer = x } ∷ []) (keys_more.0 ++ secrets_more.0),
-          )
+          Place k refl c has n named x
+          (one_behind r.loads (script_load ∷ []) (keys_more.0 ++ secrets_more.0) b.loads t.behind_bundles.loads r'.loads n x 1 refl loaded.noted l.noted
+          (secrets_more.1 ∙ ap (λ (z : List Loaded). z ++ secrets_more.0) keys_more.1 ∙ append_assoc t.behind_bundles.loads keys_more.0 secrets_more.0))
           place (subst (λ (z : Option (Result (Vec ℕ) LoadFault)). container_fault z ≡ Some (fault.Container place)) answered h) is
 
       container : (place : ℕ) → Faulty (needs_keys s.calls) t.bundles t.keys t.secrets (fault.Container place) → e ≡ container_end place → Came contents (Some k) r r' e
@@ -493,7 +488,7 @@ module _ (contents : Option (List ℕ → Option (List ℕ))) (k : CommandSeen) 
       keys_wrong h is (Once n x named answered l) =
           let short : length_fault 64 fault.Keys (Some x) ≡ Some fault.Keys = subst (λ (z : Option (Result (Vec ℕ) LoadFault)). keys_fault (needs_keys s.calls) z ≡ Some fault.Keys) answered h in
           WrongLength
-          (inl (input_length (λ n. n.keys) 64 fault.Keys keys_end t.behind_bundles t.behind_keys t.keys bundles_more.0 secrets_more.0 e bundles_more.1 (Once n x named answered l) secrets_more.1
+          (inl (input_length (λ n. n.keys) before_keys 64 fault.Keys keys_end t.behind_bundles t.behind_keys t.keys bundles_more.0 secrets_more.0 e bundles_many bundles_more.1 (Once n x named answered l) secrets_more.1
           (subst (λ (z : Option (Result (Vec ℕ) LoadFault)). length_fault 64 fault.Keys z ≡ Some fault.Keys) (sym answered) short) is))
           (ap (λ (x : Ended). x.status) is) (ap (λ (x : Ended). x.files) is)
 
@@ -514,7 +509,7 @@ module _ (contents : Option (List ℕ → Option (List ℕ))) (k : CommandSeen) 
       secrets (Length4096 none h) is =
           let (fine, fine', fine'') = all_read t.bundles t.keys t.secrets none in
           WrongLength
-          (inr (inl (input_length (λ n. n.secrets) 4096 fault.Secrets secrets_end t.behind_keys r' t.secrets (bundles_more.0 ++ keys_more.0) [] e both_more
+          (inr (inl (input_length (λ n. n.secrets) before_secrets 4096 fault.Secrets secrets_end t.behind_keys r' t.secrets (bundles_more.0 ++ keys_more.0) [] e (both_many fine) both_more
           (loading contents (2 ^ 16) c.secrets t.behind_keys t.secrets r' (secrets_named_at fine fine')) (sym (append-nil r'.loads)) h is)))
           (ap (λ (x : Ended). x.status) is) (ap (λ (x : Ended). x.files) is)
 
@@ -533,7 +528,7 @@ module _ (contents : Option (List ℕ → Option (List ℕ))) (c : CommandSeen) 
   script_came (Replay n) given s loaded reads (res, takes, ends) = inputs_came contents (Replay n) n refl r b r' given loaded s res e reads takes ends
   script_came (Run n) given s loaded reads (res, takes, ends) = inputs_came contents (Run n) n refl r b r' given loaded s res e reads takes ends
   script_came (Check name) given s loaded reads (same, is) =
-      Success (Check name) refl given ([], ap (λ (z : Reads). z.loads) same ∙ loaded.noted) s reads (record { secrets = λ i. 0; keys = no_keys; bundles = [] }) (record { words = λ i. refl; key_bytes = refl; bundle_list = refl }) [] tt is tt
+      Success (Check name) refl given ([], ap (λ (z : Reads). z.loads) same ∙ loaded.noted) s reads (record { secrets = λ i. 0; keys = no_keys; bundles = [] }) (record { words = λ i. refl; key_bytes = refl; bundle_list = refl; fit = record { words = λ k few. lit< tt; come_in = λ slot. tt } }) [] tt is tt
 
   -- what a script that was loaded came to
   read_came : (given : Vec ℕ) (read : Result ScriptSeen ScriptFault) → Loads contents (2 ^ 24) (script_name c) r (Ok given) b → read_of given.items ≡ read → ReadEnd contents c b r' read e
@@ -585,7 +580,7 @@ files_few contents c r r' e (Usage none same is) = no_files (ap (λ (x : Ended).
 files_few contents c r r' e (Unread k is_c n named before answer loaded u rose is) = no_files (ap (λ (x : Ended). x.files) is)
 files_few contents c r r' e (BadScript k is_c answer loaded line reason first is) = no_files (ap (λ (x : Ended). x.files) is)
 files_few contents c r r' e (Want k is_c is) = no_files (ap (λ (x : Ended). x.files) is)
-files_few contents c r r' e (Place k is_c o has n named before answer loaded place wrong is) = no_files (ap (λ (x : Ended). x.files) is)
+files_few contents c r r' e (Place k is_c o has n named answer loaded place wrong is) = no_files (ap (λ (x : Ended). x.files) is)
 files_few contents c r r' e (WrongLength which seven none) = no_files none
 files_few contents c r r' e (Success k is_c given loaded s reads handed out order is_order is threads) =
     subst (λ (x : Option CommandSeen). length e.files ≤ length (out_names x)) (sym is_c) (subst (λ (x : Ended). length x.files ≤ length (out_names (Some k))) (sym is) (success_few k s handed order))
@@ -598,6 +593,6 @@ fault_ends contents k c s old new f (Err e) takes ends = tt
 
 -- so is a run
 pub run_ends : (contents : Option (List ℕ → Option (List ℕ))) (k : CommandSeen) (c : NamedSeen) (s : ScriptSeen) (old new : Reads) (inputs : Inputs) (r : Result Ending AllocError)
-    → TakesInputs contents (needs_keys s.calls) c old new (Ok inputs) → IfOk r (λ e. EndsRun k c s (handed_in inputs) (ending_seen e)) → IfOk r (λ e. NamedEnd contents k c s old new (ending_seen e))
+    → TakesInputs contents (needs_keys s.calls) c old new (Ok inputs) → IfOk r (λ e. EndsRun k c s (handed_in inputs) (ending_seen e) × HandsWords (handed_in inputs)) → IfOk r (λ e. NamedEnd contents k c s old new (ending_seen e))
 run_ends contents k c s old new inputs (Ok e) takes h = (Ok inputs, takes, h)
 run_ends contents k c s old new inputs (Err e) takes h = tt

@@ -31,8 +31,7 @@ one_more f fs w m w' o o' status saves (Wanted front g rest before are all kept 
 saving : (fs : List ToSave) (w w' : Writes) (o o' : Outputs) (status : ℕ) → SavesAll fs w w' o o' status → Saving fs w w' o o' status
 saving [] w w' o o' status (kept, same, is) = Every kept same is
 saving (f ∷ fs) w w' o o' status (inl (m, saves, more)) = one_more f fs w m w' o o' status saves (saving fs m w' o o' status more)
-saving (f ∷ fs) w w' o o' status (inr (inl (x, saves, tells))) = of_fault f fs w w' o o' status x saves tells
-saving (f ∷ fs) w w' o o' status (inr (inr (kept, want))) = Wanted [] f fs w refl refl (ap (λ (x : Writes). x.contents) kept) want
+saving (f ∷ fs) w w' o o' status (inr (x, saves, tells)) = of_fault f fs w w' o o' status x saves tells
 
 -- ---- the status of a save
 
@@ -52,16 +51,13 @@ saves_then [] gs w m w' o b o' told status (kept, same, is) (inl (zero, more)) =
     subst (λ (x : Writes). SavesAll gs x w' o o' status) kept (subst (λ (x : Outputs). SavesAll gs m w' x o' status) same more)
 saves_then [] gs w m w' o b o' told status (kept, same, is) (inr (not_zero, stay, still, st)) = absurd (not_zero is)
 saves_then (f ∷ fs) gs w m w' o b o' told status (inl (n, saves, all)) more = inl (n, saves, saves_then fs gs n m w' o b o' told status all more)
-saves_then (f ∷ fs) gs w m w' o b o' told status (inr (inl (x, saves, tells))) (inl (zero, more)) = absurd (fault_some f o b told x tells zero)
-saves_then (f ∷ fs) gs w m w' o b o' told status (inr (inl (x, saves, tells))) (inr (not_zero, kept, same, is)) =
-    inr (inl (
+saves_then (f ∷ fs) gs w m w' o b o' told status (inr (x, saves, tells)) (inl (zero, more)) = absurd (fault_some f o b told x tells zero)
+saves_then (f ∷ fs) gs w m w' o b o' told status (inr (x, saves, tells)) (inr (not_zero, kept, same, is)) =
+    inr (
       x,
       subst (λ (z : Writes). Saves f.name f.bytes w (Err x) z) (sym kept) saves,
       subst (λ (z : Outputs). TellsSave f.name x o z status) (sym same) (subst (λ (z : ℕ). TellsSave f.name x o b z) (sym is) tells),
-    ))
-saves_then (f ∷ fs) gs w m w' o b o' told status (inr (inr (still, want))) (inl (zero, more)) = absurd (let q = want.0 in omega (arith, q, zero))
-saves_then (f ∷ fs) gs w m w' o b o' told status (inr (inr (still, want))) (inr (not_zero, kept, same, is)) =
-    inr (inr (kept ∙ still, subst (λ (z : Outputs). PutsWant o z status) (sym same) (subst (λ (z : ℕ). PutsWant o b z) (sym is) want)))
+    )
 
 -- the count of write faults never falls
 pub saved_later : (fs : List ToSave) (w w' : Writes) → AllSaved fs w w' → w.faults ≤ w'.faults

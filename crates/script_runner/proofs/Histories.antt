@@ -16,10 +16,11 @@ use Rattle.command_files.specs.Commands.{NamedSeen, CommandSeen, Replay, Run, Ch
 use Rattle.command_files.specs.declared.inputs.InputFault.{InputFault}
 use Rattle.command_files.specs.declared.inputs.InputFault.TheVariants as fault
 use Rattle.command_files.specs.Inputs.{Reads}
-use Rattle.script_runner.specs.Ending.{ToSave, Ended, memory_end, keys_end, secrets_end, unwritten_end, success_end, ending_of}
+use Rattle.script_runner.specs.Ending.{ToSave, Ended, memory_end, keys_end, secrets_end, unwritten_end, success_end, ending_of, HandedOut}
 use Rattle.script_runner.specs.Saving.{Writes, AllSaved, out_names}
 use Rattle.script_runner.specs.Ends.{Faults, ReadCause, WriteCause, EndsWith, OneRun, IsBadScript, IsBadContainer, IsBadKeysOrSecrets, IsComplete, PutsFrontsOf}
-use Rattle.script_runner.specs.Done.{PutsOnce, PutsText, PutsRun, PutsAndSaved, PutsUsage, PutsFault, PutsName, PutsPlace, PutsLength, PutsKeysOrSecrets, PutsThreads, PutsLost, PutsMemory, SavesNothing, ChangesNothing, SavesFront, KeepsOrSaves}
+use Rattle.script_runner.specs.Threads.{ThreadsOf}
+use Rattle.script_runner.specs.Done.{PutsOnce, PutsText, HoldsOfRun, PutsRun, PutsAndSaved, PutsUsage, PutsFault, PutsName, PutsPlace, PutsLength, before_keys, before_secrets, PutsKeysOrSecrets, PutsThreads, PutsLost, PutsMemory, SavesNothing, ChangesNothing, SavesFront, KeepsOrSaves}
 use Rattle.script_runner.specs.Promised.{LoadsSome}
 use Rattle.script_runner.proofs.Asked.{asks}
 use Rattle.script_runner.specs.Commanded.{Comes, ComesPart, AnswerEnd, ScriptEnd, ReadEnd, FurtherPart, Outputs, Puts, DoesCommand}
@@ -33,22 +34,25 @@ use Rattle.script_runner.proofs.Endings as endings
 
 module _ (contents : Option (List ℕ → Option (List ℕ))) (c : Option CommandSeen) (r r' : Reads) (e : Ended) (puts puts' : List Put) where
   run_done : (answer : Result (Unit {0}) PutFault) → Came contents c r r' e → e.status ≡ 0 → PutsOnce puts e.text answer puts'
-      → (d : PutsRun c r.loads r'.loads puts puts' answer) × (e ≡ success_end d.command d.script d.handed d.order)
+      → (d : PutsRun c r.loads r'.loads puts puts' answer) × (e ≡ success_end d.command d.script d.handed d.order) × ThreadsOf d.command d.script d.handed d.order (success_end d.command d.script d.handed d.order)
   run_done a (Usage none same is) st p = absurd (let t = ap (λ (x : Ended). x.status) is in omega (arith, t, st))
   run_done a (Unread k is_c n named before answer loaded u rose is) st p = absurd (let t = ap (λ (x : Ended). x.status) is in omega (arith, t, st))
   run_done a (BadScript k is_c answer loaded line reason first is) st p = absurd (let t = ap (λ (x : Ended). x.status) is in omega (arith, t, st))
   run_done a (Want k is_c is) st p = absurd (let t = ap (λ (x : Ended). x.status) is in omega (arith, t, st))
-  run_done a (Place k is_c o has n named before answer loaded place wrong is) st p = absurd (let t = ap (λ (x : Ended). x.status) is in omega (arith, t, st))
+  run_done a (Place k is_c o has n named answer loaded place wrong is) st p = absurd (let t = ap (λ (x : Ended). x.status) is in omega (arith, t, st))
   run_done a (WrongLength which seven none) st p = absurd (omega (arith, seven, st))
-  run_done a (Success k is_c given loaded s reads handed out order is_order is threads) st p =
-      (record { command = k; read_as = is_c; given = given; loaded = loaded; script = s; reads = reads; handed = handed; handed_out = out; order = order; is_order = is_order; prints = subst (λ (x : Ended). PutsOnce puts x.text a puts') is p }, is)
+  run_done a (Success k is_c given loaded s reads handed out order is_order is threads) st p = (
+    record { command = k; read_as = is_c; given = given; loaded = loaded; script = s; reads = reads; handed = handed; handed_out = out; order = order; is_order = is_order; prints = subst (λ (x : Ended). PutsOnce puts x.text a puts') is p },
+    is,
+    subst (λ (x : Ended). ThreadsOf k s handed order x) is threads,
+  )
 
   usage_done : Came contents c r r' e → e.status ≡ 1 → PutsText puts e.text puts' → PutsUsage c r.loads r'.loads puts puts'
   usage_done (Usage none same is) st p = (none, same, subst (λ (x : Ended). PutsText puts x.text puts') is p)
   usage_done (Unread k is_c n named before answer loaded u rose is) st p = absurd (let t = ap (λ (x : Ended). x.status) is in omega (arith, t, st))
   usage_done (BadScript k is_c answer loaded line reason first is) st p = absurd (let t = ap (λ (x : Ended). x.status) is in omega (arith, t, st))
   usage_done (Want k is_c is) st p = absurd (let t = ap (λ (x : Ended). x.status) is in omega (arith, t, st))
-  usage_done (Place k is_c o has n named before answer loaded place wrong is) st p = absurd (let t = ap (λ (x : Ended). x.status) is in omega (arith, t, st))
+  usage_done (Place k is_c o has n named answer loaded place wrong is) st p = absurd (let t = ap (λ (x : Ended). x.status) is in omega (arith, t, st))
   usage_done (WrongLength which seven none) st p = absurd (omega (arith, seven, st))
   usage_done (Success k is_c given loaded s reads handed out order is_order is threads) st p = absurd (let t = ap (λ (x : Ended). x.status) is in let z = success_zero k s handed order in omega (arith, t, z, st))
 
@@ -57,7 +61,7 @@ module _ (contents : Option (List ℕ → Option (List ℕ))) (c : Option Comman
   fault_done (Unread k is_c n named before answer loaded u rose is) st p = absurd (let t = ap (λ (x : Ended). x.status) is in omega (arith, t, st))
   fault_done (BadScript k is_c answer loaded line reason first is) st p = record { command = k; read_as = is_c; answer = answer; loaded = loaded; line = line; reason = reason; first = first; prints = subst (λ (x : Ended). PutsText puts x.text puts') is p }
   fault_done (Want k is_c is) st p = absurd (let t = ap (λ (x : Ended). x.status) is in omega (arith, t, st))
-  fault_done (Place k is_c o has n named before answer loaded place wrong is) st p = absurd (let t = ap (λ (x : Ended). x.status) is in omega (arith, t, st))
+  fault_done (Place k is_c o has n named answer loaded place wrong is) st p = absurd (let t = ap (λ (x : Ended). x.status) is in omega (arith, t, st))
   fault_done (WrongLength which seven none) st p = absurd (omega (arith, seven, st))
   fault_done (Success k is_c given loaded s reads handed out order is_order is threads) st p = absurd (let t = ap (λ (x : Ended). x.status) is in let z = success_zero k s handed order in omega (arith, t, z, st))
 
@@ -66,7 +70,7 @@ module _ (contents : Option (List ℕ → Option (List ℕ))) (c : Option Comman
   name_done (Unread k is_c n named before answer loaded u rose is) st p = record { command = k; read_as = is_c; name = n; named = named; before = before; answer = answer; loaded = loaded; unread = u; prints = subst (λ (x : Ended). PutsText puts x.text puts') is p }
   name_done (BadScript k is_c answer loaded line reason first is) st p = absurd (let t = ap (λ (x : Ended). x.status) is in omega (arith, t, st))
   name_done (Want k is_c is) st p = absurd (let t = ap (λ (x : Ended). x.status) is in omega (arith, t, st))
-  name_done (Place k is_c o has n named before answer loaded place wrong is) st p = absurd (let t = ap (λ (x : Ended). x.status) is in omega (arith, t, st))
+  name_done (Place k is_c o has n named answer loaded place wrong is) st p = absurd (let t = ap (λ (x : Ended). x.status) is in omega (arith, t, st))
   name_done (WrongLength which seven none) st p = absurd (omega (arith, seven, st))
   name_done (Success k is_c given loaded s reads handed out order is_order is threads) st p = absurd (let t = ap (λ (x : Ended). x.status) is in let z = success_zero k s handed order in omega (arith, t, z, st))
 
@@ -75,19 +79,18 @@ module _ (contents : Option (List ℕ → Option (List ℕ))) (c : Option Comman
   place_done (Unread k is_c n named before answer loaded u rose is) st p = absurd (let t = ap (λ (x : Ended). x.status) is in omega (arith, t, st))
   place_done (BadScript k is_c answer loaded line reason first is) st p = absurd (let t = ap (λ (x : Ended). x.status) is in omega (arith, t, st))
   place_done (Want k is_c is) st p = absurd (let t = ap (λ (x : Ended). x.status) is in omega (arith, t, st))
-  place_done (Place k is_c o has n named before answer loaded place wrong is) st p = record { command = k; read_as = is_c; options = o; has = has; name = n; named = named; before = before; answer = answer; loaded = loaded; place = place; wrong = wrong; prints = subst (λ (x : Ended). PutsText puts x.text puts') is p }
+  place_done (Place k is_c o has n named answer loaded place wrong is) st p = record { command = k; read_as = is_c; options = o; has = has; name = n; named = named; answer = answer; loaded = loaded; place = place; wrong = wrong; prints = subst (λ (x : Ended). PutsText puts x.text puts') is p }
   place_done (WrongLength which seven none) st p = absurd (omega (arith, seven, st))
   place_done (Success k is_c given loaded s reads handed out order is_order is threads) st p = absurd (let t = ap (λ (x : Ended). x.status) is in let z = success_zero k s handed order in omega (arith, t, z, st))
 
-  length_done : (file : NamedSeen → Option (List ℕ)) (count : ℕ) (f : InputFault) (told : Ended) → LengthCame file count f told c r r' e → PutsText puts e.text puts' → PutsLength file count f told c r.loads r'.loads puts puts'
-  length_done file count f told l p = record {
+  length_done : (file : NamedSeen → Option (List ℕ)) (behind : NamedSeen → ℕ) (count : ℕ) (f : InputFault) (told : Ended) → LengthCame file behind count f told c r r' e → PutsText puts e.text puts' → PutsLength file behind count f told c r.loads r'.loads puts puts'
+  length_done file behind count f told l p = record {
     command = l.command;
     read_as = l.read_as;
     options = l.options;
     has = l.has;
     name = l.name;
     named = l.named;
-    before = l.before;
     answer = l.answer;
     loaded = l.loaded;
     wrong = l.wrong;
@@ -99,9 +102,9 @@ module _ (contents : Option (List ℕ → Option (List ℕ))) (c : Option Comman
   keys_done (Unread k is_c n named before answer loaded u rose is) st p = absurd (let t = ap (λ (x : Ended). x.status) is in omega (arith, t, st))
   keys_done (BadScript k is_c answer loaded line reason first is) st p = absurd (let t = ap (λ (x : Ended). x.status) is in omega (arith, t, st))
   keys_done (Want k is_c is) st p = absurd (let t = ap (λ (x : Ended). x.status) is in omega (arith, t, st))
-  keys_done (Place k is_c o has n named before answer loaded place wrong is) st p = absurd (let t = ap (λ (x : Ended). x.status) is in omega (arith, t, st))
-  keys_done (WrongLength (inl l) seven none) st p = inl (length_done (λ n. n.keys) 64 fault.Keys keys_end l p)
-  keys_done (WrongLength (inr (inl l)) seven none) st p = inr (inl (length_done (λ n. n.secrets) 4096 fault.Secrets secrets_end l p))
+  keys_done (Place k is_c o has n named answer loaded place wrong is) st p = absurd (let t = ap (λ (x : Ended). x.status) is in omega (arith, t, st))
+  keys_done (WrongLength (inl l) seven none) st p = inl (length_done (λ n. n.keys) before_keys 64 fault.Keys keys_end l p)
+  keys_done (WrongLength (inr (inl l)) seven none) st p = inr (inl (length_done (λ n. n.secrets) before_secrets 4096 fault.Secrets secrets_end l p))
   keys_done (WrongLength (inr (inr l)) seven none) st p = inr (inr (record {
     command = l.command;
     read_as = l.read_as;
@@ -122,7 +125,7 @@ module _ (contents : Option (List ℕ → Option (List ℕ))) (c : Option Comman
   memory_due (Unread k is_c n named before answer loaded u rose is) st = absurd (let t = ap (λ (x : Ended). x.status) is in omega (arith, t, st))
   memory_due (BadScript k is_c answer loaded line reason first is) st = absurd (let t = ap (λ (x : Ended). x.status) is in omega (arith, t, st))
   memory_due (Want k is_c is) st = ap (λ (x : Ended). x.text) is
-  memory_due (Place k is_c o has n named before answer loaded place wrong is) st = absurd (let t = ap (λ (x : Ended). x.status) is in omega (arith, t, st))
+  memory_due (Place k is_c o has n named answer loaded place wrong is) st = absurd (let t = ap (λ (x : Ended). x.status) is in omega (arith, t, st))
   memory_due (WrongLength which seven none) st = absurd (omega (arith, seven, st))
   memory_due (Success k is_c given loaded s reads handed out order is_order is threads) st = absurd (let t = ap (λ (x : Ended). x.status) is in let z = success_zero k s handed order in omega (arith, t, z, st))
 
@@ -131,7 +134,7 @@ module _ (contents : Option (List ℕ → Option (List ℕ))) (c : Option Comman
   never_four (Unread k is_c n named before answer loaded u rose is) st = absurd (let t = ap (λ (x : Ended). x.status) is in omega (arith, t, st))
   never_four (BadScript k is_c answer loaded line reason first is) st = absurd (let t = ap (λ (x : Ended). x.status) is in omega (arith, t, st))
   never_four (Want k is_c is) st = absurd (let t = ap (λ (x : Ended). x.status) is in omega (arith, t, st))
-  never_four (Place k is_c o has n named before answer loaded place wrong is) st = absurd (let t = ap (λ (x : Ended). x.status) is in omega (arith, t, st))
+  never_four (Place k is_c o has n named answer loaded place wrong is) st = absurd (let t = ap (λ (x : Ended). x.status) is in omega (arith, t, st))
   never_four (WrongLength which seven none) st = absurd (omega (arith, seven, st))
   never_four (Success k is_c given loaded s reads handed out order is_order is threads) st = absurd (let t = ap (λ (x : Ended). x.status) is in let z = success_zero k s handed order in omega (arith, t, z, st))
 
@@ -140,7 +143,7 @@ module _ (contents : Option (List ℕ → Option (List ℕ))) (c : Option Comman
   rose_due (Unread k is_c n named before answer loaded u rose is) st = rose
   rose_due (BadScript k is_c answer loaded line reason first is) st = absurd (let t = ap (λ (x : Ended). x.status) is in omega (arith, t, st))
   rose_due (Want k is_c is) st = absurd (let t = ap (λ (x : Ended). x.status) is in omega (arith, t, st))
-  rose_due (Place k is_c o has n named before answer loaded place wrong is) st = absurd (let t = ap (λ (x : Ended). x.status) is in omega (arith, t, st))
+  rose_due (Place k is_c o has n named answer loaded place wrong is) st = absurd (let t = ap (λ (x : Ended). x.status) is in omega (arith, t, st))
   rose_due (WrongLength which seven none) st = absurd (omega (arith, seven, st))
   rose_due (Success k is_c given loaded s reads handed out order is_order is threads) st = absurd (let t = ap (λ (x : Ended). x.status) is in let z = success_zero k s handed order in omega (arith, t, z, st))
 
@@ -171,6 +174,10 @@ some_loaded contents (Some c) r r' status (inl same) five = inr (five, same)
 some_loaded contents (Some c) r r' status (inr part) five = inl part
 
 -- ---- what was put and saved, by the status
+
+-- what holds of each run of a script
+abbrev pub HoldsOfRuns : Type 0
+HoldsOfRuns = (k : CommandSeen) (s : ScriptSeen) (handed : HandedOut) (order : List ℕ) → ThreadsOf k s handed order (success_end k s handed order) → HoldsOfRun k s handed order
 
 -- a file is among so many
 some_named : (names : List (List ℕ)) (files front : List ToSave) (f : ToSave) (rest : List ToSave) → length files ≤ length names → files ≡ front ++ f ∷ rest → names ≢ []
@@ -261,19 +268,20 @@ module _ (names : List (List ℕ)) (e : Ended) (few : length e.files ≤ length 
   then_put : (a b d : List Put) (p q : Put) → b ≡ a ++ p ∷ [] → d ≡ b ++ q ∷ [] → d ≡ a ++ p ∷ q ∷ []
   then_put a b d p q g h = h ∙ ap (λ (x : List Put). x ++ q ∷ []) g ∙ append_assoc a (p ∷ []) (q ∷ [])
 
-  some_put : Closing e w w' o o' status → (p : Put) × (more : List Put) × (o'.puts ≡ o.puts ++ p ∷ more)
-  some_put (Told puts not_zero is kept) = (_, [], puts.noted)
-  some_put (Lost puts is kept) = (_, [], puts.noted)
-  some_put (Wanting b puts (five, answer, last) kept) = (_, _, then_put o.puts b.puts o'.puts _ _ puts.noted last.noted)
-  some_put (Whole puts zero is saved) = (_, [], puts.noted)
-  some_put (Unsaved front f rest m b answer are all zero puts saves not_want last four) = (_, _, then_put o.puts b.puts o'.puts _ _ puts.noted last.noted)
+  some_put : Closing e w w' o o' status → (p : Put) × (more : List Put) × (o'.puts ≡ o.puts ++ p ∷ more) × (length more ≤ 2)
+  some_put (Told puts not_zero is kept) = (_, [], puts.noted, omega arith)
+  some_put (Lost puts is kept) = (_, [], puts.noted, omega arith)
+  some_put (Wanting b puts (five, answer, last) kept) = (_, _ ∷ [], then_put o.puts b.puts o'.puts _ _ puts.noted last.noted, omega arith)
+  some_put (Whole puts zero is saved) = (_, [], puts.noted, omega arith)
+  some_put (Unsaved front f rest m b answer are all zero puts saves not_want last four) = (_, _ ∷ [], then_put o.puts b.puts o'.puts _ _ puts.noted last.noted, omega arith)
   some_put (WantingAfter front f rest m b b' are all zero puts kept (inl same) (five, answer, last)) =
-      (_, _, then_put o.puts b.puts o'.puts _ _ puts.noted (last.noted ∙ ap (λ (x : Outputs). x.puts ++ record { bytes = memory_end.text; answer = answer } ∷ []) same))
+      (_, _ ∷ [], then_put o.puts b.puts o'.puts _ _ puts.noted (last.noted ∙ ap (λ (x : Outputs). x.puts ++ record { bytes = memory_end.text; answer = answer } ∷ []) same), omega arith)
   some_put (WantingAfter front f rest m b b' are all zero puts kept (inr lost) (five, answer, last)) = (
     _,
-    _,
+    _ ∷ _ ∷ [],
     last.noted ∙ ap (λ (x : List Put). x ++ record { bytes = memory_end.text; answer = answer } ∷ []) (then_put o.puts b.puts b'.puts _ _ puts.noted lost.noted)
         ∙ append_assoc o.puts _ _,
+    omega arith,
   )
 
   -- want of memory was put, and nothing before it
@@ -334,21 +342,22 @@ module _ (names : List (List ℕ)) (e : Ended) (few : length e.files ≤ length 
   write_cause r r' never four (Unsaved front f rest m b answer are all zero puts saves not_want last is) = inr (named front f rest are, rose_earlier w.faults m.faults w'.faults (saved_later front w m all) saves.cause)
   write_cause r r' never four (WantingAfter front f rest m b b' are all zero puts kept which want) = absurd (let q = want.0 in omega (arith, q, four))
 
-  lost_done : (contents : Option (List ℕ → Option (List ℕ))) (c : Option CommandSeen) (r r' : Reads) → Came contents c r r' e → status ≡ 4 → Closing e w w' o o' status
+  lost_done : HoldsOfRuns → (contents : Option (List ℕ → Option (List ℕ))) (c : Option CommandSeen) (r r' : Reads) → Came contents c r r' e → status ≡ 4 → Closing e w w' o o' status
       → PutsLost c r.loads r'.loads w w' o.puts o'.puts
-  lost_done contents c r r' h four (Told puts not_zero is kept) = absurd (never_four contents c r r' e o.puts o'.puts h (sym is ∙ four))
-  lost_done contents c r r' h four (Lost puts is kept) =
+  lost_done holds contents c r r' h four (Told puts not_zero is kept) = absurd (never_four contents c r r' e o.puts o'.puts h (sym is ∙ four))
+  lost_done holds contents c r r' h four (Lost puts is kept) =
       elim (unput e.status status is) [
-        | inl x ↦ inl ((run_done contents c r r' e o.puts o'.puts (Err put.Failed) h x.0 puts.noted).0, kept)
+        | inl x ↦ let (d, same, threads) = run_done contents c r r' e o.puts o'.puts (Err put.Failed) h x.0 puts.noted in inl (d, holds d.command d.script d.handed d.order threads, kept)
         | inr x ↦ absurd (never_four contents c r r' e o.puts o'.puts h (sym x.1 ∙ four))
       ]
-  lost_done contents c r r' h four (Wanting b puts want kept) = absurd (let q = want.0 in omega (arith, q, four))
-  lost_done contents c r r' h four (Whole puts zero is saved) = absurd (omega (arith, is, four))
-  lost_done contents c r r' h four (Unsaved front f rest m b answer are all zero puts saves not_want last is) =
-      let (d, same) = run_done contents c r r' e o.puts b.puts (Ok tt) h zero puts.noted in
+  lost_done holds contents c r r' h four (Wanting b puts want kept) = absurd (let q = want.0 in omega (arith, q, four))
+  lost_done holds contents c r r' h four (Whole puts zero is saved) = absurd (omega (arith, is, four))
+  lost_done holds contents c r r' h four (Unsaved front f rest m b answer are all zero puts saves not_want last is) =
+      let (d, same, threads) = run_done contents c r r' e o.puts b.puts (Ok tt) h zero puts.noted in
       inr (record {
         between = b.puts;
         replies = d;
+        holds = holds d.command d.script d.handed d.order threads;
         front = front;
         out = f;
         rest = rest;
@@ -359,13 +368,13 @@ module _ (names : List (List ℕ)) (e : Ended) (few : length e.files ≤ length 
         kept = saves.kept;
         prints = (answer, not_want, last.noted);
       })
-  lost_done contents c r r' h four (WantingAfter front f rest m b b' are all zero puts kept which want) = absurd (let q = want.0 in omega (arith, q, four))
+  lost_done holds contents c r r' h four (WantingAfter front f rest m b b' are all zero puts kept which want) = absurd (let q = want.0 in omega (arith, q, four))
 
   -- what files have where not all was done
   front_saved : (contents : Option (List ℕ → Option (List ℕ))) (c : Option CommandSeen) (r r' : Reads) (front : List ToSave) (f : ToSave) (rest : List ToSave) (m : Writes) (b : Outputs) → Came contents c r r' e
       → e.files ≡ front ++ f ∷ rest → AllSaved front w m → e.status ≡ 0 → Puts e.text o (Ok tt) b → w'.contents ≡ m.contents → SavesFront c r.loads r'.loads w w'
   front_saved contents c r r' front f rest m b h are all zero puts kept =
-      let (d, same) = run_done contents c r r' e o.puts b.puts (Ok tt) h zero puts.noted in
+      let (d, same, threads) = run_done contents c r r' e o.puts b.puts (Ok tt) h zero puts.noted in
       record {
         command = d.command;
         read_as = d.read_as;
@@ -402,7 +411,7 @@ usage_status contents c r r' e none (Usage n same is) = ap (λ (x : Ended). x.st
 usage_status contents c r r' e none (Unread k is_c n named before answer loaded u rose is) = absurd (cc)
 usage_status contents c r r' e none (BadScript k is_c answer loaded line reason first is) = absurd (cc)
 usage_status contents c r r' e none (Want k is_c is) = absurd (cc)
-usage_status contents c r r' e none (Place k is_c o has n named before answer loaded place wrong is) = absurd (cc)
+usage_status contents c r r' e none (Place k is_c o has n named answer loaded place wrong is) = absurd (cc)
 usage_status contents c r r' e none (WrongLength which seven no_file) = absurd (no_length which)
   where
     no_length : SomeLength c r r' e → ⊥
@@ -442,49 +451,21 @@ module _ (contents : Option (List ℕ → Option (List ℕ))) (c : Option Comman
       (e, came contents c r r' e comes, own ∙ is, text)
   done_at s x0 x4 x5 is (inr (part, kept, want)) = absurd (x5 (sym is ∙ want.0))
 
-  done_zero : status ≡ 0 → Does → PutsAndSaved c r.loads r'.loads o.puts o'.puts w w'
+  done_zero : status ≡ 0 → Does → PutsThreads c r.loads r'.loads o.puts o'.puts w w'
   done_zero zero (inl (e, comes, p)) =
       let (own, text, saved, gains) = closes_whole names e (few_of e comes) w w' o o' status zero (closing e w w' o o' status p) in
-      let (d, same) = run_done contents c r r' e o.puts o'.puts (Ok tt) (came contents c r r' e comes) own text in
-      (d, subst (λ (x : Ended). AllSaved x.files w w') same saved)
+      let (d, same, threads) = run_done contents c r r' e o.puts o'.puts (Ok tt) (came contents c r r' e comes) own text in
+      (d, subst (λ (x : Ended). AllSaved x.files w w') same saved, threads)
   done_zero zero (inr (part, kept, want)) = absurd (let q = want.0 in omega (arith, q, zero))
 
-  -- a run put and saved the texts of its threads
-  threads_done : (e : Ended) → Came contents c r r' e → e.status ≡ 0 → PutsOnce o.puts e.text (Ok tt) o'.puts → AllSaved e.files w w' → PutsThreads c r.loads r'.loads o.puts o'.puts w w'
-  threads_done e (Usage none same is) st p all = absurd (let t = ap (λ (x : Ended). x.status) is in omega (arith, t, st))
-  threads_done e (Unread k is_c n named before answer loaded u rose is) st p all = absurd (let t = ap (λ (x : Ended). x.status) is in omega (arith, t, st))
-  threads_done e (BadScript k is_c answer loaded line reason first is) st p all = absurd (let t = ap (λ (x : Ended). x.status) is in omega (arith, t, st))
-  threads_done e (Want k is_c is) st p all = absurd (let t = ap (λ (x : Ended). x.status) is in omega (arith, t, st))
-  threads_done e (Place k is_c o has n named before answer loaded place wrong is) st p all = absurd (let t = ap (λ (x : Ended). x.status) is in omega (arith, t, st))
-  threads_done e (WrongLength which seven none) st p all = absurd (omega (arith, seven, st))
-  threads_done e (Success k is_c given loaded s reads handed out order is_order is threads) st p all = (
-    record {
-      command = k;
-      read_as = is_c;
-      given = given;
-      loaded = loaded;
-      script = s;
-      reads = reads;
-      handed = handed;
-      handed_out = out;
-      order = order;
-      is_order = is_order;
-      prints = subst (λ (x : Ended). PutsOnce o.puts x.text (Ok tt) o'.puts) is p;
-    },
-    (e, threads, p, all),
-  )
-
   pub put_threads : Does → status ≡ 0 → PutsThreads c r.loads r'.loads o.puts o'.puts w w'
-  put_threads (inl (e, comes, p)) zero =
-      let (own, text, saved, gains) = closes_whole names e (few_of e comes) w w' o o' status zero (closing e w w' o o' status p) in
-      threads_done e (came contents c r r' e comes) own text saved
-  put_threads (inr (part, kept, want)) zero = absurd (let q = want.0 in omega (arith, q, zero))
+  put_threads d zero = done_zero zero d
 
   pub put_run : Does → status ≡ 0 → PutsRun c r.loads r'.loads o.puts o'.puts (Ok tt)
   put_run d zero = (done_zero zero d).0
 
   pub all_saved : Does → status ≡ 0 → PutsAndSaved c r.loads r'.loads o.puts o'.puts w w'
-  all_saved d zero = done_zero zero d
+  all_saved d zero = let (run, saved, threads) = done_zero zero d in (run, saved)
 
   pub put_usage : Does → status ≡ 1 → PutsUsage c r.loads r'.loads o.puts o'.puts
   put_usage d s = let (e, m, own, text) = done_at 1 (λ q. omega (arith, q)) (λ q. omega (arith, q)) (λ q. omega (arith, q)) s d in usage_done contents c r r' e o.puts o'.puts m own text
@@ -501,9 +482,9 @@ module _ (contents : Option (List ℕ → Option (List ℕ))) (c : Option Comman
   pub put_keys : Does → status ≡ 7 → PutsKeysOrSecrets c r.loads r'.loads o.puts o'.puts
   put_keys d s = let (e, m, own, text) = done_at 7 (λ q. omega (arith, q)) (λ q. omega (arith, q)) (λ q. omega (arith, q)) s d in keys_done contents c r r' e o.puts o'.puts m own text
 
-  pub put_lost : Does → status ≡ 4 → PutsLost c r.loads r'.loads w w' o.puts o'.puts
-  put_lost (inl (e, comes, p)) s = lost_done names e (few_of e comes) w w' o o' status contents c r r' (came contents c r r' e comes) s (closing e w w' o o' status p)
-  put_lost (inr (part, kept, want)) s = absurd (let q = want.0 in omega (arith, q, s))
+  pub put_lost : HoldsOfRuns → Does → status ≡ 4 → PutsLost c r.loads r'.loads w w' o.puts o'.puts
+  put_lost holds (inl (e, comes, p)) s = lost_done names e (few_of e comes) w w' o o' status holds contents c r r' (came contents c r r' e comes) s (closing e w w' o o' status p)
+  put_lost holds (inr (part, kept, want)) s = absurd (let q = want.0 in omega (arith, q, s))
 
   pub put_memory : Does → status ≡ 5 → PutsMemory names o.puts o'.puts
   put_memory (inl (e, comes, p)) s =
@@ -598,9 +579,9 @@ module _ (contents : Option (List ℕ → Option (List ℕ))) (c : Option Comman
   one_text (inl (e, comes, p)) h x5 = one_put names e (few_of e comes) w w' o o' status h x5 (closing e w w' o o' status p)
   one_text (inr (part, kept, want)) h x5 = absurd (x5 want.0)
 
-  pub some_text : Does → (p : Put) × (more : List Put) × (o'.puts ≡ o.puts ++ p ∷ more)
+  pub some_text : Does → (p : Put) × (more : List Put) × (o'.puts ≡ o.puts ++ p ∷ more) × (length more ≤ 2)
   some_text (inl (e, comes, p)) = some_put names e (few_of e comes) w w' o o' status (closing e w w' o o' status p)
-  some_text (inr (part, kept, (five, answer, last))) = (_, [], last.noted)
+  some_text (inr (part, kept, (five, answer, last))) = (_, [], last.noted, omega arith)
 
   pub same_files : Does → ChangesNothing names status → w'.contents ≡ w.contents
   same_files (inl (e, comes, p)) h = same_contents names e (few_of e comes) w w' o o' status h (closing e w w' o o' status p)

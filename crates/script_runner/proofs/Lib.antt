@@ -1,5 +1,6 @@
 pub mod Accesses
 mod Images
+pub mod Brings
 pub mod Asked
 pub mod Counts
 pub mod Part

@@ -8,11 +8,13 @@ use Rattle.command_files.specs.Inputs.{Reads}
 use Rattle.bundle_store.specs.Outside.{Rose}
 use Rattle.script_runner.specs.Saving.{Writes}
 use Rattle.script_runner.specs.Done.{PutsHeadline}
+use Rattle.script_runner.specs.Brings.{CarryingLaws}
 use Rattle.script_runner.specs.Commanded.{Outputs, DoesCommand}
-use Rattle.script_runner.specs.Asked.{OfScripts, DoesSoak}
+use Rattle.script_runner.specs.Asked.{OfScripts}
 use Rattle.script_runner.specs.Promised.{ByHistories, ByContents}
 use Rattle.script_runner.proofs.Accesses.{in-put, in-one}
 use Rattle.script_runner.proofs.Images as images
+use Rattle.script_runner.proofs.Brings as brings
 use Rattle.script_runner.proofs.Blind as blind
 use Rattle.script_runner.proofs.Histories as past
 use Rattle.script_runner.proofs.Asked.{asks, of_scripts}
@@ -20,7 +22,7 @@ use Rattle.script_runner.proofs.Soaked.{does_soak}
 
 -- ---- of one command on a script
 
-module _ (access : AccessesAreOwn) (prints : BlindRunsPrintTheSame) (bundles : BlindRunsMakeTheSameBundles) (agreeing : AgreeingRunsShowTheSame) (image : ImageLaw) where
+module _ (access : AccessesAreOwn) (prints : BlindRunsPrintTheSame) (bundles : BlindRunsMakeTheSameBundles) (agreeing : AgreeingRunsShowTheSame) (image : ImageLaw) (carrying : CarryingLaws) where
   module _ (contents : Option (List ℕ → Option (List ℕ))) (r r' : Reads) (w w' : Writes) (o o' : Outputs) (status : ℕ) where
     abbrev Does : Option AskedSeen → Type 0
     Does asked = DoesCommand contents asked r r' w w' o o' status
@@ -35,12 +37,13 @@ module _ (access : AccessesAreOwn) (prints : BlindRunsPrintTheSame) (bundles : B
       put_threads = past.put_threads contents c r r' w w' o o' status d;
       put_blind = λ zero. blind.put-blind prints bundles agreeing _ _ _ _ _ (past.put_run contents c r r' w w' o o' status d zero);
       put_images = λ zero. images.in-put image _ _ _ _ _ _ (past.put_run contents c r r' w w' o o' status d zero);
+      put_brings = λ zero. brings.in-put carrying _ _ _ _ _ _ (past.put_run contents c r r' w w' o o' status d zero);
       put_usage = past.put_usage contents c r r' w w' o o' status d;
       put_fault = past.put_fault contents c r r' w w' o o' status d;
       put_name = past.put_name contents c r r' w w' o o' status d;
       put_place = past.put_place contents c r r' w w' o o' status d;
       put_keys = past.put_keys contents c r r' w w' o o' status d;
-      put_lost = past.put_lost contents c r r' w w' o o' status d;
+      put_lost = past.put_lost contents c r r' w w' o o' status (blind.holds-of-run prints bundles agreeing access image) d;
       put_memory = past.put_memory contents c r r' w w' o o' status d;
       read = past.unread_cause contents c r r' w w' o o' status d;
       write = past.lost_cause contents c r r' w w' o o' status d;
@@ -53,7 +56,7 @@ module _ (access : AccessesAreOwn) (prints : BlindRunsPrintTheSame) (bundles : B
     }
 
     headline : status ≡ 0 → (c : Option CommandSeen) → Does (asks c) → PutsHeadline c r.loads r'.loads o.puts o'.puts w w'
-    headline zero c d = blind.headline prints bundles agreeing access image _ _ _ _ _ _ _ (past.all_saved contents c r r' w w' o o' status d zero)
+    headline zero c d = blind.headline prints bundles agreeing access image carrying _ _ _ _ _ _ _ (past.put_threads contents c r r' w w' o o' status d zero)
 
   by_contents : (held : List ℕ → Option (List ℕ)) (r r' : Reads) (w w' : Writes) (o o' : Outputs) (status : ℕ) (c : Option CommandSeen) → DoesCommand (Some held) (asks c) r r' w w' o o' status
       → ByContents held c r r' w w' o o' status

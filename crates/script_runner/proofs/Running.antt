@@ -8,10 +8,11 @@ use Rattle.script_text.specs.Seen.{ScriptSeen}
 use Rattle.command_files.specs.Commands.{NamedSeen, Replay, Run}
 use Rattle.incoming.specs.Arrivals.{SlotIncoming, incoming_in, at_slot}
 use Rattle.leaf_table.specs.Given.{Given, secrets_in}
+use Rattle.leaf_engine.specs.Merges.{order}
 use Rattle.run_texts.specs.Openings.{opening_of}
 use Rattle.run_texts.specs.Sealing.{bundles_text}
 use Rattle.run_texts.specs.Replaying.{TellAll}
-use Rattle.run_texts.specs.Threaded.{AreOfSomeRun, AreOfThreads}
+use Rattle.run_texts.specs.Threaded.{AreOfThreads}
 use Rattle.run_texts.specs.declared.replay.Texts.{Texts}
 use Rattle.script_runner.specs.Ending.{HandedOut, opening_by, file_named, both_files, run_end}
 use Rattle.script_runner.specs.Threads.{texts_end}
@@ -47,10 +48,9 @@ text-ends n s handed order t h =
 pub replay-ends : (n : NamedSeen) (s : ScriptSeen) (handed : HandedOut) (t : Texts) → TellsRun n s handed s.schedule t → EndsRun (Replay n) n s handed (texts_end n t)
 replay-ends n s handed t h = (s.schedule, refl, text-ends n s handed s.schedule t h, tt)
 
--- those of threads are those of the run under some order
-pub threads-end : (n : NamedSeen) (s : ScriptSeen) (handed : HandedOut) (t : Texts) → AreOfSomeRun (opening_by handed s) handed.keys.forward handed.keys.backward n.out_bundles n.guest_out t
-    → AreOfThreads (opening_by handed s) handed.keys.forward handed.keys.backward n.out_bundles n.guest_out t → EndsRun (Run n) n s handed (texts_end n t)
-threads-end n s handed t some threads = (some.schedule, some.processors, text-ends n s handed some.schedule t some.told, (t, threads, refl))
+-- those of threads are those of the run under the order of what they made
+pub threads-end : (n : NamedSeen) (s : ScriptSeen) (handed : HandedOut) (t : Texts) → AreOfThreads (opening_by handed s) handed.keys.forward handed.keys.backward n.out_bundles n.guest_out t → EndsRun (Run n) n s handed (texts_end n t)
+threads-end n s handed t threads = (order threads.made, threads.processors, text-ends n s handed (order threads.made) t (threads.each threads.made threads.table threads.ordered), (t, threads, refl, refl))
 
 -- what is given is what the inputs hand out
 module _ (n : NamedSeen) (s : ScriptSeen) (secrets forward backward : List ℕ) (bundles : List BundleSeen) (arrived : List SlotIncoming) (opened : arrived ≡ map (incoming_in forward backward) bundles) (t : Texts) where
@@ -60,9 +60,7 @@ module _ (n : NamedSeen) (s : ScriptSeen) (secrets forward backward : List ℕ) 
       replay-ends n s (held secrets forward backward bundles) t
       (subst (λ (x : List SlotIncoming). TellAll n.out_bundles n.guest_out (host_text (opening_of (given_words secrets x) s) s.schedule) (bundles_text forward backward (opening_of (given_words secrets x) s) s.schedule) (guest_text (opening_of (given_words secrets x) s) s.schedule) t) opened h)
 
-  pub threads-given : AreOfSomeRun (opening_of (given_words secrets arrived) s) forward backward n.out_bundles n.guest_out t → AreOfThreads (opening_of (given_words secrets arrived) s) forward backward n.out_bundles n.guest_out t
-      → EndsRun (Run n) n s (held secrets forward backward bundles) (texts_end n t)
-  threads-given some threads =
+  pub threads-given : AreOfThreads (opening_of (given_words secrets arrived) s) forward backward n.out_bundles n.guest_out t → EndsRun (Run n) n s (held secrets forward backward bundles) (texts_end n t)
+  threads-given threads =
       threads-end n s (held secrets forward backward bundles) t
-      (subst (λ (x : List SlotIncoming). AreOfSomeRun (opening_of (given_words secrets x) s) forward backward n.out_bundles n.guest_out t) opened some)
       (subst (λ (x : List SlotIncoming). AreOfThreads (opening_of (given_words secrets x) s) forward backward n.out_bundles n.guest_out t) opened threads)

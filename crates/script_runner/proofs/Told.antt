@@ -195,7 +195,7 @@ never_wanting k c s d (Err fault.OutOfMemory) e want is h = h
 run_by : (k : CommandSeen) (c : NamedSeen) (s : ScriptSeen) (d : Option InputFault) (a b f : Option (Result (Vec ℕ) LoadFault)) (res : Result Inputs InputFault) (e : Ended) → d ≡ None → IsDue d res
     → IfOk res (λ inputs. AreSecrets a inputs.secrets.items) → IfOk res (λ inputs. inputs.keys ≡ keys_in b) → IfOk res (λ inputs. inputs.bundles.items ≡ bundles_in f) → InputsEnd k c s res e
     → (order : List ℕ) × IsOrderOf k s order × (e ≡ run_end c s (record { secrets = secret_word a; keys = keys_or_none (keys_in b); bundles = bundles_in f }) order)
-run_by k c s d a b f (Ok inputs) e none is words key_bytes listed (order, is_order, ends, threads) =
+run_by k c s d a b f (Ok inputs) e none is words key_bytes listed ((order, is_order, ends, threads), fit) =
     (order, is_order, ends ∙ (λ x. run_end c s (record { secrets = λ i. words.each i x; keys = keys_or_none (key_bytes x); bundles = listed x }) order))
 run_by k c s d a b f (Err (fault.Unread i)) e none is words key_bytes listed h = absurd (cc)
 run_by k c s d a b f (Err (fault.Container place)) e none is words key_bytes listed h = absurd (cc)

@@ -22,14 +22,15 @@ use Rattle.command_files.specs.Inputs.{Reads, Loads, TakesInputs}
 use Rattle.script_runner.specs.Ending.{ToSave, Ended, HandedOut, keys_or_none, usage_end, bad_end, unread_end, memory_end, run_end, check_end, soak_end, fault_end, container_end, keys_end, secrets_end, unwritten_end, input_name, IsOrderOf}
 use Rattle.script_runner.specs.Saving.{Writes, Saves}
 use Rattle.script_runner.specs.Threads.{ThreadsOf}
+use Rattle.script_runner.specs.Brings.{HandsWords}
 use Rattle.script_runner.specs.Ends.{unput_status}
 use Rattle.script_runner.specs.Done.{PutsOnce}
 
 -- ---- the ending that is due by what was loaded
 
--- a script was run with what is handed out, under an order of its events, which for a run is what its threads did
+-- a script was run with what is handed out, under an order of its events, which for a run is that of what its threads made
 abbrev pub EndsRun : CommandSeen → NamedSeen → ScriptSeen → HandedOut → Ended → Type 0
-EndsRun c n s handed e = (order : List ℕ) × IsOrderOf c s order × (e ≡ run_end n s handed order) × ThreadsOf c s handed e
+EndsRun c n s handed e = (order : List ℕ) × IsOrderOf c s order × (e ≡ run_end n s handed order) × ThreadsOf c s handed order e
 
 -- what inputs hand out
 abbrev pub handed_in : Inputs → HandedOut
@@ -37,7 +38,7 @@ handed_in inputs = record { secrets = slice_index inputs.secrets.items; keys = k
 
 -- a script is run where the inputs have no fault, and else that fault is told; want of memory is no ending
 abbrev pub InputsEnd : CommandSeen → NamedSeen → ScriptSeen → Result Inputs InputFault → Ended → Type 0
-InputsEnd c n s (Ok inputs) e = EndsRun c n s (handed_in inputs) e
+InputsEnd c n s (Ok inputs) e = EndsRun c n s (handed_in inputs) e × HandsWords (handed_in inputs)
 InputsEnd c n s (Err (fault.Unread i)) e = e ≡ unread_end (input_name n i)
 InputsEnd c n s (Err (fault.Container place)) e = e ≡ container_end place
 InputsEnd c n s (Err fault.Keys) e = e ≡ keys_end
@@ -142,7 +143,6 @@ SavesAll [] written written' old new status = (written' ≡ written) × (new ≡
 SavesAll (f ∷ fs) written written' old new status =
     ((between : Writes) × Saves f.name f.bytes written (Ok tt) between × SavesAll fs between written' old new status)
     ⊎ ((fault : SaveFault) × Saves f.name f.bytes written (Err fault) written' × TellsSave f.name fault old new status)
-    ⊎ ((written' ≡ written) × PutsWant old new status)
 
 -- nothing is saved unless the text was put, at status 0
 abbrev pub Finishes : List ToSave → Writes → Writes → Outputs → Outputs → (told status : ℕ) → Type 0

@@ -1,5 +1,5 @@
 -- What one call loads, puts and saves, by the histories alone: of files and outputs that tell what they hold, and of those that don't.
-use Rattle.std.specs.Prelude.{◌≡◌, ◌≢◌, ◌⊎◌, ℕ, List, [], ◌∷◌, ◌++◌, true, Option, Some, None, Result, Ok, Err, ◌≤◌, length}
+use Rattle.std.specs.Prelude.{◌≡◌, ◌≢◌, ◌⊎◌, ℕ, ◌+◌, List, [], ◌∷◌, ◌++◌, true, Option, Some, None, Result, Ok, Err, ◌≤◌, length}
 use Rattle.std.specs.Global.{Vec}
 use Rattle.td_words.specs.Seen.{BundleSeen}
 use Rattle.script_text.specs.declared.faults.Reason.{Reason}
@@ -20,10 +20,11 @@ use Rattle.command_files.specs.declared.inputs.InputFault.TheVariants as fault
 use Rattle.command_files.specs.Commands.{NamedSeen, CommandSeen, named_of, script_name}
 use Rattle.command_files.specs.Inputs.{container_fault, length_fault, secret_word, keys_of}
 use Rattle.script_runner.specs.Ending.{ToSave, Ended, usage_end, bad_end, unread_end, memory_end, container_end, keys_end, secrets_end, unwritten_end, secrets_named, IsOrderOf, success_end, HandedOut, opening_by, no_keys, keys_named, bundles_named}
-use Rattle.script_runner.specs.Saving.{Writes, AllSaved}
+use Rattle.script_runner.specs.Saving.{Writes, AllSaved, named_once}
 use Rattle.script_runner.specs.Threads.{ThreadsOf}
 use Rattle.script_runner.specs.Accesses.{OwnAccesses}
 use Rattle.script_runner.specs.Images.{StartsFromPauses}
+use Rattle.script_runner.specs.Brings.{HandsWords, BringsOver}
 use Rattle.script_runner.specs.Blind.{HasBlindText}
 use Rattle.script_runner.specs.Ends.{IsRead}
 use Rattle.command_files.specs.declared.inputs.KeyBytes.{KeyBytes}
@@ -37,6 +38,10 @@ LoadsOnce old name answer new = new ≡ old ++ record { name = name; answer = an
 -- the same, and then others
 abbrev pub LoadsFirst : List Loaded → List ℕ → Result (Vec ℕ) LoadFault → List Loaded → Type 0
 LoadsFirst old name answer new = (more : List Loaded) × (new ≡ old ++ record { name = name; answer = answer } ∷ more)
+
+-- the same, behind so many others
+abbrev pub LoadsBehind : ℕ → List Loaded → List ℕ → Result (Vec ℕ) LoadFault → List Loaded → Type 0
+LoadsBehind count old name answer new = (before : List Loaded) × (length before ≡ count) × LoadsFirst (old ++ before) name answer new
 
 -- one put, of these bytes, with this answer
 abbrev pub PutsOnce : List Put → List ℕ → Result (Unit {0}) PutFault → List Put → Type 0
@@ -54,21 +59,32 @@ AreWordsHandedOut None loads loads' secrets = (i : ℕ) → secrets i ≡ 0
 AreWordsHandedOut (Some name) loads loads' secrets = (before : List Loaded) × (given : Vec ℕ) × LoadsOnce (loads ++ before) name (Ok given) loads' × (length given.items ≡ 4096)
     × ((i : ℕ) → secrets i ≡ secret_word (Some (Ok given)) i)
 
--- these are the keys that a load handed out, under the name of a key file
-abbrev pub AreKeysHandedOut : Option (List ℕ) → (loads loads' : List Loaded) → KeyBytes → Type 0
-AreKeysHandedOut None loads loads' keys = keys ≡ no_keys
-AreKeysHandedOut (Some name) loads loads' keys = (before : List Loaded) × (given : Vec ℕ) × LoadsFirst (loads ++ before) name (Ok given) loads' × (length given.items ≡ 64) × (keys ≡ keys_of given.items)
-
--- these are the bundles of the container that a load handed out, under its name; there are none where none is named
+-- these are the bundles of the container that the load behind the script's handed out; there are none where none is named
 abbrev pub AreBundlesHandedOut : Option (List ℕ) → (loads loads' : List Loaded) → List BundleSeen → Type 0
 AreBundlesHandedOut None loads loads' bundles = bundles ≡ []
-AreBundlesHandedOut (Some name) loads loads' bundles = (before : List Loaded) × (given : Vec ℕ) × LoadsFirst (loads ++ before) name (Ok given) loads' × (container_in given.items ≡ Ok bundles)
+AreBundlesHandedOut (Some name) loads loads' bundles = (given : Vec ℕ) × LoadsBehind 1 loads name (Ok given) loads' × (container_in given.items ≡ Ok bundles)
 
--- these are the secret words, the keys and the bundles that the files of a command handed out
+-- these are the keys that the load behind the script's and the container's handed out; each byte is 0 where no key file is named
+abbrev pub AreKeysHandedOut : (bundles keys : Option (List ℕ)) → (loads loads' : List Loaded) → KeyBytes → Type 0
+AreKeysHandedOut bundles None loads loads' keys = keys ≡ no_keys
+AreKeysHandedOut bundles (Some name) loads loads' keys =
+    (given : Vec ℕ) × LoadsBehind (1 + length (named_once bundles)) loads name (Ok given) loads' × (length given.items ≡ 64) × (keys ≡ keys_of given.items)
+
+-- these are the secret words, the keys and the bundles that the files of a command handed out, and all are words of 64 bits
 pub record AreHandedOut (c : CommandSeen) (loads loads' : List Loaded) (handed : HandedOut) : Type 0 where
   pub words : AreWordsHandedOut (secrets_named c) loads loads' handed.secrets
-  pub key_bytes : AreKeysHandedOut (keys_named c) loads loads' handed.keys
+  pub key_bytes : AreKeysHandedOut (bundles_named c) (keys_named c) loads loads' handed.keys
   pub bundle_list : AreBundlesHandedOut (bundles_named c) loads loads' handed.bundles
+  pub fit : HandsWords handed
+
+-- What holds of the run of a script that a command names, under that order of its events: for run the order is one that threads
+-- can have made, each access of guests to their private memory is to a page of their own, what is put is the same in two worlds,
+-- and what the run committed starts from the source's pause, unless a tag was forged.
+pub record HoldsOfRun (c : CommandSeen) (s : ScriptSeen) (handed : HandedOut) (order : List ℕ) : Type 0 where
+  pub threads : ThreadsOf c s handed order (success_end c s handed order)
+  pub accesses : OwnAccesses (opening_by handed s) order
+  pub blind : HasBlindText c s handed order (success_end c s handed order).text
+  pub images : StartsFromPauses (opening_by handed s) order
 
 -- The named script was loaded first. What was handed out is in the grammar, and one put was given just the reply lines of the
 -- flat machine's run of it, with the secret words, keys and bundles that were handed out, under one order of its events, which for
@@ -91,27 +107,25 @@ abbrev pub PutsAndSaved : Option CommandSeen → (loads loads' : List Loaded) �
 PutsAndSaved c loads loads' puts puts' written written' =
     (r : PutsRun c loads loads' puts puts' (Ok tt)) × AllSaved (success_end r.command r.script r.handed r.order).files written written'
 
--- A run put and saved the texts of its threads.
-abbrev pub SavesThreads : CommandSeen → ScriptSeen → HandedOut → (puts puts' : List Put) → (written written' : Writes) → Type 0
-SavesThreads c s handed puts puts' written written' = (e : Ended) × ThreadsOf c s handed e × PutsOnce puts e.text (Ok tt) puts' × AllSaved e.files written written'
-
+-- what was put and saved is what threads made, in the order of these events
 abbrev pub PutsThreads : Option CommandSeen → (loads loads' : List Loaded) → (puts puts' : List Put) → (written written' : Writes) → Type 0
-PutsThreads c loads loads' puts puts' written written' = (r : PutsRun c loads loads' puts puts' (Ok tt)) × SavesThreads r.command r.script r.handed puts puts' written written'
+PutsThreads c loads loads' puts puts' written written' =
+    (r : PutsRun c loads loads' puts puts' (Ok tt)) × AllSaved (success_end r.command r.script r.handed r.order).files written written'
+    × ThreadsOf r.command r.script r.handed r.order (success_end r.command r.script r.handed r.order)
 
 -- the text of the run was put, which is the same in two worlds
 abbrev pub PutsBlind : Option CommandSeen → (loads loads' : List Loaded) → (puts puts' : List Put) → Type 0
 PutsBlind c loads loads' puts puts' =
     (r : PutsRun c loads loads' puts puts' (Ok tt)) × HasBlindText r.command r.script r.handed r.order (success_end r.command r.script r.handed r.order).text
 
--- All of it of one run: its text was put, each file that is named was saved with what it leaves, each access of its guests to
--- their private memory is to a page of their own, its text is the same in two worlds, and what it committed starts from the
--- source's pause, unless a tag was forged.
+-- All of it of one run: its text was put, each file that is named was saved with what it leaves, and it is as threads can have
+-- made it, with own accesses, the same in two worlds, and with what starts from pauses; and the container that it seals brings
+-- over what it paused.
 pub record PutsHeadline (c : Option CommandSeen) (loads loads' : List Loaded) (puts puts' : List Put) (written written' : Writes) : Type 0 where
   pub run : PutsRun c loads loads' puts puts' (Ok tt)
   pub saved : AllSaved (success_end run.command run.script run.handed run.order).files written written'
-  pub accesses : OwnAccesses (opening_by run.handed run.script) run.order
-  pub blind : HasBlindText run.command run.script run.handed run.order (success_end run.command run.script run.handed run.order).text
-  pub images : StartsFromPauses (opening_by run.handed run.script) run.order
+  pub holds : HoldsOfRun run.command run.script run.handed run.order
+  pub brings : BringsOver run.handed run.script run.order
 
 -- the words are no command; nothing was loaded, and the usage line was put
 abbrev pub PutsUsage : Option CommandSeen → (loads loads' : List Loaded) → (puts puts' : List Put) → Type 0
@@ -152,7 +166,7 @@ pub record PutsName (c : Option CommandSeen) (loads loads' : List Loaded) (puts 
   pub unread : IsUnread answer
   pub prints : PutsText puts (unread_end name).text puts'
 
--- the named container was loaded, and its fault was put
+-- the named container was loaded, behind the script, and its fault was put
 pub record PutsPlace (c : Option CommandSeen) (loads loads' : List Loaded) (puts puts' : List Put) : Type 0 where
   pub command : CommandSeen
   pub read_as : c ≡ Some command
@@ -160,33 +174,38 @@ pub record PutsPlace (c : Option CommandSeen) (loads loads' : List Loaded) (puts
   pub has : named_of command ≡ Some options
   pub name : List ℕ
   pub named : options.bundles ≡ Some name
-  pub before : List Loaded
   pub answer : Result (Vec ℕ) LoadFault
-  pub loaded : LoadsFirst (loads ++ before) name answer loads'
+  pub loaded : LoadsBehind 1 loads name answer loads'
   pub place : ℕ
   pub wrong : container_fault (Some answer) ≡ Some (fault.Container place)
   pub prints : PutsText puts (container_end place).text puts'
 
--- the file that an option names was loaded, and hasn't so many bytes, which was put
-pub record PutsLength (file : NamedSeen → Option (List ℕ)) (count : ℕ) (f : InputFault) (e : Ended) (c : Option CommandSeen) (loads loads' : List Loaded) (puts puts' : List Put) : Type 0 where
+-- the file that an option names was loaded, behind so many others, and hasn't so many bytes, which was put
+pub record PutsLength (file : NamedSeen → Option (List ℕ)) (behind : NamedSeen → ℕ) (count : ℕ) (f : InputFault) (e : Ended) (c : Option CommandSeen) (loads loads' : List Loaded) (puts puts' : List Put) : Type 0 where
   pub command : CommandSeen
   pub read_as : c ≡ Some command
   pub options : NamedSeen
   pub has : named_of command ≡ Some options
   pub name : List ℕ
   pub named : file options ≡ Some name
-  pub before : List Loaded
   pub answer : Result (Vec ℕ) LoadFault
-  pub loaded : LoadsFirst (loads ++ before) name answer loads'
+  pub loaded : LoadsBehind (behind options) loads name answer loads'
   pub wrong : length_fault count f (Some answer) ≡ Some f
   pub prints : PutsText puts e.text puts'
 
+-- the key file is loaded behind the script and the container, the secrets file behind the key file too
+abbrev pub before_keys : NamedSeen → ℕ
+before_keys n = 1 + length (named_once n.bundles)
+
+abbrev pub before_secrets : NamedSeen → ℕ
+before_secrets n = before_keys n + length (named_once n.keys)
+
 -- that is the key file, or the secrets file
 abbrev pub PutsKeys : Option CommandSeen → (loads loads' : List Loaded) → (puts puts' : List Put) → Type 0
-PutsKeys c loads loads' puts puts' = PutsLength (λ n. n.keys) 64 fault.Keys keys_end c loads loads' puts puts'
+PutsKeys c loads loads' puts puts' = PutsLength (λ n. n.keys) before_keys 64 fault.Keys keys_end c loads loads' puts puts'
 
 abbrev pub PutsSecrets : Option CommandSeen → (loads loads' : List Loaded) → (puts puts' : List Put) → Type 0
-PutsSecrets c loads loads' puts puts' = PutsLength (λ n. n.secrets) 4096 fault.Secrets secrets_end c loads loads' puts puts'
+PutsSecrets c loads loads' puts puts' = PutsLength (λ n. n.secrets) before_secrets 4096 fault.Secrets secrets_end c loads loads' puts puts'
 
 -- the named script was loaded, a call of it makes a bundle or takes one, and no key file is named, which was put
 pub record PutsNoKeys (c : Option CommandSeen) (loads loads' : List Loaded) (puts puts' : List Put) : Type 0 where
@@ -205,11 +224,12 @@ pub record PutsNoKeys (c : Option CommandSeen) (loads loads' : List Loaded) (put
 abbrev pub PutsKeysOrSecrets : Option CommandSeen → (loads loads' : List Loaded) → (puts puts' : List Put) → Type 0
 PutsKeysOrSecrets c loads loads' puts puts' = PutsKeys c loads loads' puts puts' ⊎ PutsSecrets c loads loads' puts puts' ⊎ PutsNoKeys c loads loads' puts puts'
 
--- The text was put, all files before one were saved, the save of this one failed, and its name was put. Files have what they
--- had behind the saves that came through.
+-- The text of a run was put, of which all of this holds, all files before one were saved, the save of this one failed, and its
+-- name was put. Files have what they had behind the saves that came through.
 pub record PutsUnsaved (c : Option CommandSeen) (loads loads' : List Loaded) (written written' : Writes) (puts puts' : List Put) : Type 0 where
   pub between : List Put
   pub replies : PutsRun c loads loads' puts between (Ok tt)
+  pub holds : HoldsOfRun replies.command replies.script replies.handed replies.order
   pub front : List ToSave
   pub out : ToSave
   pub rest : List ToSave
@@ -245,10 +265,10 @@ pub record SavesFront (c : Option CommandSeen) (loads loads' : List Loaded) (wri
 abbrev pub KeepsOrSaves : Option CommandSeen → (loads loads' : List Loaded) → (written written' : Writes) → Type 0
 KeepsOrSaves c loads loads' written written' = (written'.contents ≡ written.contents) ⊎ SavesFront c loads loads' written written'
 
--- the put of the text failed, and nothing was saved; or the save of a file did
+-- the put of a run's text failed, of which all of this holds, and nothing was saved; or the save of a file did
 abbrev pub PutsLost : Option CommandSeen → (loads loads' : List Loaded) → (written written' : Writes) → (puts puts' : List Put) → Type 0
 PutsLost c loads loads' written written' puts puts' =
-    (PutsRun c loads loads' puts puts' (Err put.Failed) × (written' ≡ written)) ⊎ PutsUnsaved c loads loads' written written' puts puts'
+    ((r : PutsRun c loads loads' puts puts' (Err put.Failed)) × HoldsOfRun r.command r.script r.handed r.order × (written' ≡ written)) ⊎ PutsUnsaved c loads loads' written written' puts puts'
 
 -- a put that found no memory, or none
 abbrev pub IsWanting : List Put → Type 0

@@ -8,8 +8,8 @@ use Rattle.mig_laws.specs.Image.{Unforged, StartsFromPause}
 
 -- Take any other run, of whatever script, as far as it has come: the source. Where no tag is forged, so that the source made each
 -- bundle that comes into this run and opens (but for a token back), every TD that this run has committed starts from the
--- source's pause: with a front of this run's events behind it, what IMPORT.COMMIT has noted under a session has the words, MRTD,
--- RTMRs and virtual processors that EXPORT.PAUSE noted under that session in the source.
+-- source's pause: with a front of this run's events behind it, what IMPORT.COMMIT has noted under a session has just the pages
+-- that the source sent under it, with the words that EXPORT.PAUSE noted there, and MRTD, RTMRs and virtual processors as noted.
 abbrev pub StartsFromPauses : Opening → List ℕ → Type 0
 StartsFromPauses o schedule = (q : Opening) (events : List ℕ) → let source = reached q None events in Unforged o (bundles_in source)
     → (front back : List ℕ) → schedule ++ to_the_end 0 o.calls ≡ front ++ back

@@ -1,4 +1,5 @@
 pub mod Ending
+pub mod Brings
 pub mod Accesses
 pub mod Images
 pub mod Threads

@@ -1,11 +1,12 @@
 -- What the top call promises of a command on a script, and of words that are no command.
-use Rattle.std.specs.Prelude.{◌≡◌, ◌≢◌, ◌⊎◌, ◌≤◌, ℕ, List, [], ◌∷◌, ◌++◌, Option, Some, None, Ok}
+use Rattle.std.specs.Prelude.{◌≡◌, ◌≢◌, ◌⊎◌, ◌≤◌, ℕ, List, [], ◌∷◌, ◌++◌, length, Option, Some, None, Ok}
 use Rattle.bundle_store.specs.History.{Put}
 use Rattle.command_files.specs.Commands.{CommandSeen, Check}
 use Rattle.command_files.specs.Inputs.{Reads}
 use Rattle.script_runner.specs.Ending.{ending_of, handed_held, opening_by}
 use Rattle.script_runner.specs.Accesses.{OwnAccesses}
 use Rattle.script_runner.specs.Images.{StartsFromPauses}
+use Rattle.script_runner.specs.Brings.{BringsOver}
 use Rattle.script_runner.specs.Saving.{Writes, out_names}
 use Rattle.script_runner.specs.Ends.{Faults, EndsWith, OneRun, IsComplete, IsBadScript, IsBadContainer, IsBadKeysOrSecrets, ShowsBlind, ReadCause, WriteCause, PutsFrontsOf}
 use Rattle.script_runner.specs.Done.{PutsRun, PutsAndSaved, PutsThreads, PutsBlind, PutsUsage, PutsFault, PutsName, PutsPlace, PutsKeysOrSecrets, PutsLost, PutsMemory, SavesNothing, ChangesNothing, KeepsOrSaves}
@@ -35,16 +36,19 @@ pub record ByHistories (c : Option CommandSeen) (contents : Option (List ℕ →
   -- there; a load gave the word that the guest knew, and a store left it its register's.
   pub put_accesses : status ≡ 0 → (run : PutsRun c loaded.loads loaded'.loads output.puts output'.puts (Ok tt)) × OwnAccesses (opening_by run.handed run.script) run.order
   -- For a run what was put and saved is what processors in threads can have done: there are own lists of word steps, one of each,
-  -- which have an order that plays, and each such order is one of events under which the flat machine's run prints and notes the
-  -- same.
+  -- which have an order that plays, and this run's order is that of its events; each such order is one of events under which the
+  -- flat machine's run prints and notes the same.
   pub put_threads : status ≡ 0 → PutsThreads c loaded.loads loaded'.loads output.puts output'.puts written written'
   -- What was put is what the same run prints with every private word 0, in which the same words are told; and so what each run
-  -- prints that agrees on all that is public, and tells the same. Private are secret words, and the payloads of states and pages
-  -- that came in.
+  -- prints that agrees on all that is public, and tells the same. The bundles of all these have the same public part. Private are
+  -- secret words, and the payloads of states and pages that came in.
   pub put_blind : status ≡ 0 → PutsBlind c loaded.loads loaded'.loads output.puts output'.puts
   -- Unless a tag was forged, each TD that the run committed started from the pause of its source: of every run that made all
   -- bundles that came in and opened, whatever its script.
   pub put_images : status ≡ 0 → (run : PutsRun c loaded.loads loaded'.loads output.puts output'.puts (Ok tt)) × StartsFromPauses (opening_by run.handed run.script) run.order
+  -- The container that the run seals brings its bundles over: where a run of any script is handed out just that container and the same
+  -- keys, none of them is forged there, and each TD that is committed there started from this run's pause.
+  pub put_brings : status ≡ 0 → (run : PutsRun c loaded.loads loaded'.loads output.puts output'.puts (Ok tt)) × BringsOver run.handed run.script run.order
   -- At 1 it was given the usage line, and nothing was loaded; at 2 the first fault of what the one load handed out, or that this is
   -- too long; at 3 the name, where the last load handed out nothing; at 6 the place of the first fault of the container that was
   -- loaded; at 7 that the key file or the secrets file hasn't its length.
@@ -53,17 +57,17 @@ pub record ByHistories (c : Option CommandSeen) (contents : Option (List ℕ →
   pub put_name : status ≡ 3 → PutsName c loaded.loads loaded'.loads output.puts output'.puts
   pub put_place : status ≡ 6 → PutsPlace c loaded.loads loaded'.loads output.puts output'.puts
   pub put_keys : status ≡ 7 → PutsKeysOrSecrets c loaded.loads loaded'.loads output.puts output'.puts
-  -- At 4 it was given the text of a success, and failed, or else the save of a file did, behind which none was saved. At 5 the last
-  -- put says that memory was wanting.
+  -- At 4 it was given the text of a success, and failed, or else the save of a file did, behind which none was saved; of the run
+  -- whose text that is all holds that holds at 0. At 5 the last put says that memory was wanting.
   pub put_lost : status ≡ 4 → PutsLost c loaded.loads loaded'.loads written written' output.puts output'.puts
   pub put_memory : status ≡ 5 → PutsMemory (out_names c) output.puts output'.puts
   -- The statuses 3 and 4 have their cause.
   pub read : status ≡ 3 → ReadCause contents c loaded.faults loaded'.faults
   pub write : status ≡ 4 → WriteCause (faults_of loaded written output) (faults_of loaded' written' output') (out_names c)
-  -- A text is put even where it is empty, in one put; one more may come at the status 4, where a file wasn't saved, and at the
-  -- status 5.
+  -- A text is put even where it is empty, in one put. One more may come at the status 4, where a file wasn't saved, and one or two
+  -- at the status 5.
   pub put : (out_names c ≡ []) ⊎ (status ≢ 4) → status ≢ 5 → (p : Put) × (output'.puts ≡ output.puts ++ p ∷ [])
-  pub tried : (p : Put) × (more : List Put) × (output'.puts ≡ output.puts ++ p ∷ more)
+  pub tried : (p : Put) × (more : List Put) × (output'.puts ≡ output.puts ++ p ∷ more) × (length more ≤ 2)
   -- What files have changes only where all was done, and a file was to be saved; where two were, it may also change at the statuses
   -- 4 and 5, by the first, and then just as that save left it. A save is tried only where the text was put.
   pub same : ChangesNothing (out_names c) status → written'.contents ≡ written.contents

@@ -7,6 +7,7 @@ ghost use Rattle.script_text.specs.Seen.{ScriptSeen};
 ghost use Rattle.command_files.specs.Commands.{CommandSeen, Replay, Run, named_seen};
 ghost use Rattle.script_runner.specs.Ending.{ending_seen, usage_end, unread_end, bad_end, calls_in, ops_in, check_end, soak_end, container_end, keys_end, secrets_end, unwritten_end, input_name, keys_or_none};
 ghost use Rattle.script_runner.specs.Threads.{texts_end};
+ghost use Rattle.script_runner.specs.Brings.{HandsWords};
 ghost use Rattle.script_runner.specs.Commanded.{handed_in, InputsEnd, EndsRun};
 
 use command_files::{Input, InputFault, Inputs, KeyBytes, Named};
@@ -14,6 +15,7 @@ use leaf_engine::Gate;
 use leaf_table::Given;
 use run_texts::{KeyPair, Texts, opened_bundles, replay_texts, threaded_texts};
 use script_text::{Reason, Script};
+use script_words::come_in_as_words;
 use soak_runs::soak_line;
 use std::alloc::{AllocError, Global};
 use std::thread::Threads;
@@ -186,7 +188,7 @@ pub fn replay<'a>(
     requires form { IsInForm script.now }
     requires secrets { length inputs.now.secrets.items ≡ 512 }
     requires order { AreInOrder 0 inputs.now.bundles.items }
-    ensures { IfOk result (λ e. EndsRun (Replay (named_seen named.now)) (named_seen named.now) script.now (handed_in inputs.now) (ending_seen e)) }
+    ensures { IfOk result (λ e. EndsRun (Replay (named_seen named.now)) (named_seen named.now) script.now (handed_in inputs.now) (ending_seen e) × HandsWords (handed_in inputs.now)) }
 {
     let keys = keys_of(&inputs.keys);
     let Ok(bundles) = opened_bundles(alloc, &keys, &inputs.bundles) else {
@@ -196,6 +198,7 @@ pub fn replay<'a>(
         secrets: &inputs.secrets,
         bundles: &bundles,
     };
+    come_in_as_words(&inputs.secrets, &bundles, &inputs.bundles);
     match replay_texts(
         alloc,
         script,
@@ -221,7 +224,7 @@ pub fn run<'a, R: Threads + Sync, G: Gate + Sync>(
     requires form { IsInForm script.now }
     requires secrets { length inputs.now.secrets.items ≡ 512 }
     requires order { AreInOrder 0 inputs.now.bundles.items }
-    ensures { IfOk result (λ e. EndsRun (Run (named_seen named.now)) (named_seen named.now) script.now (handed_in inputs.now) (ending_seen e)) }
+    ensures { IfOk result (λ e. EndsRun (Run (named_seen named.now)) (named_seen named.now) script.now (handed_in inputs.now) (ending_seen e) × HandsWords (handed_in inputs.now)) }
 {
     let keys = keys_of(&inputs.keys);
     let Ok(bundles) = opened_bundles(alloc, &keys, &inputs.bundles) else {
@@ -231,6 +234,7 @@ pub fn run<'a, R: Threads + Sync, G: Gate + Sync>(
         secrets: &inputs.secrets,
         bundles: &bundles,
     };
+    come_in_as_words(&inputs.secrets, &bundles, &inputs.bundles);
     match threaded_texts(
         threads,
         alloc,

@@ -8,18 +8,35 @@ ghost use Rattle.script_runner.specs.Done.{PutsOnce, PutsHeadline};
 ghost use Rattle.script_runner.specs.Commanded.{Comes, ComesPart, TellsBy, PutsWant, SavesAll, PutsAndSaves, DoesCommand};
 ghost use Rattle.script_runner.specs.Asked.{OfScripts, OfSoaks, DoesSoak};
 ghost use Rattle.script_runner.specs.Promised.{ByHistories, ByContents};
+ghost use Rattle.script_runner.specs.Brings.{CarryingLaws};
 
 use crate::commanded::of_command;
 use crate::ending::{Ending, soak, unwritten, usage};
 use bundle_store::{Files, PutFault, SaveFault, Sink};
+use bundle_texts::bundles_read_again;
 use command_files::{Asked, read_command};
+use flat_bundles::bundle_law;
 use flat_core::access_law;
+use image_laws::container_law;
 use isol_laws::two_world_law;
 use leaf_engine::Gate;
 use mig_laws::image_law;
+use script_text::scripts_are_in_form;
+use script_words::scripts_give_words;
 use std::alloc::{AllocError, Global};
 use std::thread::Threads;
 use td_words::OutOfMemory;
+
+// By which laws the container that a run seals brings its bundles over.
+fn laws_of_carrying()
+    ensures { CarryingLaws }
+{
+    container_law();
+    bundles_read_again();
+    bundle_law();
+    scripts_are_in_form();
+    scripts_give_words();
+}
 
 const MEMORY: &str = "out of memory\n";
 
@@ -196,7 +213,8 @@ pub fn tdx_main<R: Threads + Sync, F: Files, K: Sink, G: Gate + Sync>(
     ensures does_command { DoesCommand (F.contents files.old) (asked_in (map string_bytes words.now)) (record { loads = F.loads files.old; faults = F.read_faults files.old; bytes = F.bytes_read files.old }) (record { loads = F.loads files.new; faults = F.read_faults files.new; bytes = F.bytes_read files.new }) (record { contents = F.contents files.old; saves = F.saves files.old; faults = F.write_faults files.old }) (record { contents = F.contents files.new; saves = F.saves files.new; faults = F.write_faults files.new }) (record { told = K.told out.old; puts = K.puts out.old; faults = K.faults out.old }) (record { told = K.told out.new; puts = K.puts out.new; faults = K.faults out.new }) result }
     ensures statuses { result ≤ 7 }
     // At status 0, for a command on a script, all of it is said of one run: the text that was put, the
-    // files that were saved, the accesses of guests, the two worlds, and where a committed TD starts.
+    // files that were saved, what threads made, the accesses of guests, the two worlds, where a
+    // committed TD starts, and what the container brings over. At status 4 `put_lost` says it of the run whose text was given to a put.
     ensures headline { result ≡ 0 → OfScripts (asked_in (map string_bytes words.now)) (λ c. PutsHeadline c (F.loads files.old) (F.loads files.new) (K.puts out.old) (K.puts out.new) (record { contents = F.contents files.old; saves = F.saves files.old; faults = F.write_faults files.old }) (record { contents = F.contents files.new; saves = F.saves files.new; faults = F.write_faults files.new })) }
     // What each status says of a command on a script: by histories, of all files and outputs; and by
     // contents, of those that tell them.
@@ -216,5 +234,6 @@ pub fn tdx_main<R: Threads + Sync, F: Files, K: Sink, G: Gate + Sync>(
     access_law();
     two_world_law();
     image_law();
+    laws_of_carrying();
     do_command(threads, alloc, words, files, out, gate)
 }

@@ -13,10 +13,10 @@ use Rattle.run_texts.specs.Openings.{opening_of}
 use Rattle.run_texts.specs.Sealing.{bundles_seen}
 use Rattle.run_texts.specs.Replaying.{AreFirst, lines_seen, notes_seen, TellAll}
 use Rattle.run_texts.specs.Lanes.{processors_of, benches_of, IsOther}
-use Rattle.run_texts.specs.Threaded.{AreOfSomeRun, AreOfThreads}
+use Rattle.run_texts.specs.Threaded.{AreOfThreads}
 use Rattle.run_texts.proofs.Codes.{operations-of, short-lists}
 use Rattle.run_texts.proofs.Replayed.{open-of}
-use Rattle.run_texts.proofs.ThreadTexts.{fits, few-first, some-calls, written, others, closes, all-have-run, fits-lanes, of-some, of-threads, told-of}
+use Rattle.run_texts.proofs.ThreadTexts.{fits, few-first, some-calls, written, others, closes, all-have-run, fits-lanes, of-threads, told-of}
 use Rattle.run_texts.proofs.threads.threaded_texts.Goals as goal
 
 pub processors-requires-clause-limits : goal.processors-requires-clause-limits
@@ -126,8 +126,8 @@ all_texts-requires-clause-fit g c =
     subst (λ (x : List LpState). FitContainer (bundles_seen x)) (sym (c.as_slice.ensures.value ∙ c.in_ok-ended.ensures.processors))
     (fits-lanes c.laws_of_turns.ensures c.threads_are_runs.ensures (opening_of (given_in c.args.given) script) (open-of (given_in c.args.given) script c.requires.form) (given_in c.args.given) script.codes first lanes now c.close.result.words h (some-calls script c.requires.form))
 
-pub returns-clause-some : goal.returns-clause-some
-returns-clause-some g c =
+pub returns : goal.returns
+returns g c =
     let lanes = c.in_ok-lanes.lanes.items in
     let ran = c.run_all.new.lanes in
     let same : length c.as_mut_slice.result.now ≡ length lanes = ap length c.as_mut_slice.ensures.value in
@@ -148,38 +148,12 @@ returns-clause-some g c =
     c.in_ok-lanes.ensures.processors c.in_ok-lanes.ensures.benches c.as_mut_slice.ensures.value c.run_all.ensures c.run_all.auto.lanes now-is c.in_ok-table.ensures.machine (ap (λ (q : PassSeen). q.lists) pass) c.close.ensures in
     let forward = c.args.keys.now.forward in
     let backward = c.args.keys.now.backward in
-    told-of (λ t. TellAll out name (concat (lines_seen 0 c.as_slice.result.now)) (container_text forward backward (bundles_seen c.as_slice.result.now)) (concat (notes_seen 0 c.as_slice.result.now)) t)
-    (AreOfSomeRun (opening_of (given_in c.args.given) script) forward backward out name) c.all_texts.result
-    (λ t told.
-    of-some c.laws_of_turns.ensures c.threads_are_runs.ensures (opening_of (given_in c.args.given) script) (open-of (given_in c.args.given) script c.requires.form) (given_in c.args.given) script.codes first lanes now c.close.result.words h (some-calls script c.requires.form) forward backward out name t
-    (subst (λ (x : List LpState). TellAll out name (concat (lines_seen 0 x)) (container_text forward backward (bundles_seen x)) (concat (notes_seen 0 x)) t) (c.as_slice.ensures.value ∙ c.in_ok-ended.ensures.processors) told))
-    c.all_texts.ensures
-
-pub returns-clause-each : goal.returns-clause-each
-returns-clause-each g c =
-    let lanes = c.in_ok-lanes.lanes.items in
-    let ran = c.run_all.new.lanes in
-    let same : length c.as_mut_slice.result.now ≡ length lanes = ap length c.as_mut_slice.ensures.value in
-    let kept : length ran ≡ length lanes = c.run_all.auto.lanes ∙ same in
-    let now : List (Lane LpState) = take c.in_ok-lanes.lanes.len (ran ++ drop (length ran) lanes) in
-    let now-is : now ≡ ran = written ran lanes c.in_ok-lanes.lanes.len (omega (arith, c.in_ok-lanes.lanes.ok.0, kept)) in
-    let count : length now ≡ length c.in_ok-states.states.items = ap length now-is ∙ (kept ∙ (sym (length-map lanes (λ a. a.processor)) ∙ ap length c.in_ok-lanes.ensures.processors)) in
-    let pass =
-    closes (pass_of c.into_pass-pass.result) (bench_of c.new-first.result) (bench_of c.lanes_at.new.first) (bench_of c.taken_in.new.first) (table_of c.in_ok-table.table) (benches_of now) (length c.in_ok-states.states.items) (c.new-first.ensures.pass ∙ c.in_ok-table.ensures.pass)
-    c.in_ok-lanes.ensures.first c.in_ok-ended.ensures.first (length-map now (λ a. bench_of a.bench) ∙ count) c.into_pass-pass.ensures in
-    let script = c.args.script.now in
-    let first = bench_of c.new-first.result in
-    let out : Option (List ℕ) = option_map {T = Bor (List ℕ)} {U = List ℕ} (λ name. name.now) c.args.out_bundles in
-    let name : Option (List ℕ) = option_map {T = Bor (List ℕ)} {U = List ℕ} (λ name. name.now) c.args.guest_out in
-    let h =
-    all-have-run script c.script.inside.machine c.in_ok-table.table.machine (given_in c.args.given) c.deref-codes.result.now (map (λ list. list.items) c.deref.result.now) c.in_ok-states.states.items first lanes c.as_mut_slice.result.now ran now (pass_of c.into_pass-pass.result).lists c.close.result.words
-    (ap (λ (s : ScriptSeen). s.machine) c.script.view_is) (c.deref-codes.ensures.value ∙ ap (λ (s : ScriptSeen). s.codes) c.script.view_is) (ap (map (λ list. list.items)) c.deref.ensures.value ∙ ap (λ (s : ScriptSeen). s.calls) c.script.view_is) c.in_ok-states.ensures
-    c.in_ok-lanes.ensures.processors c.in_ok-lanes.ensures.benches c.as_mut_slice.ensures.value c.run_all.ensures c.run_all.auto.lanes now-is c.in_ok-table.ensures.machine (ap (λ (q : PassSeen). q.lists) pass) c.close.ensures in
-    let forward = c.args.keys.now.forward in
-    let backward = c.args.keys.now.backward in
-    told-of (λ t. TellAll out name (concat (lines_seen 0 c.as_slice.result.now)) (container_text forward backward (bundles_seen c.as_slice.result.now)) (concat (notes_seen 0 c.as_slice.result.now)) t)
-    (AreOfThreads (opening_of (given_in c.args.given) script) forward backward out name) c.all_texts.result
-    (λ t told.
-    of-threads c.laws_of_turns.ensures c.threads_are_runs.ensures (opening_of (given_in c.args.given) script) (open-of (given_in c.args.given) script c.requires.form) (given_in c.args.given) script.codes first lanes now c.close.result.words h (some-calls script c.requires.form) forward backward out name t
-    (subst (λ (x : List LpState). TellAll out name (concat (lines_seen 0 x)) (container_text forward backward (bundles_seen x)) (concat (notes_seen 0 x)) t) (c.as_slice.ensures.value ∙ c.in_ok-ended.ensures.processors) told))
-    c.all_texts.ensures
+    record {
+      each =
+          told-of (λ t. TellAll out name (concat (lines_seen 0 c.as_slice.result.now)) (container_text forward backward (bundles_seen c.as_slice.result.now)) (concat (notes_seen 0 c.as_slice.result.now)) t)
+          (AreOfThreads (opening_of (given_in c.args.given) script) forward backward out name) c.all_texts.result
+          (λ t told.
+          of-threads c.laws_of_turns.ensures c.threads_are_runs.ensures (opening_of (given_in c.args.given) script) (open-of (given_in c.args.given) script c.requires.form) (given_in c.args.given) script.codes first lanes now c.close.result.words h (some-calls script c.requires.form) forward backward out name t
+          (subst (λ (x : List LpState). TellAll out name (concat (lines_seen 0 x)) (container_text forward backward (bundles_seen x)) (concat (notes_seen 0 x)) t) (c.as_slice.ensures.value ∙ c.in_ok-ended.ensures.processors) told))
+          c.all_texts.ensures;
+    }
