@@ -1,4 +1,4 @@
-//! `tdx-view`: shows the bundles of a container.
+//! `tdx-view`: shows the events of a script's run, and the bundles of a container.
 #![tactic(auto)]
 
 use bundle_store::{DiskFiles, StdSink};

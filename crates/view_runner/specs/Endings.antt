@@ -13,7 +13,22 @@ use Rattle.bundle_store.specs.History.{Put}
 use Rattle.bundle_store.specs.Containers.{container_in}
 use Rattle.bundle_lines.specs.BundleLines.{bundle_line}
 use Rattle.command_files.specs.Inputs.{Reads, Loads}
-use Rattle.view_runner.specs.Views.{ViewSeen, Bundles, name_of}
+use Rattle.script_text.specs.declared.faults.Reason.{Reason}
+use Rattle.script_text.specs.declared.faults.Reason.TheVariants as reason
+use Rattle.script_text.specs.declared.faults.ScriptFault.{ScriptFault}
+use Rattle.script_text.specs.declared.faults.ScriptFault.TheVariants.{Bad, OutOfMemory}
+use Rattle.script_text.specs.ReasonText.{reason_text}
+use Rattle.script_text.specs.Reading.{read_of}
+use Rattle.script_text.specs.Seen.{ScriptSeen}
+use Rattle.trace_lines.specs.Traces.{traces}
+use Rattle.trace_texts.specs.CallLines.{call_lists}
+use Rattle.trace_texts.specs.Lines.{trace_text}
+use Rattle.trace_runs.specs.Bare.{bare_opening}
+use Rattle.state_lines.specs.After.{state_after}
+use Rattle.state_lines.specs.StateText.{state_text}
+use Rattle.view_runner.specs.Views.{ViewSeen, Bundles, Run, name_of}
+use Rattle.view_runner.specs.declared.commands.Shown.{Shown}
+use Rattle.view_runner.specs.declared.commands.Shown.TheVariants as shown
 use Rattle.view_runner.specs.declared.ending.Told.{Told}
 
 -- an exit status, and what is put to the output
@@ -25,7 +40,11 @@ abbrev pub told_seen : Told → Ended
 told_seen t = record { status = t.status; text = t.text.items }
 
 abbrev pub usage_end : Ended
-usage_end = record { status = 1; text = codes "usage: tdx-view bundles CONTAINER" ++ 10 ∷ [] }
+usage_end = record { status = 1; text = codes "usage: tdx-view bundles CONTAINER | tdx-view trace SCRIPT [--json] | tdx-view state SCRIPT --after N" ++ 10 ∷ [] }
+
+-- that line of the script is bad
+abbrev pub bad_end : ℕ → Reason → Ended
+bad_end line reason = record { status = 2; text = codes "script line " ++ (decimal line ++ (codes " " ++ (reason_text reason ++ 10 ∷ []))) }
 
 abbrev pub unread_end : List ℕ → Ended
 unread_end name = record { status = 3; text = codes "cannot read " ++ (name ++ 10 ∷ []) }
@@ -42,6 +61,18 @@ abbrev pub container_view : Result (List BundleSeen) ℕ → Ended
 container_view (Ok bundles) = record { status = 0; text = concat (map bundle_line bundles) }
 container_view (Err place) = container_end place
 
+-- The events of a script's run, a line each, by its text, or the state after so many; its secret words are 0, and no bundles
+-- come in.
+abbrev pub run_view : Shown → (text : List ℕ) → ScriptSeen → Ended
+run_view (shown.Trace f) text s = record { status = 0; text = trace_text f (call_lists text 0 s.machine.lps) (traces (bare_opening s) s.schedule) }
+run_view (shown.State n) text s = record { status = 0; text = state_text (bare_opening s) (state_after (bare_opening s) n s.schedule) }
+
+-- or the first bad line
+abbrev pub script_view : Shown → (text : List ℕ) → Result ScriptSeen ScriptFault → Ended
+script_view x text (Ok s) = run_view x text s
+script_view x text (Err (Bad line reason)) = bad_end line reason
+script_view x text (Err OutOfMemory) = memory_end
+
 -- ---- the ending that is due by what the load answered; want of memory is no ending
 
 abbrev pub BundlesEnd : List ℕ → Result (Vec ℕ) LoadFault → Ended → Type 0
@@ -51,12 +82,21 @@ BundlesEnd name (Err load.TooLong) e = e ≡ container_end (2 ^ 29)
 BundlesEnd name (Err load.Failed) e = e ≡ unread_end name
 BundlesEnd name (Err load.OutOfMemory) e = ⊥
 
+abbrev pub RunEnd : Shown → List ℕ → Result (Vec ℕ) LoadFault → Ended → Type 0
+RunEnd x name (Ok given) e = e ≡ script_view x given.items (read_of given.items)
+RunEnd x name (Err load.Absent) e = e ≡ unread_end name
+RunEnd x name (Err load.TooLong) e = e ≡ bad_end 0 reason.Length
+RunEnd x name (Err load.Failed) e = e ≡ unread_end name
+RunEnd x name (Err load.OutOfMemory) e = ⊥
+
 abbrev pub AnswerEnd : ViewSeen → Result (Vec ℕ) LoadFault → Ended → Type 0
 AnswerEnd (Bundles name) answer e = BundlesEnd name answer e
+AnswerEnd (Run x name) answer e = RunEnd x name answer e
 
 -- the most bytes that its file may have
 abbrev pub most_of : ViewSeen → ℕ
 most_of (Bundles name) = 2 ^ 29
+most_of (Run x name) = 2 ^ 24
 
 -- ---- what is loaded
 

@@ -2,18 +2,41 @@
 
 ghost use Rattle.std.specs.Prelude.{◌≡◌, option_map, map, string_bytes};
 ghost use Rattle.std.specs.Str.{bytes_eq};
-ghost use Rattle.view_runner.specs.Views.{begins_with_dash, verb_of, begun_seen, view_seen, after, finished, view_in, name_of};
+ghost use Rattle.line_words.specs.Number.{number};
+ghost use Rattle.view_runner.specs.Views.{begins_with_dash, verb_of, begun_seen, view_seen, takes_json, takes_after, counted, after, form_of, shown_of, finished, view_in, name_of};
+
+use line_words::number;
+use trace_texts::Form;
 
 /// What is shown of a file.
 #[derive(Clone, Copy, Debug, PartialEq, Eq)]
 pub enum Verb {
     Bundles,
+    Trace,
+    State,
 }
 
-/// What the words ask for: the bundles of the container of that name.
+/// What is shown of a script's run: its events in a form, or the state after so many of them.
+#[derive(Clone, Copy)]
+pub enum Shown {
+    Trace(Form),
+    State(u64),
+}
+
+/// What the words ask for: the bundles of the container of that name, or what is shown of a run of the
+/// script of that name.
 #[derive(Clone, Copy, Drop)]
 pub enum View<'a> {
     Bundles(&'a str),
+    Run { shown: Shown, script: &'a str },
+}
+
+/// The number of events: not asked for so far, in the next word, or given.
+#[derive(Clone, Copy)]
+pub enum Count {
+    Absent,
+    Next,
+    Given(u64),
 }
 
 /// What was read of a command so far.
@@ -21,6 +44,8 @@ pub enum View<'a> {
 pub struct Begun<'a> {
     pub verb: Verb,
     pub name: Option<&'a str>,
+    pub json: bool,
+    pub count: Count,
 }
 
 fn begins_with_dash(word: &str) -> bool
@@ -41,8 +66,46 @@ fn verb_of(word: &str) -> Option<Verb>
 {
     if is(word, "bundles") {
         Some(Verb::Bundles)
+    } else if is(word, "trace") {
+        Some(Verb::Trace)
+    } else if is(word, "state") {
+        Some(Verb::State)
     } else {
         None
+    }
+}
+
+fn takes_json(begun: Begun<'_>, word: &str) -> bool
+    ensures { result ≡ takes_json begun.entry.verb begun.entry.json word.now }
+{
+    match begun.verb {
+        Verb::Trace => !begun.json && is(word, "--json"),
+        _ => false,
+    }
+}
+
+fn takes_after(begun: Begun<'_>, word: &str) -> bool
+    ensures { result ≡ takes_after begun.entry.verb begun.entry.count word.now }
+{
+    match begun.verb {
+        Verb::State => match begun.count {
+            Count::Absent => is(word, "--after"),
+            _ => false,
+        },
+        _ => false,
+    }
+}
+
+// The word behind `--after`.
+fn counted<'a>(begun: Begun<'a>, word: &str) -> Option<Begun<'a>>
+    ensures { option_map begun_seen result ≡ counted (number word.now) (begun_seen begun.entry) }
+{
+    match number(word.as_bytes()) {
+        Some(count) => Some(Begun {
+            count: Count::Given(count),
+            ..begun
+        }),
+        None => None,
     }
 }
 
@@ -50,7 +113,19 @@ fn verb_of(word: &str) -> Option<Verb>
 fn after<'a>(begun: Begun<'a>, word: &'a str) -> Option<Begun<'a>>
     ensures { option_map begun_seen result ≡ after word.now (begun_seen begun.entry) }
 {
-    if begins_with_dash(word) || begun.name.is_some() {
+    if let Count::Next = begun.count {
+        counted(begun, word)
+    } else if takes_json(begun, word) {
+        Some(Begun {
+            json: true,
+            ..begun
+        })
+    } else if takes_after(begun, word) {
+        Some(Begun {
+            count: Count::Next,
+            ..begun
+        })
+    } else if begins_with_dash(word) || begun.name.is_some() {
         None
     } else {
         Some(Begun {
@@ -60,13 +135,37 @@ fn after<'a>(begun: Begun<'a>, word: &'a str) -> Option<Begun<'a>>
     }
 }
 
+fn form_of(json: bool) -> Form
+    ensures { result ≡ form_of json }
+{
+    if json { Form::Json } else { Form::Plain }
+}
+
+fn shown_of(verb: Verb, json: bool, count: Count) -> Option<Shown>
+    ensures { result ≡ shown_of verb json count }
+{
+    match verb {
+        Verb::Bundles => None,
+        Verb::Trace => Some(Shown::Trace(form_of(json))),
+        Verb::State => match count {
+            Count::Given(events) => Some(Shown::State(events)),
+            _ => None,
+        },
+    }
+}
+
 fn finished<'a>(begun: Begun<'a>) -> Option<View<'a>>
     ensures { option_map view_seen result ≡ finished (begun_seen begun.entry) }
 {
-    match begun.name {
-        None => None,
-        Some(name) => match begun.verb {
-            Verb::Bundles => Some(View::Bundles(name)),
+    let name = begun.name?;
+    match begun.verb {
+        Verb::Bundles => Some(View::Bundles(name)),
+        _ => match shown_of(begun.verb, begun.json, begun.count) {
+            Some(shown) => Some(View::Run {
+                shown,
+                script: name,
+            }),
+            None => None,
         },
     }
 }
@@ -79,7 +178,12 @@ pub fn read_view<'a>(words: &'a [String]) -> Option<View<'a>>
         return None;
     }
     let verb = verb_of(words[0].as_str())?;
-    let mut begun = Begun { verb, name: None };
+    let mut begun = Begun {
+        verb,
+        name: None,
+        json: false,
+        count: Count::Absent,
+    };
     for i in 1..words.len() {
         match after(begun, words[i].as_str()) {
             Some(next) => begun = next,
@@ -95,5 +199,6 @@ pub fn name_of<'a>(view: &View<'a>) -> &'a str
 {
     match view {
         View::Bundles(name) => name,
+        View::Run { script, .. } => script,
     }
 }

@@ -1,5 +1,5 @@
 //! The top call of `tdx-view`, over the files and the output of `bundle_store`: what a command comes to is
-//! decided by the one file that it loads, and put.
+//! decided by the one file that it loads, a container or a script that is run, and put.
 //!
 //! Its fault texts and statuses are those of `tdx`. A layer above may use that `view_main` does what
 //! `DoesView` says, whatever its files and its output tell.

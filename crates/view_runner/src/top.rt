@@ -6,7 +6,7 @@ ghost use Rattle.view_runner.specs.Views.{view_seen, view_in};
 ghost use Rattle.view_runner.specs.Endings.{told_seen, Reaches, Comes, ComesPart, TellsBy, PutsWant, DoesView};
 
 use crate::commands::{View, name_of, read_view};
-use crate::ending::{MOST_CONTAINER, Told, of_bundles, usage};
+use crate::ending::{MOST_CONTAINER, MOST_SCRIPT, Told, of_bundles, of_run, usage};
 use bundle_store::{Files, PutFault, Sink};
 use std::alloc::{AllocError, Global};
 
@@ -25,6 +25,10 @@ fn of_view<'a, F: Files>(alloc: Global, view: &View<'a>, files: &mut F) -> Resul
         View::Bundles(_) => {
             let answer = files.load(alloc, name, MOST_CONTAINER);
             of_bundles(alloc, name, answer)
+        }
+        View::Run { shown, .. } => {
+            let answer = files.load(alloc, name, MOST_SCRIPT);
+            of_run(alloc, *shown, name, answer)
         }
     }
 }

@@ -1,0 +1,14 @@
+use Rattle.std.proofs.Common.{◌≡◌, [], length}
+use Rattle.trace_table.specs.Benches.{bench_of}
+use Rattle.leaf_table.specs.Given.{given_in}
+use Rattle.run_texts.specs.Openings.{opening_of}
+use Rattle.run_texts.specs.Replaying.{HaveEnded}
+use Rattle.trace_runs.specs.Tracing.{IsTracing}
+use Rattle.trace_runs.proofs.runs.finish_all.Given as goal
+
+abbrev pub invariant-loop-lp : goal.invariant-loop-lp
+invariant-loop-lp l = record {
+  count : length l.lps ≡ length l.initial.lps;
+  ended : HaveEnded l.lp l.lps;
+  left : IsTracing (opening_of (given_in l.given) l.script) l.script.schedule [] l.told.items l.lps (bench_of l.initial.bench).pass.table (bench_of l.bench);
+}

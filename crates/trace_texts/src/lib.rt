@@ -1,0 +1,14 @@
+//! The trace of a run as lines: for reading, and as JSON for programs.
+//!
+//! The crate stands on `trace_lines`, whose events it tells, and on `line_words`, by which it finds the
+//! call lines in a script's text. A layer above may use that `call_lists` gives the call lines of each
+//! processor that `specs/CallLines.antt` defines, and `trace_text` the bytes that `specs/Lines.antt`
+//! defines, unless memory wasn't found.
+#![tactic(auto)]
+
+mod call_lines;
+mod events;
+mod lines;
+
+pub use call_lines::{CallLine, call_lists};
+pub use lines::{Form, trace_text};

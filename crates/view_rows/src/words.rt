@@ -1,0 +1,101 @@
+//! The status and the text of words, by the files that they name.
+
+use bundle_store::{MemFiles, MemSink, NamedFile};
+use std::alloc::Global;
+use std::test::Fail;
+use view_runner::view_main;
+
+const SCRIPT: &str =
+    "machine 2 8 1\nschedule 0 1\nlp 0\n\n# a comment\n HOST.READ 1 0\nend\nlp 1\nMNG.CREATE 1 1\nend\n";
+
+const USAGE: &str =
+    "usage: tdx-view bundles CONTAINER | tdx-view trace SCRIPT [--json] | tdx-view state SCRIPT --after N\n";
+
+// As checks/second/trace has them.
+const EVENTS: &str = "1      0.1    line 6     HOST.READ               try P 1 shared
+2      1.1    line 9     MNG.CREATE              denied P 1 exclusive -> OPERAND_BUSY P 1
+3      0.1    line 6     HOST.READ               act
+4      0.1    line 6     HOST.READ               release P 1 -> SUCCESS 0
+";
+
+const OBJECTS: &str =
+    "{\"event\": 1, \"processor\": 0, \"line\": 1, \"script_line\": 6, \"call\": \"HOST.READ\", \"what\": \"try\", \"lock\": \"P 1\", \"mode\": \"shared\"}
+{\"event\": 2, \"processor\": 1, \"line\": 1, \"script_line\": 9, \"call\": \"MNG.CREATE\", \"what\": \"denied\", \"lock\": \"P 1\", \"mode\": \"exclusive\", \"reply\": \"OPERAND_BUSY P 1\"}
+{\"event\": 3, \"processor\": 0, \"line\": 1, \"script_line\": 6, \"call\": \"HOST.READ\", \"what\": \"act\"}
+{\"event\": 4, \"processor\": 0, \"line\": 1, \"script_line\": 6, \"call\": \"HOST.READ\", \"what\": \"release\", \"lock\": \"P 1\", \"reply\": \"SUCCESS 0\"}
+";
+
+// As checks/second/stating.py has it after two events.
+const STATE: &str = "lp 0 done 0 of 1\nlp 0 call holds P 1 shared\nlp 1 done 1 of 1\n";
+
+// Words, the status and the text. The files are the script s, a bad script b, and a container c without
+// bundles.
+const ROWS: &[(&str, u8, &str)] = &[
+    ("trace s", 0, EVENTS),
+    ("trace s --json", 0, OBJECTS),
+    ("trace --json s", 0, OBJECTS),
+    ("trace b", 2, "script line 2 WORD\n"),
+    ("trace c", 2, "script line 1 UNTERMINATED\n"),
+    ("trace absent", 3, "cannot read absent\n"),
+    ("bundles c", 0, ""),
+    ("bundles s", 6, "bundle file byte 0\n"),
+    ("bundles absent", 3, "cannot read absent\n"),
+    ("trace", 1, USAGE),
+    ("trace --json", 1, USAGE),
+    ("trace s --json --json", 1, USAGE),
+    ("trace s --text", 1, USAGE),
+    ("trace s s", 1, USAGE),
+    ("bundles --json c", 1, USAGE),
+    ("bundles c c", 1, USAGE),
+    ("--json trace s", 1, USAGE),
+    ("state s --after 2", 0, STATE),
+    ("state --after 0x2 s", 0, STATE),
+    (
+        "state s --after 9",
+        0,
+        "lp 0 done 1 of 1\nlp 1 done 1 of 1\n",
+    ),
+    ("state b --after 2", 2, "script line 2 WORD\n"),
+    ("state absent --after 2", 3, "cannot read absent\n"),
+    ("state s", 1, USAGE),
+    ("state s --after", 1, USAGE),
+    ("state s --after two", 1, USAGE),
+    ("state s --after 2 --after 2", 1, USAGE),
+    ("state --after 2", 1, USAGE),
+    ("state s --json --after 2", 1, USAGE),
+    ("trace s --after 2", 1, USAGE),
+    ("replay s", 1, USAGE),
+];
+
+fn files(alloc: Global) -> Result<MemFiles, Fail> {
+    let list: [(&str, &str); 3] = [
+        ("s", SCRIPT),
+        ("b", "machine 2 8 1\nlq 0\nend\n"),
+        ("c", "TDXBNDL1"),
+    ];
+    let mut files = Vec::new(alloc);
+    for (name, text) in list {
+        files.push(NamedFile {
+            name: String::from_str(alloc, name)?,
+            bytes: text.as_bytes().to_vec(alloc)?,
+        })?;
+    }
+    Ok(MemFiles::new(alloc, files, Vec::new(alloc)))
+}
+
+#[test]
+fn words_have_their_texts(rt: HostRuntime) -> Result<(), Fail> {
+    let alloc = rt.alloc();
+    for (line, status, want) in ROWS {
+        let mut words = Vec::new(alloc);
+        for word in line.split(' ') {
+            words.push(String::from_str(alloc, word)?)?;
+        }
+        let mut files = files(alloc)?;
+        let mut out = MemSink::new(alloc, Vec::new(alloc));
+        let got = view_main(alloc, &words, &mut files, &mut out);
+        assert_eq!(rt; got, *status, "status of {line}");
+        assert_eq!(rt; out.bytes.as_slice(), want.as_bytes(), "text of {line}");
+    }
+    Ok(())
+}
