@@ -49,14 +49,27 @@ def first_gap(td, gpa):
 
 
 class Guest:
-    """A VCPU in guest on a processor."""
+    """A VCPU in guest on a processor, for at most so many operations."""
 
-    def __init__(self, processor, td_page, vcpu_page):
+    def __init__(self, processor, td_page, vcpu_page, most):
         self.processor, self.machine = processor, processor.machine
         self.td_page, self.td = td_page, self.machine.tds[td_page]
         self.vcpu_page, self.vcpu = vcpu_page, self.td.vcpus[vcpu_page]
         self.code = self.machine.outside.code.get((td_page, self.vcpu.index), [])
         self.how = None  # what decided the operation
+        self.most, self.completed = most, 0
+        self.due = (None, self.vcpu.position)  # the operation that is due, and where it stands
+        processor.inside = self
+
+    def own_locks(self):
+        """The locks that the operation holds, behind those of its VP.ENTER."""
+        return [held for held in self.processor.held[3:] if held[0][0] != "E"]
+
+    def done(self):
+        """How many operations are over that go on behind: also one whose last event was the last one."""
+        name, position = self.due
+        over = self.vcpu.position > position and not self.own_locks() and name != "vmcall"
+        return self.completed + over
 
     def meet_others(self):
         """Keeps how many guests are in at once, and whether of more than one TD."""
@@ -65,12 +78,12 @@ class Guest:
         if sum(map(bool, tds)) > 1:
             self.machine.met.append("guests at once: of two TDs")
 
-    def events(self, parity, most):
+    def events(self, parity):
         """The events behind the act of the entry: the release of E, the operations, and the exit."""
         self.meet_others()
         self.processor.release()
         yield
-        reason = yield from self.operations(most)
+        reason = yield from self.operations()
         self.processor.reply(f"EXIT {reason}")
         self.td.in_guest[parity] -= 1
         self.processor.saw("count")
@@ -79,21 +92,20 @@ class Guest:
             self.processor.release()
             yield
 
-    def operations(self, most):
+    def operations(self):
         """The operations of this entry; answers the reason of the exit."""
-        completed = 0
         while True:
             if self.vcpu.position >= len(self.code):
                 return "STOP"
-            if completed == most:
+            if self.completed == self.most:
                 return "MAX"
             name, *operands = self.code[self.vcpu.position]
-            self.how = None
+            self.how, self.due = None, (name, self.vcpu.position)
             reason = yield from OPERATIONS[name](self, *operands)
             self.meets(name, operands, reason)
             if reason is not None:
                 return reason
-            completed += 1
+            self.completed, self.due = self.completed + 1, (None, self.vcpu.position)
 
     def meets(self, name, operands, reason):
         """Keeps what came of an operation, without the numbers that it shows."""
@@ -189,7 +201,7 @@ class Guest:
         elif self.how.startswith("by a walk") and writes and not self.allows_writing(gpa):
             self.how = "by a walk with a block for writing behind it"
         self.move(register, gpa, translation[2], self.vcpu.registers[register] if writes else None)
-        self.processor.saw("access")
+        self.processor.saw("access", access="WRITE" if writes else "READ", gpa=gpa, page=translation[2], word=gpa % PAGE_BYTES // 8)
         yield
         return None
 
@@ -227,12 +239,12 @@ class Guest:
             reached = state == "NL_MAPPED"
             if not reached:
                 self.how = f"at level {level} {state}"
-            self.processor.saw("walk")
+            self.processor.saw("walk", gpa=gpa, level=level)
             yield
             if not reached:
                 return None
         state = entry_state(self.td, gpa, 0)
-        self.processor.saw("walk")
+        self.processor.saw("walk", gpa=gpa, level=0)
         if state not in (WRITABLE if writes else READABLE):
             self.how = f"at {state}"
             yield

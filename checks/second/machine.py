@@ -151,14 +151,14 @@ class Processor:
         self.machine, self.number, self.calls, self.row = machine, number, calls, row
         self.replies = []  # of each call the reply, and how many locks the call had
         self.translations = []  # cached ones, oldest first
-        self.seen = None  # the last event: what it was, of which lock, and by which weight
+        self.seen = None  # the last event: what it was, of which lock, by which weight, and more
         self.guest_lines = []
         self.made = 0
         self.begin()
 
     def begin(self):
         """The next call has made no event."""
-        self.held, self.undo, self.replied, self.guest = [], None, False, None
+        self.held, self.undo, self.replied, self.guest, self.inside = [], None, False, None, None
 
     def has_ended(self):
         """Whether no line is left."""
@@ -226,9 +226,9 @@ class Processor:
         self.machine.locks[lock] -= weight
         self.saw("release", lock, weight)
 
-    def saw(self, what, lock=None, weight=None):
-        """The event that is being made is this one."""
-        self.seen = what, lock, weight
+    def saw(self, what, lock=None, weight=None, **more):
+        """The event that is being made is this one, and what else is told of it."""
+        self.seen = what, lock, weight, more
 
     def reply(self, text):
         """The call has its reply, and releases its locks from now on."""

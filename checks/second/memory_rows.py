@@ -62,7 +62,7 @@ def vp_enter(processor, td_page, page, most):
         machine.met.append(f"VP.ENTER: entered in {td.op}")
         vcpu.processor, vcpu.last_epoch = processor.number, td.epoch
         td.in_guest[td.epoch % 2] += 1
-        return guests.Guest(processor, td_page, page).events(td.epoch % 2, most)
+        return guests.Guest(processor, td_page, page, most).events(td.epoch % 2)
 
     return effect
 

@@ -1,4 +1,4 @@
-"""The events of a run by the second model. Of a guest's acts it says which they are: `act`, `walk`, `access` or `count`."""
+"""The events of a run by the second model, as `tdx-view trace SCRIPT --json` tells them."""
 
 import program
 from bundles import bundles_of
@@ -39,13 +39,14 @@ def events_of(script, lines, processors):
         made = processor.made
         processor.event()
         count += 1
-        what, lock, weight = processor.seen
+        what, lock, weight, more = processor.seen
         event = {"event": count, "processor": processor.number, "line": made + 1}
         event |= {"script_line": lines[processor.number, made + 1], "call": processor.calls[made][0], "what": what}
         if lock is not None:
             event["lock"] = lock_name(lock)
         if what in ("try", "denied"):
             event["mode"] = "exclusive" if weight == EXCLUSIVELY else "shared"
+        event |= more
         if processor.made > made:
             event["reply"] = processor.replies[made][0]
         yield event
