@@ -74,7 +74,6 @@ pub fn number(word: &[u8]) -> Option<u64>
 }
 
 // How many digits a text begins with, and their number. It ends early where a further digit may not fit.
-
 fn digits_front(text: &[u8]) -> (usize, u64)
     ensures inside { result.0 ≤ length text.now }
     ensures digits { list_all is_digit (take result.0 text.now) ≡ true }
