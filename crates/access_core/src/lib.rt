@@ -16,6 +16,7 @@ mod walk_loads;
 
 pub use accepts::Accept;
 pub use guest_operations::{Add, Set, Vmcall};
+pub use guest_words::{register_address, shared_page, word_of_gpa};
 pub use host_accesses::{HostRead, HostWrite};
 pub use laws::{operations_mean, pending_is_unreached};
 pub use private_accesses::{PrivateLoad, PrivateStore};

@@ -27,7 +27,8 @@ use Rattle.leaf_engine.specs.Turns.{Standing, last_reply}
 use Rattle.leaf_engine.specs.Guests.{WordGuest, Step, Operates, Accesses, Loads, Leaves, private_step, operation_step, due_step, staying_step, step_of, loaded}
 use Rattle.leaf_engine.specs.OwnLists.{WordLp, after_step}
 use Rattle.leaf_table.specs.Ends.{Ends, step_fits, step_tries, step_ends}
-use Rattle.leaf_dispatch.specs.Answers.{is_busy, FitsStage, act_of, beside_by}
+use Rattle.guest_turns.specs.Turns.{act_of}
+use Rattle.leaf_dispatch.specs.Answers.{is_busy, FitsStage, beside_by}
 use Rattle.leaf_dispatch.specs.Bounds.{stage_left, stage_used, run_used, guest_left, events_left}
 use Rattle.leaf_dispatch.specs.Guests.{is_outcome}
 use Rattle.leaf_dispatch.proofs.Lowering.{Gives}

@@ -1,9 +1,10 @@
 -- An event of a guest's step is an event of its processor.
-use Rattle.std.proofs.Common.{◌≡◌, ◌∙◌, ℕ, zero, suc, ◌+◌, ◌-◌, ◌<◌, ◌≤◌, Bool, true, false, ◌==◌, ◌&&◌, if◌then◌else◌, List, [], ◌∷◌, length, Option, Some, None, option_map, is_none, IfSome, refl, ap, sym, subst, arith}
+use Rattle.std.proofs.Common.{◌≡◌, ◌∙◌, ℕ, zero, suc, ◌+◌, ◌-◌, ◌<◌, ◌≤◌, Bool, true, false, ◌==◌, ◌&&◌, if◌then◌else◌, List, [], ◌∷◌, length, Option, Some, None, option_map, is_none, is_some, IfSome, refl, ap, sym, subst, arith}
 use Rattle.std.specs.Prelude.{nat_lt}
 use Rattle.std.proofs.lemmas.Bool.{ltb-false, ltb-true}
 use Rattle.td_words.specs.Seen.{CodeSeen}
 use Rattle.td_words.specs.declared.calls.Call.{Call}
+use Rattle.td_words.specs.declared.calls.GuestOp.{GuestOp}
 use Rattle.td_words.specs.declared.refusals.Status.TheVariants.{OperandBusy}
 use Rattle.td_words.specs.declared.replies.Outcome.{Outcome}
 use Rattle.td_words.specs.declared.replies.Outcome.TheVariants.{Vmcall}
@@ -22,24 +23,27 @@ use Rattle.leaf_engine.specs.Merges.{IsStepOf}
 use Rattle.leaf_engine.specs.Turns.{Standing}
 use Rattle.leaf_engine.specs.OwnLists.{TurnsInPieces, WordLp, running, after_step, line_after, EnteredTurn}
 use Rattle.leaf_table.specs.Ends.{Ends, step_answer, step_ends, step_tries}
+use Rattle.guest_turns.specs.Turns.{kept_after}
 use Rattle.leaf_dispatch.specs.Answers.{beside_by, cached_by, notes_by, tells_by}
 use Rattle.leaf_dispatch.specs.Bounds.{run_used, stage_used, events_left}
-use Rattle.leaf_dispatch.specs.Guests.{guest_seen, unless_left, next_in, IsLow, CanCount, IsReplyOf, IsNextGuest}
+use Rattle.leaf_dispatch.specs.Guests.{guest_seen, unless, unless_left, next_in, IsLow, CanCount, IsReplyOf, IsNextGuest}
 use Rattle.leaf_dispatch.specs.Inside.{guest_in, unless_gives, acting, line_then, IsGuestKept, KeepsGuest}
 use Rattle.leaf_dispatch.specs.NoteRooms.{longest_in, stage_made, run_made, guest_room, room_left}
-use Rattle.leaf_dispatch.specs.Running.{standing_of, run_seen, kept_after, IsRunOf, IsAnswered, LeafTurned}
+use Rattle.leaf_dispatch.specs.Running.{standing_of, run_seen, IsAnswered}
 use Rattle.leaf_table.specs.Given.{Given}
 use Rattle.leaf_table.specs.Table.{code_in, step_task, place_table}
+use Rattle.leaf_dispatch.specs.StepRuns.{step_run_seen, IsStepRunOf, StepTurned}
+use Rattle.leaf_dispatch.specs.declared.step_runs.StepRun.{StepRun}
 use Rattle.leaf_dispatch.specs.declared.guests.GuestAt.{GuestAt}
 use Rattle.leaf_dispatch.specs.declared.running.Running.{Running}
-use Rattle.leaf_dispatch.specs.declared.running.LeafTurn.{LeafTurn}
+use Rattle.guest_turns.specs.declared.runs.LeafTurn.{LeafTurn}
 use Rattle.leaf_dispatch.proofs.Lowering.{Gives}
 use Rattle.leaf_dispatch.proofs.Turning.{line-gives, Moved}
 use Rattle.leaf_dispatch.proofs.StepTurns.{step-is, guest-moves, cached-stays}
 use Rattle.leaf_dispatch.proofs.Fewer.{run-same, Counts, IsLowStep, step-fewer}
 use Rattle.leaf_dispatch.proofs.Replying.{reply-fits, first-trying}
 use Rattle.leaf_dispatch.proofs.Rooming.{room-is, operated-room, goes-room}
-use Rattle.leaf_dispatch.proofs.LineEvents.{none-kept}
+use Rattle.leaf_dispatch.proofs.LineEvents.{none-is, no-run}
 
 -- no list of a script is longer than the longest
 pub longest-holds : (cs : List CodeSeen) (t i : ℕ) → length (code_in cs t i) ≤ longest_in cs
@@ -139,20 +143,16 @@ stays-in (Accesses access q gpa page) r x y e = (let same : record x { completed
 stays-in (Loads access gpa level page) r x y e = (let same : loaded access gpa level r x ≡ y = cc in subst (λ (z : WordGuest). StaysIn x z) same (stays-loaded access gpa level r x))
 stays-in (Leaves out) r x y e = cc
 
-none-seen : (k : Option Running) → run_seen k ≡ None → k ≡ None
-none-seen None e = refl
-none-seen (Some r) e = cc
-
-guest-alone : (h : Option GuestAt) (k : Option Running) → run_seen k ≡ None → guest_in h k ≡ option_map (λ (g : GuestAt). guest_seen g None) h
+pub guest-alone : (h : Option GuestAt) (k : StepRun) → step_run_seen k ≡ None → guest_in h k ≡ option_map (λ (g : GuestAt). guest_seen g None) h
 guest-alone None k e = refl
 guest-alone (Some g) k e = ap (λ (run : Option Standing). Some (guest_seen g run)) e
 
-module _ (p : Place) (given : Given) (codes : List CodeSeen) (c : Call) (cs : List Call) (r : Running) (g : GuestAt) (step : Option Running) (ts us : List Translation) (rs : List Reply) (notes : List Note) (told : List ℕ) (ms : List Made) where
+module _ (p : Place) (given : Given) (codes : List CodeSeen) (c : Call) (cs : List Call) (r : Running) (g : GuestAt) (step : StepRun) (ts us : List Translation) (rs : List Reply) (notes : List Note) (told : List ℕ) (ms : List Made) where
   abbrev pub at_line : ℕ
   at_line = length rs + 1
 
   abbrev pub x : WordGuest
-  x = guest_seen g (run_seen step)
+  x = guest_seen g (step_run_seen step)
 
   abbrev besides : Beside
   besides = record { cached = ts; notes = notes; told = told; bundles = ms }
@@ -160,12 +160,12 @@ module _ (p : Place) (given : Given) (codes : List CodeSeen) (c : Call) (cs : Li
   abbrev pub before : WordLp
   before = record { lines = c ∷ cs; run = Some (standing_of r); guest = Some x; replies = rs; beside = besides }
 
-  module _ {B : Type 0} (did : List Taken → B → Type 0) (bench : B) (kept : Option Running) (result : LeafTurn) (s : Step) (h : Option GuestAt) where
+  module _ {B : Type 0} (did : List Taken → B → Type 0) (bench : B) (kept : StepRun) (result : LeafTurn) (s : Step) (h : Option GuestAt) where
     abbrev ends : Ends
     ends = step_ends g.tdr at_line s
 
     abbrev was : Standing
-    was = running (step_task given p g.tdr g.vp at_line s) (run_seen step)
+    was = running (step_task given p g.tdr g.vp at_line s) (step_run_seen step)
 
     abbrev pub turned : WordLp
     turned = record {
@@ -176,32 +176,32 @@ module _ (p : Place) (given : Given) (codes : List CodeSeen) (c : Call) (cs : Li
       beside = record { cached = us; notes = added notes (notes_by ends.answer result.act); told = added told (tells_by ends.answer result.act); bundles = ms };
     }
 
-    module _ (is : next_in ts g None ≡ s) (inside : IsGuestKept p.machine codes ts at_line g step) (counts : CanCount g s) (low : IsStepOf s) (t : LeafTurned did p.machine ends was bench kept result [])
+    module _ (is : next_in ts g None ≡ s) (inside : IsGuestKept p.machine codes ts at_line g step) (counts : CanCount g s) (low : IsStepOf s) (t : StepTurned did p.machine ends was bench kept result)
         (cached : us ≡ cached_by ends.answer result.act ts) (next : IsNextGuest g s result.reply h) where
       gives : Gives ends was t.stands result.event
-      gives = line-gives did bench p.machine ends was kept result [] t
+      gives = line-gives did bench p.machine ends was result [] t
 
       step-at : step_of (code_in codes) ts x ≡ s
-      step-at = run-same (code_in codes) ts (guest_seen g None) (run_seen step) ∙ (step-is (code_in codes) ts g None inside.list ∙ is)
+      step-at = run-same (code_in codes) ts (guest_seen g None) (step_run_seen step) ∙ (step-is (code_in codes) ts g None inside.list ∙ is)
 
       counted : Counts x s
-      counted = with-run g (run_seen step) s (staying g g.leaving _ s is refl counts)
+      counted = with-run g (step_run_seen step) s (staying g g.leaving _ s is refl counts)
 
-      none-begun : step_tries s ≡ 0 → step ≡ None
-      none-begun none = none-kept step (inside.alone (ap step_tries is ∙ none))
+      none-begun : step_tries s ≡ 0 → step_run_seen step ≡ None
+      none-begun none = none-is (step_run_seen step) (inside.alone (ap step_tries is ∙ none))
 
       first : step_tries s ≡ 0 → was.stage ≡ stages.Trying
-      first none = first-trying given p g.tdr g.vp at_line s step none-begun none
+      first none = first-trying given p g.tdr g.vp at_line s (step_run_seen step) none-begun none
 
       used : run_used x.run ≡ stage_used was.stage (length was.held)
-      used = by (run_seen step)
+      used = by (step_run_seen step)
         where
           by : (run : Option Standing) → run_used run ≡ stage_used (running (step_task given p g.tdr g.vp at_line s) run).stage (length (running (step_task given p g.tdr g.vp at_line s) run).held)
           by None = refl
           by (Some y) = refl
 
       made-before : run_made x.run ≡ stage_made was.stage
-      made-before = by (run_seen step)
+      made-before = by (step_run_seen step)
         where
           by : (run : Option Standing) → run_made run ≡ stage_made (running (step_task given p g.tdr g.vp at_line s) run).stage
           by None = refl
@@ -217,12 +217,12 @@ module _ (p : Place) (given : Given) (codes : List CodeSeen) (c : Call) (cs : Li
       after : turned ≡ after_step c cs (standing_of r) x rs turned.beside s t.stands result.reply
       after = by result.reply next t.seen
         where
-          by : (reply : Option Reply) → IsNextGuest g s reply h → run_seen kept ≡ kept_after reply t.stands
+          by : (reply : Option Reply) → IsNextGuest g s reply h → step_run_seen kept ≡ kept_after reply t.stands
               → record { lines = c ∷ cs; run = line_then s reply (Some (standing_of r)); guest = guest_in h kept; replies = rs; beside = turned.beside } ≡ after_step c cs (standing_of r) x rs turned.beside s t.stands reply
           by None same seen = ap (λ (y : Option WordGuest). record { lines = c ∷ cs; run = Some (standing_of r); guest = y; replies = rs; beside = turned.beside })
               (ap (λ (y : Option GuestAt). guest_in y kept) same ∙ ap (λ (run : Option Standing). Some (guest_seen g run)) seen)
           by (Some z) goes seen = ap (λ (y : Option WordGuest). record { lines = c ∷ cs; run = Some (line_after s z (standing_of r)); guest = y; replies = rs; beside = turned.beside })
-              (guest-alone h kept seen ∙ goes (run_seen step))
+              (guest-alone h kept seen ∙ goes (step_run_seen step))
 
       fewer : events_left (code_in codes) turned < events_left (code_in codes) before
       fewer =
@@ -255,7 +255,7 @@ module _ (p : Place) (given : Given) (codes : List CodeSeen) (c : Call) (cs : Li
               omega (arith, fresh, few)
 
       fresh-run : step_tries s ≡ 0 → run_made x.run ≡ 0
-      fresh-run none = ap (λ (k : Option Running). run_made (run_seen k)) (none-begun none)
+      fresh-run none = ap run_made (none-begun none)
 
       pub guest-fits : (longest made : ℕ) → longest ≡ longest_in codes → made ≤ 1 → (result.act ≡ None → made ≡ 0) → MakesNone s made → room_left longest turned + made ≤ room_left longest before
       guest-fits longest made is-longest few none makes =
@@ -274,7 +274,7 @@ module _ (p : Place) (given : Given) (codes : List CodeSeen) (c : Call) (cs : Li
           by (Operates o) same now within nil None e =
               let more = goes-room longest x now.0 now.1 (short within.1) ends was t.stands result.event made-before gives made few (λ no. none (t.act_is ∙ no)) in omega (arith, more)
           by (Operates o) same now within nil (Some z) e =
-              let fits : IfSome result.reply (λ w. IsReplyOf s w) = reply-fits did bench p.machine kept result [] g.tdr at_line s was t first result.reply refl in
+              let fits : IfSome result.reply (λ w. IsReplyOf s w) = reply-fits did bench p.machine result [] g.tdr at_line s was t first result.reply refl in
               let fit : IsReplyOf (Operates o) z = subst (λ (y : Step). IsReplyOf y z) (sym same) (subst (λ (w : Option Reply). IfSome w (λ w. IsReplyOf s w)) e fits) in
               let more = operated-room longest x now.0 now.1 (short within.1) z fit in
               let once = made-once made few none in
@@ -332,7 +332,7 @@ module _ (p : Place) (given : Given) (codes : List CodeSeen) (c : Call) (cs : Li
 
           by : (h' : Option GuestAt) (reply : Option Reply) → result.reply ≡ reply → IsNextGuest g s reply h' → IfSome h' (λ y. IsLow y.walk × (y.list.now ≡ g.list.now)) → KeepsGuest p.machine codes us at_line h' run kept
           by None None e next same = cc
-          by None (Some z) e next same = ap is_none (none-seen kept (t.seen ∙ ap (λ (w : Option Reply). kept_after w t.stands) e))
+          by None (Some z) e next same = ap is_none (t.seen ∙ ap (λ (w : Option Reply). kept_after w t.stands) e)
           by (Some y) None e next same =
               let on = goes-on e in
               let at : y ≡ g = cc in
@@ -344,23 +344,22 @@ module _ (p : Place) (given : Given) (codes : List CodeSeen) (c : Call) (cs : Li
                 list = inside.list;
                 low = inside.low;
                 ahead = inside.ahead;
-                under_way = subst (λ (z : Step). IsRunOf p.machine (step_ends g.tdr at_line z) kept) (sym is ∙ ap (λ (ys : List Translation). next_in ys g None) (sym on.0)) t.under_way;
+                under_way = subst (λ (z : Step). IsStepRunOf p.machine (step_ends g.tdr at_line z) kept) (sym is ∙ ap (λ (ys : List Translation). next_in ys g None) (sym on.0)) t.under_way;
                 alone = λ none. absurd (on.1 (ap step_tries (sym is ∙ ap (λ (ys : List Translation). next_in ys g None) (sym on.0)) ∙ none));
               }))
           by (Some y) (Some z) e next same =
-              let gone : kept ≡ None = none-seen kept (t.seen ∙ ap (λ (w : Option Reply). kept_after w t.stands) e) in
-              let st = stays-in s z x (guest_seen y None) (sym (next (run_seen step))) in
+              let gone : step_run_seen kept ≡ None = t.seen ∙ ap (λ (w : Option Reply). kept_after w t.stands) e in
+              let st = stays-in s z x (guest_seen y None) (sym (next (step_run_seen step))) in
               still y run result.reply seen answered
-              (subst (λ (k : Option Running). IsGuestKept p.machine codes us at_line y k) (sym gone)
               (record {
                 tdr = subst (λ (n : ℕ). n < p.machine.pages) (sym st.tdr) inside.tdr;
                 vp = subst (λ (n : ℕ). n < p.machine.pages) (sym st.vp) inside.vp;
                 list = ap (λ (n : ℕ). code_in codes n y.index) st.tdr ∙ (ap (λ (n : ℕ). code_in codes g.tdr n) st.index ∙ (inside.list ∙ sym same.1));
                 low = same.0;
                 ahead = st.ahead inside.ahead;
-                under_way = tt;
-                alone = λ none. refl;
-              }))
+                under_way = no-run p.machine (step_ends y.tdr at_line (next_in us y None)) kept gone;
+                alone = λ none. ap is_none gone;
+              })
 
 -- the guest that makes the next event, and its VP.ENTER
 pub record Acts (g : GuestAt) (guest : Option GuestAt) (run : Option Running) : Type 0 where
@@ -378,7 +377,24 @@ acts-in (Some h) (Some r) g e = by (gives_epoch_back r.run.held.items) refl e
     by true back e = cc
     by false back e = record { guest_is = e; line = r; run_is = refl; back = back }
 
-pub kept-of : (m : _) (codes : List CodeSeen) (ts : List Translation) (n : ℕ) (guest : Option GuestAt) (run : Option Running) (g : GuestAt) (step : Option Running) → acting guest run ≡ Some g → KeepsGuest m codes ts n guest run step → IsGuestKept m codes ts n g step
+pub acts-as : (guest : Option GuestAt) (run : Option Running) (g : GuestAt) → guest ≡ Some g → is_some (acting guest run) ≡ true → acting guest run ≡ Some g
+acts-as None run g e on = cc
+acts-as (Some h) None g e on = cc
+acts-as (Some h) (Some r) g e on = by (gives_epoch_back r.run.held.items) on
+  where
+    by : (b : Bool) → is_some (unless_gives b h) ≡ true → unless_gives b h ≡ Some g
+    by true on = cc
+    by false on = e
+
+pub stays-kept : (left : Bool) (g : GuestAt) (list : List GuestOp) → IsLow g.walk × (g.list.now ≡ list) → IfSome (unless left g) (λ y. IsLow y.walk × (y.list.now ≡ list))
+stays-kept true g list kept = tt
+stays-kept false g list kept = kept
+
+pub none-acts : {A : Type 0} (x : Option A) → is_some x ≡ false → x ≡ None
+none-acts None e = refl
+none-acts (Some y) e = cc
+
+pub kept-of : (m : _) (codes : List CodeSeen) (ts : List Translation) (n : ℕ) (guest : Option GuestAt) (run : Option Running) (g : GuestAt) (step : StepRun) → acting guest run ≡ Some g → KeepsGuest m codes ts n guest run step → IsGuestKept m codes ts n g step
 kept-of m codes ts n None run g step e keeps = cc
 kept-of m codes ts n (Some h) None g step e keeps = cc
 kept-of m codes ts n (Some h) (Some r) g step e keeps = by (gives_epoch_back r.run.held.items) e
@@ -387,7 +403,7 @@ kept-of m codes ts n (Some h) (Some r) g step e keeps = by (gives_epoch_back r.r
     by true e = cc
     by false e = (let same : h ≡ g = cc in subst (λ (z : GuestAt). IsGuestKept m codes ts n z step) same keeps.1)
 
-pub answered-of : (m : _) (codes : List CodeSeen) (ts : List Translation) (n : ℕ) (guest : Option GuestAt) (run : Option Running) (g : GuestAt) (step : Option Running) → acting guest run ≡ Some g → KeepsGuest m codes ts n guest run step → IsAnswered run
+pub answered-of : (m : _) (codes : List CodeSeen) (ts : List Translation) (n : ℕ) (guest : Option GuestAt) (run : Option Running) (g : GuestAt) (step : StepRun) → acting guest run ≡ Some g → KeepsGuest m codes ts n guest run step → IsAnswered run
 answered-of m codes ts n None run g step e keeps = cc
 answered-of m codes ts n (Some h) None g step e keeps = cc
 answered-of m codes ts n (Some h) (Some r) g step e keeps = keeps.0

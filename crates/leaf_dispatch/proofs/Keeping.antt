@@ -15,10 +15,11 @@ use Rattle.leaf_engine.specs.Trees.{Tree, settle}
 use Rattle.leaf_engine.specs.Turns.{Standing, standing, CanRun, Turned, has_ended, last_reply}
 use Rattle.leaf_table.specs.Leaves.{leaf_seen}
 use Rattle.leaf_table.specs.Ends.{Ends, EndsAs, BeginsUnderOther, call_ends}
-use Rattle.leaf_dispatch.specs.Answers.{act_of, FewTries, FitsStage, OldestIsOther}
-use Rattle.leaf_dispatch.specs.Running.{standing_of, run_seen, kept_after, turn_of, act_in, made_in_run, kept_until, IsUnderWay, IsRunOf, IsRunAt, IsKept, CanTurn, HasTurned, LeafTurned}
+use Rattle.guest_turns.specs.Turns.{turn_of, act_of, kept_after}
+use Rattle.leaf_dispatch.specs.Answers.{FewTries, FitsStage, OldestIsOther}
+use Rattle.leaf_dispatch.specs.Running.{standing_of, run_seen, act_in, made_in_run, kept_until, IsUnderWay, IsRunOf, IsRunAt, IsKept, CanTurn, HasTurned, RunTurned}
 use Rattle.leaf_dispatch.specs.declared.running.Running.{Running}
-use Rattle.leaf_dispatch.specs.declared.running.LeafTurn.{LeafTurn}
+use Rattle.guest_turns.specs.declared.runs.LeafTurn.{LeafTurn}
 use Rattle.leaf_table.proofs.Ending.{ends-fed}
 use Rattle.leaf_dispatch.proofs.Lowering.{other-settled, Gives, turn-gives}
 
@@ -49,7 +50,7 @@ can-turn m e s (Some r) k = (k.1.machine, k.1.can_run, k.1.going)
 
 kept-turned : {B : Type 0} (did : List Taken → B → Type 0) (bench : B) (m : Machine) (e : Ends) (s : Standing) (r r' : Running) (kept : Option Running) (result : LeafTurn) (made : List Made)
     → IsKept m e s (Some r) → HasTurned did m (Some r) bench (Some r') (turn_of result) → result.act ≡ act_of result.event r'.run.stage → made ≡ made_in_run (Some r') result.event → run_seen kept ≡ kept_after result.reply (standing_of r') → IsRunOf m e kept
-    → LeafTurned did m e s bench kept result made
+    → RunTurned did m e s bench kept result made
 kept-turned did bench m e s r r' kept result made k t act adds seen is = record {
   going = subst (λ (z : Standing). has_ended z.stage z.held ≡ false) k.0 k.1.going;
   few_tries = subst (λ (z : Standing). FewTries e z) k.0 k.1.few_tries;
@@ -64,7 +65,7 @@ kept-turned did bench m e s r r' kept result made k t act adds seen is = record 
 }
 
 run-goes-on : {B : Type 0} (did : List Taken → B → Type 0) (bench : B) (m : Machine) (e : Ends) (s : Standing) (kept kept' : Option Running) (result : LeafTurn) (made : List Made)
-    → IsKept m e s kept → HasTurned did m kept bench kept' (turn_of result) → result.act ≡ act_in kept' result.event → made ≡ made_in_run kept' result.event → result.reply ≡ None → LeafTurned did m e s bench kept' result made
+    → IsKept m e s kept → HasTurned did m kept bench kept' (turn_of result) → result.act ≡ act_in kept' result.event → made ≡ made_in_run kept' result.event → result.reply ≡ None → RunTurned did m e s bench kept' result made
 run-goes-on did bench m e s None kept' result made k t act adds none = elim k [ ]
 run-goes-on did bench m e s (Some r) None result made k t act adds none = elim t [ ]
 run-goes-on did bench m e s (Some r) (Some r') result made k t act adds none =
@@ -73,7 +74,7 @@ run-goes-on did bench m e s (Some r) (Some r') result made k t act adds none =
     (still-under-way m e r r' result.event result.reply k.1 gives t.0.2.reply t.1 t.2 none)
 
 run-is-over : {B : Type 0} (did : List Taken → B → Type 0) (bench : B) (m : Machine) (e : Ends) (s : Standing) (kept kept' : Option Running) (result : LeafTurn) (made : List Made) (reply : Reply)
-    → IsKept m e s kept → HasTurned did m kept bench kept' (turn_of result) → result.act ≡ act_in kept' result.event → made ≡ made_in_run kept' result.event → result.reply ≡ Some reply → LeafTurned did m e s bench None result made
+    → IsKept m e s kept → HasTurned did m kept bench kept' (turn_of result) → result.act ≡ act_in kept' result.event → made ≡ made_in_run kept' result.event → result.reply ≡ Some reply → RunTurned did m e s bench None result made
 run-is-over did bench m e s None kept' result made reply k t act adds some = elim k [ ]
 run-is-over did bench m e s (Some r) None result made reply k t act adds some = elim t [ ]
 run-is-over did bench m e s (Some r) (Some r') result made reply k t act adds some =
@@ -81,14 +82,14 @@ run-is-over did bench m e s (Some r) (Some r') result made reply k t act adds so
 
 -- whichever it is
 pub run-turned : {B : Type 0} (did : List Taken → B → Type 0) (bench : B) (m : Machine) (e : Ends) (s : Standing) (kept kept' kept'' : Option Running) (result : LeafTurn) (turn : RunTurn) (made : List Made)
-    → IsKept m e s kept → HasTurned did m kept bench kept' turn → turn_of result ≡ turn → result.act ≡ act_in kept' turn.event → made ≡ made_in_run kept' turn.event → kept'' ≡ kept_until turn.reply kept' → LeafTurned did m e s bench kept'' result made
+    → IsKept m e s kept → HasTurned did m kept bench kept' turn → turn_of result ≡ turn → result.act ≡ act_in kept' turn.event → made ≡ made_in_run kept' turn.event → kept'' ≡ kept_until turn.reply kept' → RunTurned did m e s bench kept'' result made
 run-turned did bench m e s kept kept' kept'' result turn made k t same =
-    subst (λ (z : RunTurn). HasTurned did m kept bench kept' z → result.act ≡ act_in kept' z.event → made ≡ made_in_run kept' z.event → kept'' ≡ kept_until z.reply kept' → LeafTurned did m e s bench kept'' result made) same
+    subst (λ (z : RunTurn). HasTurned did m kept bench kept' z → result.act ≡ act_in kept' z.event → made ≡ made_in_run kept' z.event → kept'' ≡ kept_until z.reply kept' → RunTurned did m e s bench kept'' result made) same
     (λ t act adds is. by t act adds result.reply refl is) t
   where
-    by : HasTurned did m kept bench kept' (turn_of result) → result.act ≡ act_in kept' result.event → made ≡ made_in_run kept' result.event → (reply : Option Reply) → result.reply ≡ reply → kept'' ≡ kept_until reply kept' → LeafTurned did m e s bench kept'' result made
-    by t act adds None none is = subst (λ (z : Option Running). LeafTurned did m e s bench z result made) (sym is) (run-goes-on did bench m e s kept kept' result made k t act adds none)
-    by t act adds (Some r) some is = subst (λ (z : Option Running). LeafTurned did m e s bench z result made) (sym is) (run-is-over did bench m e s kept kept' result made r k t act adds some)
+    by : HasTurned did m kept bench kept' (turn_of result) → result.act ≡ act_in kept' result.event → made ≡ made_in_run kept' result.event → (reply : Option Reply) → result.reply ≡ reply → kept'' ≡ kept_until reply kept' → RunTurned did m e s bench kept'' result made
+    by t act adds None none is = subst (λ (z : Option Running). RunTurned did m e s bench z result made) (sym is) (run-goes-on did bench m e s kept kept' result made k t act adds none)
+    by t act adds (Some r) some is = subst (λ (z : Option Running). RunTurned did m e s bench z result made) (sym is) (run-is-over did bench m e s kept kept' result made r k t act adds some)
 
 -- what is kept, as the run of the first line
 

@@ -16,4 +16,5 @@ pub mod Summing
 pub mod LineEvents
 pub mod GuestEvents
 pub mod StateEvents
+pub mod AtOnce
 pub mod Firsts

@@ -1,6 +1,7 @@
 -- An event of the present line's own leaf is an event of its processor.
 use Rattle.std.proofs.Common.{◌≡◌, ◌∙◌, ℕ, ◌+◌, ◌*◌, ◌<◌, ◌≤◌, Bool, true, false, List, [], ◌∷◌, ◌++◌, length, Option, Some, None, option_map, is_none, IfSome, refl, ap, sym, subst, arith, length-append}
 use Rattle.td_words.specs.Seen.{CodeSeen}
+use Rattle.td_words.specs.declared.machines.Machine.{Machine}
 use Rattle.td_words.specs.declared.calls.Call.{Call}
 use Rattle.td_words.specs.declared.calls.Call.TheVariants as call
 use Rattle.td_words.specs.declared.replies.Reply.{Reply}
@@ -20,18 +21,22 @@ use Rattle.leaf_engine.specs.Besides.{Beside}
 use Rattle.leaf_engine.specs.Guests.{WordGuest, gives_epoch_back, guest_entered, or_else}
 use Rattle.leaf_engine.specs.Turns.{Standing, TurnBy}
 use Rattle.leaf_engine.specs.OwnLists.{TurnsInPieces, WordLp, running, after_turn, EnteredTurn}
-use Rattle.leaf_table.specs.Ends.{Ends, call_answer, call_ends}
-use Rattle.leaf_dispatch.specs.Answers.{beside_by, guest_by, cached_by, act_of}
+use Rattle.leaf_table.specs.Ends.{Ends, call_answer, call_ends, step_ends}
+use Rattle.guest_turns.specs.Turns.{act_of, kept_after}
+use Rattle.leaf_dispatch.specs.Answers.{beside_by, guest_by, cached_by}
 use Rattle.leaf_dispatch.specs.Bounds.{stage_left, events_left}
-use Rattle.leaf_dispatch.specs.Guests.{guest_seen, IsLow}
+use Rattle.leaf_dispatch.specs.Guests.{guest_seen, IsLow, next_in}
 use Rattle.leaf_dispatch.specs.Inside.{unless_gives, entered_or, IsGuestKept, KeepsGuest}
 use Rattle.leaf_dispatch.specs.NoteRooms.{least, call_room, lines_room, stage_room, run_room, room_of, room_left}
-use Rattle.leaf_dispatch.specs.Running.{run_seen, kept_after, IsAnsweredBy, standing_of, LeafTurned}
+use Rattle.leaf_dispatch.specs.Running.{run_seen, IsAnsweredBy, standing_of, RunTurned}
 use Rattle.leaf_table.specs.Given.{Given}
 use Rattle.leaf_table.specs.Table.{code_in, task_of, place_table}
+use Rattle.leaf_dispatch.specs.StepRuns.{seen_by, step_run_seen, IsOneOf, IsStepRunOf}
+use Rattle.leaf_dispatch.specs.declared.step_runs.StepRun.{StepRun}
+use Rattle.guest_turns.specs.declared.runs.SharedRun.{SharedRun}
 use Rattle.leaf_dispatch.specs.declared.guests.GuestAt.{GuestAt}
 use Rattle.leaf_dispatch.specs.declared.running.Running.{Running}
-use Rattle.leaf_dispatch.specs.declared.running.LeafTurn.{LeafTurn}
+use Rattle.guest_turns.specs.declared.runs.LeafTurn.{LeafTurn}
 use Rattle.leaf_dispatch.proofs.Lowering.{Gives}
 use Rattle.leaf_dispatch.proofs.Turning.{line-gives, line-moves, LineMoved, Moved, bound-before, none-begun, bound-after}
 use Rattle.leaf_dispatch.proofs.Fewer.{enters-fewer, releases-fewer}
@@ -84,9 +89,17 @@ pub gives-back : (b : Bool) (g : GuestAt) → unless_gives b g ≡ None → b �
 gives-back true g e = refl
 gives-back false g e = cc
 
-pub none-kept : (step : Option Running) → is_none step ≡ true → step ≡ None
-none-kept None e = refl
-none-kept (Some r) e = cc
+pub none-is : {A : Type 0} (x : Option A) → is_none x ≡ true → x ≡ None
+none-is None e = refl
+none-is (Some y) e = cc
+
+pub no-run : (m : Machine) (e : Ends) (k : StepRun) → step_run_seen k ≡ None → IsStepRunOf m e k
+no-run m e k none = by k.shared k.other none
+  where
+    by : (shared : Option SharedRun) (other : Option Running) → seen_by shared other ≡ None → IsOneOf m e shared other
+    by None None none = tt
+    by None (Some r) none = cc
+    by (Some r) other none = cc
 
 pub room-begun : (longest : ℕ) (cs : List Call) → room_of longest cs None None ≡ lines_room longest cs
 room-begun longest [] = refl
@@ -115,9 +128,9 @@ module _ (p : Place) (given : Given) (codes : List CodeSeen) (c : Call) (cs : Li
     besides-are : besides us ns ≡ beside_by (call_answer c) made result.act (besides ts ms)
     besides-are = (λ i. besides (cached i) (adds i)) ∙ sym (quiet c result.act made (besides ts ms))
 
-    module _ (run : Option Standing) (t : LeafTurned did p.machine ends (was run) bench kept result made) where
+    module _ (run : Option Standing) (t : RunTurned did p.machine ends (was run) bench kept result made) where
       gives : Gives ends (was run) t.stands result.event
-      gives = line-gives did bench p.machine ends (was run) kept result made t
+      gives = line-gives did bench p.machine ends (was run) result made t
 
       lower : stage_left (most_tries c) (guest_events c) t.stands.stage (length t.stands.held) < stage_left (most_tries c) (guest_events c) (was run).stage (length (was run).held)
       lower = gives.lower (guest_events c)
@@ -165,9 +178,9 @@ module _ (p : Place) (given : Given) (codes : List CodeSeen) (c : Call) (cs : Li
       -- and what is kept then
       pub outside-keeps : (ent : Option GuestAt) → option_map (λ (g : GuestAt). guest_seen g None) ent ≡ guest_by (call_answer c) result.act None
           → IfSome ent (λ g. (g.tdr < p.machine.pages) × (g.vp < p.machine.pages) × (code_in codes g.tdr g.index ≡ g.list.now) × IsLow g.walk) → result.reply ≡ None
-          → KeepsGuest p.machine codes us (length rs + 1) (entered_or ent None) kept None
-      outside-keeps None is inside none = refl
-      outside-keeps (Some g) is inside none =
+          → (step : StepRun) → is_none (step_run_seen step) ≡ true → KeepsGuest p.machine codes us (length rs + 1) (entered_or ent None) kept step
+      outside-keeps None is inside none step nothing = nothing
+      outside-keeps (Some g) is inside none step nothing =
           let e = enters result.act (guest_seen g None) refl is in
           let a = gives.act e.0 e.1 in
           keeps kept (t.seen ∙ ap (λ (z : Option Reply). kept_after z t.stands) none) (subst IsAnsweredBy (sym a.stage) tt) (record {
@@ -176,16 +189,16 @@ module _ (p : Place) (given : Given) (codes : List CodeSeen) (c : Call) (cs : Li
             list = inside.2;
             low = inside.3;
             ahead = subst (λ (n : ℕ). n ≤ g.position) (sym e.2.completed) (omega arith);
-            under_way = tt;
-            alone = λ z. refl;
+            under_way = no-run p.machine (step_ends g.tdr (length rs + 1) (next_in us g None)) step (none-is (step_run_seen step) nothing);
+            alone = λ z. nothing;
           })
         where
-          keeps : (k : Option Running) → run_seen k ≡ Some t.stands → IsAnsweredBy t.stands.stage → IsGuestKept p.machine codes us (length rs + 1) g None → KeepsGuest p.machine codes us (length rs + 1) (Some g) k None
+          keeps : (k : Option Running) → run_seen k ≡ Some t.stands → IsAnsweredBy t.stands.stage → IsGuestKept p.machine codes us (length rs + 1) g step → KeepsGuest p.machine codes us (length rs + 1) (Some g) k step
           keeps None seen answered is = cc
           keeps (Some r) seen answered is = (let same : t.stands ≡ standing_of r = cc in (subst (λ (s : Standing). IsAnsweredBy s.stage) same answered, is))
 
     -- in a guest, while its VP.ENTER gives E back
-    module _ (r : Running) (x : WordGuest) (answered : IsAnsweredBy r.run.stage) (t : LeafTurned did p.machine ends (standing_of r) bench kept result made) where
+    module _ (r : Running) (x : WordGuest) (answered : IsAnsweredBy r.run.stage) (t : RunTurned did p.machine ends (standing_of r) bench kept result made) where
       pub acts-once : result.act ≡ None
       acts-once = by result.act refl
         where
@@ -224,7 +237,7 @@ module _ (p : Place) (given : Given) (codes : List CodeSeen) (c : Call) (cs : Li
       inside-room longest (Some z) = rw (room-begun longest cs) (omega arith)
       inside-room longest None = omega arith
 
-      pub inside-keeps : (g : GuestAt) (step : Option Running) → IsGuestKept p.machine codes ts (length rs + 1) g step → result.reply ≡ None → KeepsGuest p.machine codes us (length rs + 1) (Some g) kept step
+      pub inside-keeps : (g : GuestAt) (step : StepRun) → IsGuestKept p.machine codes ts (length rs + 1) g step → result.reply ≡ None → KeepsGuest p.machine codes us (length rs + 1) (Some g) kept step
       inside-keeps g step is none =
           keeps kept (t.seen ∙ ap (λ (z : Option Reply). kept_after z t.stands) none) still (subst (λ (ys : List Translation). IsGuestKept p.machine codes ys (length rs + 1) g step) (sym inside-cached) is)
         where

@@ -25,7 +25,8 @@ use Rattle.leaf_engine.specs.Guests.{WordGuest, is_epoch_name, guest_after, gues
 use Rattle.leaf_engine.specs.Items.{IsLoadAt, IsLoaded}
 use Rattle.leaf_engine.specs.Turns.{Standing, standing, grants, tried, busy, last_reply, Comes, TurnBy}
 use Rattle.leaf_table.specs.Ends.{Ends, with_bundles, AreMade, EndsBy, EndsAs, BeginsUnderOther}
-use Rattle.leaf_dispatch.specs.Answers.{FewTries, is_busy, FitsStage, OldestIsOther, act_of, beside_by, guest_by}
+use Rattle.guest_turns.specs.Turns.{act_of}
+use Rattle.leaf_dispatch.specs.Answers.{FewTries, is_busy, FitsStage, OldestIsOther, beside_by, guest_by}
 use Rattle.leaf_dispatch.specs.Bounds.{stage_left, stage_used}
 use Rattle.leaf_table.proofs.Ending.{ends-fed}
 

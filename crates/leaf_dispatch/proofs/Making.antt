@@ -17,15 +17,15 @@ use Rattle.leaf_engine.specs.Means.{Task}
 use Rattle.leaf_engine.specs.Turns.{Standing}
 use Rattle.leaf_engine.specs.OwnLists.{running}
 use Rattle.leaf_table.specs.Ends.{Ends, AreMade, call_makes, call_ends}
-use Rattle.leaf_dispatch.specs.Answers.{act_of}
+use Rattle.guest_turns.specs.Turns.{act_of, kept_after}
 use Rattle.leaf_dispatch.specs.Inside.{line_then}
 use Rattle.leaf_dispatch.specs.NoteRooms.{stage_room, run_room}
 use Rattle.leaf_dispatch.specs.BundleRooms.{count_of, words_of, lines_make, still_make, payload_words}
-use Rattle.leaf_dispatch.specs.Running.{standing_of, run_seen, kept_after, made_in_run, IsKept, HasTurned, LeafTurned, IsAnsweredBy, IsAnswered}
+use Rattle.leaf_dispatch.specs.Running.{standing_of, run_seen, made_in_run, IsKept, HasTurned, RunTurned, IsAnsweredBy, IsAnswered}
 use Rattle.leaf_table.specs.Given.{Given}
 use Rattle.leaf_table.specs.Table.{task_of}
 use Rattle.leaf_dispatch.specs.declared.running.Running.{Running}
-use Rattle.leaf_dispatch.specs.declared.running.LeafTurn.{LeafTurn}
+use Rattle.guest_turns.specs.declared.runs.LeafTurn.{LeafTurn}
 use Rattle.leaf_dispatch.proofs.Lowering.{Gives, turn-gives}
 use Rattle.leaf_dispatch.proofs.Turning.{line-gives}
 
@@ -112,10 +112,10 @@ module _ (size : Option ℕ → ℕ) (of : List Made → ℕ) (counts : Counts s
 
   -- of the present line's run
   module _ {B : Type 0} (did : List Taken → B → Type 0) (bench : B) (given : Given) (p : Place) (c : Call) (cs lines : List Call) (run kept : Option Running) (result : LeafTurn) (made : List Made) (is : lines ≡ c ∷ cs)
-      (t : LeafTurned did p.machine (call_ends p.machine c) (running (task_of given p c) (run_seen run)) bench kept result made) where
+      (t : RunTurned did p.machine (call_ends p.machine c) (running (task_of given p c) (run_seen run)) bench kept result made) where
     room-used : of made + stage_room (size (call_makes c)) t.stands.stage ≤ run_room (size (call_makes c)) (run_seen run)
     room-used =
-        let room = made-room (call_ends p.machine c) (running (task_of given p c) (run_seen run)) t.stands result.event (line-gives did bench p.machine (call_ends p.machine c) (running (task_of given p c) (run_seen run)) kept result made t) in
+        let room = made-room (call_ends p.machine c) (running (task_of given p c) (run_seen run)) t.stands result.event (line-gives did bench p.machine (call_ends p.machine c) (running (task_of given p c) (run_seen run)) result made t) in
         let same : of made ≡ of (bundles_made result.event t.stands.rest) = ap of t.made_is in
         let before = room-before (size (call_makes c)) (task_of given p c) (run_seen run) in
         omega (arith, room, same, before)

@@ -17,41 +17,40 @@ use Rattle.leaf_engine.specs.Turns.{Standing}
 use Rattle.leaf_table.specs.Ends.{Ends, step_fits, step_tries, step_ends}
 use Rattle.leaf_dispatch.specs.Answers.{FitsStage}
 use Rattle.leaf_dispatch.specs.Guests.{IsNumber, IsExit, IsReplyOf}
-use Rattle.leaf_dispatch.specs.Running.{run_seen, LeafTurned}
+use Rattle.leaf_dispatch.specs.Running.{LeafTurned}
 use Rattle.leaf_table.specs.Given.{Given}
 use Rattle.leaf_table.specs.Table.{step_task}
-use Rattle.leaf_dispatch.specs.declared.running.Running.{Running}
-use Rattle.leaf_dispatch.specs.declared.running.LeafTurn.{LeafTurn}
+use Rattle.guest_turns.specs.declared.runs.LeafTurn.{LeafTurn}
 use Rattle.leaf_dispatch.proofs.Turning.{line-gives}
 use Rattle.leaf_dispatch.proofs.Fewer.{answered-by, outcome-of}
 
-module _ {B : Type 0} (did : List Taken → B → Type 0) (bench : B) (m : Machine) (kept : Option Running) (result : LeafTurn) (made : List Made) where
-  pub act-fits : (e : Ends) (s : Standing) → LeafTurned did m e s bench kept result made → (act : Option Reply) → result.act ≡ act → IfSome act (λ r. e.fits r ≡ true)
+number-of : (access : Access) (gpa level page : ℕ) (r : Reply) → step_fits (Loads access gpa level page) r ≡ true → IsNumber r
+number-of access gpa level page (Done (value.Number x)) h = tt
+number-of access gpa level page _ h = cc
+
+exit-of : (out : Outcome) (r : Reply) → step_fits (Leaves out) r ≡ true → IsExit r
+exit-of out (Exited x) h = tt
+exit-of out _ h = cc
+
+module _ {B : Type 0} (did : List Taken → B → Type 0) (bench : B) (m : Machine) {kept : Option Standing} {Keeps : Type 0} (result : LeafTurn) (made : List Made) where
+  pub act-fits : (e : Ends) (s : Standing) → LeafTurned did m e s bench kept Keeps result made → (act : Option Reply) → result.act ≡ act → IfSome act (λ r. e.fits r ≡ true)
   act-fits e s t None is = tt
-  act-fits e s t (Some r) is = ((line-gives did bench m e s kept result made t).act r (sym t.act_is ∙ is)).fits
-
-  number-of : (access : Access) (gpa level page : ℕ) (r : Reply) → step_fits (Loads access gpa level page) r ≡ true → IsNumber r
-  number-of access gpa level page (Done (value.Number x)) h = tt
-  number-of access gpa level page _ h = cc
-
-  exit-of : (out : Outcome) (r : Reply) → step_fits (Leaves out) r ≡ true → IsExit r
-  exit-of out (Exited x) h = tt
-  exit-of out _ h = cc
+  act-fits e s t (Some r) is = ((line-gives did bench m e s result made t).act r (sym t.act_is ∙ is)).fits
 
   -- a run of a single event has that event's reply
-  at-once : (t n : ℕ) (s : Step) (run : Standing) (r : Reply) → LeafTurned did m (step_ends t n s) run bench kept result made → step_tries s ≡ 0 → run.stage ≡ stages.Trying → result.reply ≡ Some r → step_fits s r ≡ true
+  at-once : (t n : ℕ) (s : Step) (run : Standing) (r : Reply) → LeafTurned did m (step_ends t n s) run bench kept Keeps result made → step_tries s ≡ 0 → run.stage ≡ stages.Trying → result.reply ≡ Some r → step_fits s r ≡ true
   at-once t n s run r turned none on is =
-      let gives = line-gives did bench m (step_ends t n s) run kept result made turned in
+      let gives = line-gives did bench m (step_ends t n s) run result made turned in
       let x = gives.once none on in
       subst (λ (z : Reply). step_fits s z ≡ true) (some-same (sym x.2 ∙ (sym turned.turned.2.reply ∙ is))) (gives.act x.0 x.1).fits
     where
       some-same : {a b : Reply} → Some a ≡ Some b → a ≡ b
       some-same e = cc
 
-  pub reply-fits : (t n : ℕ) (s : Step) (run : Standing) → LeafTurned did m (step_ends t n s) run bench kept result made → (step_tries s ≡ 0 → run.stage ≡ stages.Trying) → (reply : Option Reply) → result.reply ≡ reply → IfSome reply (λ r. IsReplyOf s r)
+  pub reply-fits : (t n : ℕ) (s : Step) (run : Standing) → LeafTurned did m (step_ends t n s) run bench kept Keeps result made → (step_tries s ≡ 0 → run.stage ≡ stages.Trying) → (reply : Option Reply) → result.reply ≡ reply → IfSome reply (λ r. IsReplyOf s r)
   reply-fits t n s run turned first None is = tt
   reply-fits t n (Operates o) run turned first (Some r) is =
-      let gives = line-gives did bench m (step_ends t n (Operates o)) run kept result made turned in
+      let gives = line-gives did bench m (step_ends t n (Operates o)) run result made turned in
       let on = answered-by turned.stands.stage turned.stands.held r (sym turned.turned.2.reply ∙ is) in
       outcome-of o r (subst (λ (x : Stage). FitsStage (step_ends t n (Operates o)) x) on gives.fits)
   reply-fits t n (Accesses access r gpa page) run turned first (Some x) is = tt
@@ -59,5 +58,5 @@ module _ {B : Type 0} (did : List Taken → B → Type 0) (bench : B) (m : Machi
   reply-fits t n (Leaves out) run turned first (Some r) is = exit-of out r (at-once t n (Leaves out) run r turned refl (first refl) is)
 
 -- a run that hasn't begun is on its way
-pub first-trying : (given : Given) (p : Place) (t v n : ℕ) (s : Step) (kept : Option Running) → (step_tries s ≡ 0 → kept ≡ None) → step_tries s ≡ 0 → (running (step_task given p t v n s) (run_seen kept)).stage ≡ stages.Trying
-first-trying given p t v n s kept h none = ap (λ (k : Option Running). (running (step_task given p t v n s) (run_seen k)).stage) (h none)
+pub first-trying : (given : Given) (p : Place) (t v n : ℕ) (s : Step) (kept : Option Standing) → (step_tries s ≡ 0 → kept ≡ None) → step_tries s ≡ 0 → (running (step_task given p t v n s) kept).stage ≡ stages.Trying
+first-trying given p t v n s kept h none = ap (λ (k : Option Standing). (running (step_task given p t v n s) k).stage) (h none)

@@ -14,7 +14,8 @@ use Rattle.leaf_engine.specs.declared.events.Stage.TheVariants as stages
 use Rattle.leaf_engine.specs.Turns.{Standing}
 use Rattle.leaf_engine.specs.Guests.{WordGuest, Step, Operates, Accesses, Loads, passed_on, exited_with, operated}
 use Rattle.leaf_table.specs.Ends.{Ends, step_answer}
-use Rattle.leaf_dispatch.specs.Answers.{act_of, notes_by, tells_by}
+use Rattle.guest_turns.specs.Turns.{act_of}
+use Rattle.leaf_dispatch.specs.Answers.{notes_by, tells_by}
 use Rattle.leaf_dispatch.specs.Guests.{is_outcome}
 use Rattle.leaf_dispatch.specs.Bounds.{unless_leaving}
 use Rattle.leaf_dispatch.specs.NoteRooms.{least, stage_made, run_made, guest_room}

@@ -1,5 +1,5 @@
 -- An event of a logical processor with its calls and its guest, as it keeps them.
-use Rattle.std.proofs.Common.{◌≡◌, ◌∙◌, ℕ, ◌+◌, ◌<◌, ◌≤◌, false, List, [], ◌∷◌, ◌++◌, length, Option, Some, None, option_map, IfSome, refl, ap, sym, subst, arith}
+use Rattle.std.proofs.Common.{◌≡◌, ◌∙◌, ℕ, ◌+◌, ◌<◌, ◌≤◌, true, false, List, [], ◌∷◌, ◌++◌, length, Option, Some, None, option_map, is_none, IfSome, refl, ap, sym, subst, arith}
 use Rattle.td_words.specs.Seen.{CodeSeen}
 use Rattle.td_words.specs.declared.calls.Call.{Call}
 use Rattle.td_words.specs.declared.replies.Reply.{Reply}
@@ -13,19 +13,22 @@ use Rattle.leaf_engine.specs.Merges.{IsStepOf}
 use Rattle.leaf_engine.specs.Turns.{Standing}
 use Rattle.leaf_engine.specs.OwnLists.{TurnsInPieces, WordLp, running, after_turn}
 use Rattle.leaf_table.specs.Ends.{call_answer, call_ends, step_answer, step_ends}
+use Rattle.guest_turns.specs.Turns.{kept_after}
 use Rattle.leaf_dispatch.specs.Answers.{guest_by, cached_by, notes_by, tells_by}
 use Rattle.leaf_dispatch.specs.Guests.{guest_seen, next_in, IsLow, CanCount, IsNextGuest}
 use Rattle.leaf_dispatch.specs.Inside.{guest_in, acting, entered_or, line_then, KeepsGuest}
 use Rattle.leaf_dispatch.specs.NoteRooms.{longest_in, room_of}
-use Rattle.leaf_dispatch.specs.Running.{standing_of, run_seen, kept_after, IsAnswered, LeafTurned}
+use Rattle.leaf_dispatch.specs.Running.{standing_of, run_seen, IsAnswered, RunTurned}
 use Rattle.leaf_table.specs.Given.{Given}
 use Rattle.leaf_table.specs.Table.{code_in, task_of, step_task}
+use Rattle.leaf_dispatch.specs.StepRuns.{step_run_seen, StepTurned}
+use Rattle.leaf_dispatch.specs.declared.step_runs.StepRun.{StepRun}
 use Rattle.leaf_dispatch.specs.declared.guests.GuestAt.{GuestAt}
 use Rattle.leaf_dispatch.specs.declared.running.Running.{Running}
-use Rattle.leaf_dispatch.specs.declared.running.LeafTurn.{LeafTurn}
+use Rattle.guest_turns.specs.declared.runs.LeafTurn.{LeafTurn}
 use Rattle.leaf_dispatch.proofs.Turning.{Moved}
-use Rattle.leaf_dispatch.proofs.LineEvents.{gives-back, none-kept, outside-moves, outside-room, outside-keeps, acts-once, inside-moves, inside-room, inside-keeps}
-use Rattle.leaf_dispatch.proofs.GuestEvents.{MakesNone, Acts, acts-in, guest-moved, guest-fits, guest-keeps, kept-of}
+use Rattle.leaf_dispatch.proofs.LineEvents.{none-is, gives-back, outside-moves, outside-room, outside-keeps, acts-once, inside-moves, inside-room, inside-keeps}
+use Rattle.leaf_dispatch.proofs.GuestEvents.{guest-alone, MakesNone, Acts, acts-in, guest-moved, guest-fits, guest-keeps, kept-of}
 
 module _ (p : Place) (given : Given) (codes : List CodeSeen) (c : Call) (cs : List Call) (ts us : List Translation) (rs : List Reply) (notes : List Note) (told : List ℕ) (ms ns : List Made) where
   -- where it is, by the parts that an event changes
@@ -34,17 +37,17 @@ module _ (p : Place) (given : Given) (codes : List CodeSeen) (c : Call) (cs : Li
 
   module _ {B : Type 0} (did : List Taken → B → Type 0) (bench : B) (kept : Option Running) (result : LeafTurn) (made : List Made) where
     -- of a line that goes on, and of one that has its reply: the event, what is kept of the guest, and the room
-    pub record GoesOn (then-guest : Option GuestAt) (lines : List Call) (guest : Option GuestAt) (run step : Option Running) : Type 0 where
+    pub record GoesOn (then-guest : Option GuestAt) (lines : List Call) (guest : Option GuestAt) (run : Option Running) (step : StepRun) : Type 0 where
       pub moved : Moved given (code_in codes) did bench p (at lines (run_seen run) (guest_in guest step) rs ts ms) (at lines (run_seen kept) (guest_in then-guest step) rs us ns) result.event
       pub keeps : KeepsGuest p.machine codes us (length rs + 1) then-guest kept step
       pub room : (longest : ℕ) → room_of longest lines (run_seen kept) (guest_in then-guest step) ≤ room_of longest lines (run_seen run) (guest_in guest step)
 
-    pub record HasEnded (replies : List Reply) (lines : List Call) (guest : Option GuestAt) (run step : Option Running) : Type 0 where
+    pub record HasEnded (replies : List Reply) (lines : List Call) (guest : Option GuestAt) (run : Option Running) (step : StepRun) : Type 0 where
       pub moved : Moved given (code_in codes) did bench p (at lines (run_seen run) (guest_in guest step) rs ts ms) (at cs (run_seen kept) None replies us ns) result.event
       pub room : (longest : ℕ) → room_of longest cs (run_seen kept) None ≤ room_of longest lines (run_seen run) (guest_in guest step)
 
-    module _ (law : TurnsInPieces) (ent : Option GuestAt) (lines : List Call) (guest : Option GuestAt) (run step : Option Running) (is : lines ≡ c ∷ cs)
-        (own : acting guest run ≡ None) (keeps : KeepsGuest p.machine codes ts (length rs + 1) guest run step) (t : LeafTurned did p.machine (call_ends p.machine c) (running (task_of given p c) (run_seen run)) bench kept result made) (cached : us ≡ cached_by (call_answer c) result.act ts) (adds : ns ≡ added ms made)
+    module _ (law : TurnsInPieces) (ent : Option GuestAt) (lines : List Call) (guest : Option GuestAt) (run : Option Running) (step : StepRun) (is : lines ≡ c ∷ cs)
+        (own : acting guest run ≡ None) (keeps : KeepsGuest p.machine codes ts (length rs + 1) guest run step) (t : RunTurned did p.machine (call_ends p.machine c) (running (task_of given p c) (run_seen run)) bench kept result made) (cached : us ≡ cached_by (call_answer c) result.act ts) (adds : ns ≡ added ms made)
         (entered : option_map (λ (g : GuestAt). guest_seen g None) ent ≡ guest_by (call_answer c) result.act None)
         (inside : IfSome ent (λ g. (g.tdr < p.machine.pages) × (g.vp < p.machine.pages) × (code_in codes g.tdr g.index ≡ g.list.now) × IsLow g.walk)) where
       -- a line that goes on
@@ -57,31 +60,31 @@ module _ (p : Place) (given : Given) (codes : List CodeSeen) (c : Call) (cs : Li
               ap (after_turn c cs g rs (record { cached = us; notes = notes; told = told; bundles = ns }) t) none
               ∙ ap (λ (run : Option Standing). at (c ∷ cs) run g rs us ns) (sym (seen ∙ ap (λ (z : Option Reply). kept_after z t) none))
 
-          outside : (run : Option Running) → (t : LeafTurned did p.machine (call_ends p.machine c) (running (task_of given p c) (run_seen run)) bench kept result made) → GoesOn (entered_or ent None) (c ∷ cs) None run None
-          outside run t =
-              let seen : guest_in (entered_or ent None) None ≡ option_map (λ (g : GuestAt). guest_seen g None) ent = alone ent in
-              let same = then-is t.stands t.seen (guest_in (entered_or ent None) None) in
+          outside : (run : Option Running) (step : StepRun) → is_none (step_run_seen step) ≡ true → (t : RunTurned did p.machine (call_ends p.machine c) (running (task_of given p c) (run_seen run)) bench kept result made) → GoesOn (entered_or ent None) (c ∷ cs) None run step
+          outside run step nothing t =
+              let seen : guest_in (entered_or ent None) step ≡ option_map (λ (g : GuestAt). guest_seen g None) ent = guest-alone (entered_or ent None) step (none-is (step_run_seen step) nothing) ∙ nobody-else ent in
+              let same = then-is t.stands t.seen (guest_in (entered_or ent None) step) in
               record {
                 moved = subst (λ (q : WordLp). Moved given (code_in codes) did bench p (at (c ∷ cs) (run_seen run) None rs ts ms) q result.event) same
-                    (outside-moves p given codes c cs ts us rs notes told ms ns did bench kept result made cached adds (run_seen run) t law (guest_in (entered_or ent None) None) (seen ∙ entered));
-                keeps = outside-keeps p given codes c cs ts us rs notes told ms ns did bench kept result made cached adds (run_seen run) t ent entered inside none;
+                    (outside-moves p given codes c cs ts us rs notes told ms ns did bench kept result made cached adds (run_seen run) t law (guest_in (entered_or ent None) step) (seen ∙ entered));
+                keeps = outside-keeps p given codes c cs ts us rs notes told ms ns did bench kept result made cached adds (run_seen run) t ent entered inside none step nothing;
                 room = λ longest. subst (λ (q : WordLp). room_of longest q.lines q.run q.guest ≤ room_of longest (c ∷ cs) (run_seen run) None) same
-                    (outside-room p given codes c cs ts us rs notes told ms ns did bench kept result made cached adds (run_seen run) t longest (guest_in (entered_or ent None) None) (seen ∙ entered) result.reply);
+                    (outside-room p given codes c cs ts us rs notes told ms ns did bench kept result made cached adds (run_seen run) t longest (guest_in (entered_or ent None) step) (seen ∙ entered) result.reply);
               }
             where
-              alone : (ent : Option GuestAt) → guest_in (entered_or ent None) None ≡ option_map (λ (g : GuestAt). guest_seen g None) ent
-              alone None = refl
-              alone (Some g) = refl
+              nobody-else : (ent : Option GuestAt) → option_map (λ (g : GuestAt). guest_seen g None) (entered_or ent None) ≡ option_map (λ (g : GuestAt). guest_seen g None) ent
+              nobody-else None = refl
+              nobody-else (Some g) = refl
 
           nobody : (ent : Option GuestAt) → option_map (λ (g : GuestAt). guest_seen g None) ent ≡ None → ent ≡ None
           nobody None e = refl
           nobody (Some g) e = cc
 
-          by : (guest : Option GuestAt) (run step : Option Running) → acting guest run ≡ None → KeepsGuest p.machine codes ts (length rs + 1) guest run step → LeafTurned did p.machine (call_ends p.machine c) (running (task_of given p c) (run_seen run)) bench kept result made → GoesOn (entered_or ent guest) (c ∷ cs) guest run step
-          by None run step own keeps t = subst (λ (s : Option Running). GoesOn (entered_or ent None) (c ∷ cs) None run s) (sym (none-kept step keeps)) (outside run t)
+          by : (guest : Option GuestAt) (run : Option Running) (step : StepRun) → acting guest run ≡ None → KeepsGuest p.machine codes ts (length rs + 1) guest run step → RunTurned did p.machine (call_ends p.machine c) (running (task_of given p c) (run_seen run)) bench kept result made → GoesOn (entered_or ent guest) (c ∷ cs) guest run step
+          by None run step own keeps t = outside run step keeps t
           by (Some g) None step own keeps t = absurd keeps
           by (Some g) (Some r) step own keeps t =
-              let x : WordGuest = guest_seen g (run_seen step) in
+              let x : WordGuest = guest_seen g (step_run_seen step) in
               let acts = acts-once p given codes c cs ts us rs notes told ms ns did bench kept result made cached adds r x keeps.0 t in
               let no : ent ≡ None = nobody ent (entered ∙ ap (λ (a : Option Reply). guest_by (call_answer c) a None) acts) in
               let same = then-is t.stands t.seen (Some x) in
@@ -108,8 +111,8 @@ module _ (p : Place) (given : Given) (codes : List CodeSeen) (c : Call) (cs : Li
               ap (after_turn c cs g rs (record { cached = us; notes = notes; told = told; bundles = ns }) t) some
               ∙ ap (λ (run : Option Standing). at cs run None (rs ++ z ∷ []) us ns) (sym (seen ∙ ap (λ (z : Option Reply). kept_after z t) some))
 
-          outside : (run : Option Running) → (t : LeafTurned did p.machine (call_ends p.machine c) (running (task_of given p c) (run_seen run)) bench kept result made) → HasEnded (rs ++ z ∷ []) (c ∷ cs) None run None
-          outside run t =
+          outside : (run : Option Running) (step : StepRun) → is_none (step_run_seen step) ≡ true → (t : RunTurned did p.machine (call_ends p.machine c) (running (task_of given p c) (run_seen run)) bench kept result made) → HasEnded (rs ++ z ∷ []) (c ∷ cs) None run step
+          outside run step nothing t =
               let G = guest_by (call_answer c) result.act None in
               let same = then-is t.stands t.seen G in
               record {
@@ -119,11 +122,11 @@ module _ (p : Place) (given : Given) (codes : List CodeSeen) (c : Call) (cs : Li
                     (outside-room p given codes c cs ts us rs notes told ms ns did bench kept result made cached adds (run_seen run) t longest G refl result.reply);
               }
 
-          by : (guest : Option GuestAt) (run step : Option Running) → acting guest run ≡ None → KeepsGuest p.machine codes ts (length rs + 1) guest run step → LeafTurned did p.machine (call_ends p.machine c) (running (task_of given p c) (run_seen run)) bench kept result made → HasEnded (rs ++ z ∷ []) (c ∷ cs) guest run step
-          by None run step own keeps t = subst (λ (s : Option Running). HasEnded (rs ++ z ∷ []) (c ∷ cs) None run s) (sym (none-kept step keeps)) (outside run t)
+          by : (guest : Option GuestAt) (run : Option Running) (step : StepRun) → acting guest run ≡ None → KeepsGuest p.machine codes ts (length rs + 1) guest run step → RunTurned did p.machine (call_ends p.machine c) (running (task_of given p c) (run_seen run)) bench kept result made → HasEnded (rs ++ z ∷ []) (c ∷ cs) guest run step
+          by None run step own keeps t = outside run step keeps t
           by (Some g) None step own keeps t = absurd keeps
           by (Some g) (Some r) step own keeps t =
-              let x : WordGuest = guest_seen g (run_seen step) in
+              let x : WordGuest = guest_seen g (step_run_seen step) in
               let same = then-is t.stands t.seen (Some x) in
               record {
                 moved = subst (λ (q : WordLp). Moved given (code_in codes) did bench p (at (c ∷ cs) (Some (standing_of r)) (Some x) rs ts ms) q result.event) same
@@ -141,13 +144,13 @@ module _ (p : Place) (given : Given) (codes : List CodeSeen) (rs : List Reply) (
   abbrev pub inside : List Call → Option Standing → Option WordGuest → List Translation → List Note → List ℕ → WordLp
   inside lines run g xs ns words = record { lines = lines; run = run; guest = g; replies = rs; beside = record { cached = xs; notes = ns; told = words; bundles = ms } }
 
-  module _ {B : Type 0} (did : List Taken → B → Type 0) (bench : B) (kept : Option Running) (result : LeafTurn) (us : List Translation) (s : Step) (g : GuestAt) (h : Option GuestAt) (step : Option Running) where
+  module _ {B : Type 0} (did : List Taken → B → Type 0) (bench : B) (kept : StepRun) (result : LeafTurn) (us : List Translation) (s : Step) (g : GuestAt) (h : Option GuestAt) (step : StepRun) where
     -- the turn of its step at a line
     pub record StepsAt (line : ℕ) : Type 0 where
       pub counts : CanCount g s
       pub low : IsStepOf s
       pub is : next_in ts g None ≡ s
-      pub turned : LeafTurned did p.machine (step_ends g.tdr line s) (running (step_task given p g.tdr g.vp line s) (run_seen step)) bench kept result []
+      pub turned : StepTurned did p.machine (step_ends g.tdr line s) (running (step_task given p g.tdr g.vp line s) (step_run_seen step)) bench kept result
       pub cached : us ≡ cached_by (step_answer g.tdr line s) result.act ts
       pub next : IsNextGuest g s result.reply h
 

@@ -17,15 +17,16 @@ use Rattle.leaf_engine.specs.Guests.{WordGuest, Step, Operates, due_step, stayin
 use Rattle.leaf_engine.specs.Turns.{Standing}
 use Rattle.leaf_engine.specs.OwnLists.{Piece, taken_in, TurnsInPieces, WordLp, running, after_step, GuestTurn}
 use Rattle.leaf_table.specs.Ends.{Ends, step_answer, step_ends}
+use Rattle.guest_turns.specs.Turns.{turn_of}
 use Rattle.leaf_dispatch.specs.Answers.{beside_by}
 use Rattle.leaf_dispatch.specs.Bounds.{stage_used, run_used, step_used, unless_leaving, guest_left}
 use Rattle.leaf_dispatch.specs.Guests.{guest_seen, unless_left, next_in}
 use Rattle.leaf_table.specs.Given.{Given}
 use Rattle.leaf_table.specs.Table.{step_task, place_table}
-use Rattle.leaf_dispatch.specs.Running.{turn_of, LeafTurned}
+use Rattle.leaf_dispatch.specs.StepRuns.{StepTurned}
 use Rattle.leaf_dispatch.specs.declared.guests.GuestAt.{GuestAt}
-use Rattle.leaf_dispatch.specs.declared.running.Running.{Running}
-use Rattle.leaf_dispatch.specs.declared.running.LeafTurn.{LeafTurn}
+use Rattle.leaf_dispatch.specs.declared.step_runs.StepRun.{StepRun}
+use Rattle.guest_turns.specs.declared.runs.LeafTurn.{LeafTurn}
 use Rattle.leaf_dispatch.proofs.Lowering.{Gives, turn-gives}
 
 -- the step of a guest whose list is its virtual processor's
@@ -42,8 +43,8 @@ pub record GuestMoved {B : Type 0} (did : List Taken → B → Type 0) (bench : 
   pub did_them : did (taken_in pieces) bench
   pub turn : GuestTurn (place_table p given codes) p.machine c cs line g rs b result.event pieces q
 
-guest-moves-at : TurnsInPieces → {B : Type 0} (did : List Taken → B → Type 0) (bench : B) (p : Place) (given : Given) (codes : ℕ → ℕ → List GuestOp) (c : Call) (cs : List Call) (line : Standing) (g : WordGuest) (rs : List Reply) (b : Beside) (kept : Option Running) (q : WordLp) (result : LeafTurn)
-    → let s = step_of codes b.cached g in let e = step_ends g.tdr (length rs + 1) s in (t : LeafTurned did p.machine e (running (step_task given p g.tdr g.vp (length rs + 1) s) g.run) bench kept result [])
+guest-moves-at : TurnsInPieces → {B : Type 0} (did : List Taken → B → Type 0) (bench : B) (p : Place) (given : Given) (codes : ℕ → ℕ → List GuestOp) (c : Call) (cs : List Call) (line : Standing) (g : WordGuest) (rs : List Reply) (b : Beside) (kept : StepRun) (q : WordLp) (result : LeafTurn)
+    → let s = step_of codes b.cached g in let e = step_ends g.tdr (length rs + 1) s in (t : StepTurned did p.machine e (running (step_task given p g.tdr g.vp (length rs + 1) s) g.run) bench kept result)
     → q ≡ after_step c cs line g rs (beside_by e.answer [] result.act b) s t.stands result.reply → GuestMoved did bench p given codes c cs line g rs b q result
 guest-moves-at law did bench p given codes c cs line g rs b kept q result t after =
     let s : Step = step_of codes b.cached g in
@@ -67,12 +68,12 @@ guest-moves-at law did bench p given codes c cs line g rs b kept q result t afte
     }
 
 -- whatever its step is
-pub guest-moves : TurnsInPieces → {B : Type 0} (did : List Taken → B → Type 0) (bench : B) (p : Place) (given : Given) (codes : ℕ → ℕ → List GuestOp) (c : Call) (cs : List Call) (line : Standing) (g : WordGuest) (rs : List Reply) (b : Beside) (kept : Option Running) (q : WordLp) (result : LeafTurn)
-    (s : Step) → step_of codes b.cached g ≡ s → let e = step_ends g.tdr (length rs + 1) s in (t : LeafTurned did p.machine e (running (step_task given p g.tdr g.vp (length rs + 1) s) g.run) bench kept result [])
+pub guest-moves : TurnsInPieces → {B : Type 0} (did : List Taken → B → Type 0) (bench : B) (p : Place) (given : Given) (codes : ℕ → ℕ → List GuestOp) (c : Call) (cs : List Call) (line : Standing) (g : WordGuest) (rs : List Reply) (b : Beside) (kept : StepRun) (q : WordLp) (result : LeafTurn)
+    (s : Step) → step_of codes b.cached g ≡ s → let e = step_ends g.tdr (length rs + 1) s in (t : StepTurned did p.machine e (running (step_task given p g.tdr g.vp (length rs + 1) s) g.run) bench kept result)
     → q ≡ after_step c cs line g rs (beside_by e.answer [] result.act b) s t.stands result.reply → GuestMoved did bench p given codes c cs line g rs b q result
 guest-moves law did bench p given codes c cs line g rs b kept q result s is =
     subst
-    (λ (z : Step). let e = step_ends g.tdr (length rs + 1) z in (t : LeafTurned did p.machine e (running (step_task given p g.tdr g.vp (length rs + 1) z) g.run) bench kept result []) → q ≡ after_step c cs line g rs (beside_by e.answer [] result.act b) z t.stands result.reply
+    (λ (z : Step). let e = step_ends g.tdr (length rs + 1) z in (t : StepTurned did p.machine e (running (step_task given p g.tdr g.vp (length rs + 1) z) g.run) bench kept result) → q ≡ after_step c cs line g rs (beside_by e.answer [] result.act b) z t.stands result.reply
     → GuestMoved did bench p given codes c cs line g rs b q result)
     is
     (guest-moves-at law did bench p given codes c cs line g rs b kept q result)

@@ -5,8 +5,6 @@ use Rattle.td_words.specs.declared.replies.Reply.{Reply}
 use Rattle.td_words.specs.declared.replies.Reply.TheVariants.{Refused}
 use Rattle.flat_core.specs.World.{Made}
 use Rattle.flat_core.specs.Processor.{Translation, Note}
-use Rattle.leaf_engine.specs.declared.events.Event.{Event}
-use Rattle.leaf_engine.specs.declared.events.Event.TheVariants as event
 use Rattle.leaf_engine.specs.declared.events.HeldLock.{HeldLock}
 use Rattle.leaf_engine.specs.declared.events.Stage.{Stage}
 use Rattle.leaf_engine.specs.declared.events.Stage.TheVariants as stage
@@ -33,11 +31,6 @@ FitsStage e _ = Unit {0}
 abbrev pub OldestIsOther : List HeldLock → Standing → Type 0
 OldestIsOther [] s = s.stage ≡ stage.Trying → BeginsUnderOther s.rest
 OldestIsOther (h ∷ hs) s = is_epoch_name h.name ≡ false
-
--- the reply that came with a turn's act
-abbrev pub act_of : Event → Stage → Option Reply
-act_of event.Act (stage.Answered r) = Some r
-act_of _ _ = None
 
 -- the guest that it enters
 abbrev pub guest_by : (Reply → Answer) → Option Reply → Option WordGuest → Option WordGuest

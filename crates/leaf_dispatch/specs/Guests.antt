@@ -1,5 +1,5 @@
 -- What contracts see of the guest that a logical processor is in, and of its next step.
-use Rattle.std.specs.Prelude.{◌≡◌, ℕ, ◌<◌, ◌≤◌, Bool, true, Option, Some, None, option_map, List, [], ◌∷◌, slice_get, length}
+use Rattle.std.specs.Prelude.{◌≡◌, ℕ, ◌<◌, ◌≤◌, Bool, true, if◌then◌else◌, Option, Some, None, option_map, List, [], ◌∷◌, slice_get, length}
 use Rattle.td_words.specs.declared.replies.Outcome.{Outcome}
 use Rattle.td_words.specs.declared.replies.Reply.{Reply}
 use Rattle.td_words.specs.declared.replies.Reply.TheVariants.{Done, Refused, Exited}
@@ -74,6 +74,10 @@ IsReplyOf (Operates o) r = is_outcome r ≡ true
 IsReplyOf (Loads access gpa level page) r = IsNumber r
 IsReplyOf (Leaves out) r = IsExit r
 IsReplyOf _ r = Unit {0}
+
+-- the guest, unless it was left
+abbrev pub unless : Bool → GuestAt → Option GuestAt
+unless left g = if left then None else Some g
 
 -- what became of it
 abbrev pub IsStepped : GuestAt → Step → Reply → Option GuestAt → Type 0

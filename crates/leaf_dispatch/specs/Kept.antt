@@ -33,14 +33,14 @@ EndsBy-prop : (o : Option ℕ) (a b : Answer) → IsProp (EndsBy o a b)
 EndsBy-prop None a b = hlevel props
 EndsBy-prop (Some n) a b = hlevel (props, MakesOne-prop)
 
-EndsAs-prop : (e : Ends) (n : ℕ) (t : Tree) → IsProp (EndsAs e n t)
+pub EndsAs-prop : (e : Ends) (n : ℕ) (t : Tree) → IsProp (EndsAs e n t)
 EndsAs-prop e n (Lock l q m t) = hlevel (props, EndsAs-prop e (n - 1) t)
 EndsAs-prop e n (Load v q k) = hlevel (λ (x : ℕ). EndsAs-prop e n (k (look v x)))
 EndsAs-prop e n (Test b r t) = hlevel (props, EndsAs-prop e n t)
 EndsAs-prop e n (End a fs cs) = hlevel (props, EndsBy-prop)
 EndsAs-prop e n (Since a cs) = hlevel (props, EndsBy-prop)
 
-FitsStage-prop : (e : Ends) (s : Stage) → IsProp (FitsStage e s)
+pub FitsStage-prop : (e : Ends) (s : Stage) → IsProp (FitsStage e s)
 FitsStage-prop e stage.Trying = hlevel
 FitsStage-prop e (stage.Undoing name at) = hlevel
 FitsStage-prop e (stage.Answered reply) = hlevel props
@@ -52,7 +52,7 @@ BeginsUnderOther-prop (Test b r t) = BeginsUnderOther-prop t
 BeginsUnderOther-prop (End a fs cs) = hlevel props
 BeginsUnderOther-prop (Since a cs) = hlevel props
 
-OldestIsOther-prop : (hs : List HeldLock) (s : Standing) → IsProp (OldestIsOther hs s)
+pub OldestIsOther-prop : (hs : List HeldLock) (s : Standing) → IsProp (OldestIsOther hs s)
 OldestIsOther-prop [] s = hlevel (BeginsUnderOther-prop s.rest)
 OldestIsOther-prop (h ∷ hs) s = hlevel props
 

@@ -3,6 +3,7 @@ pub mod Bounds
 pub mod Held
 pub mod Running
 pub mod Kept
+pub mod StepRuns
 pub mod Guests
 pub mod Inside
 pub mod States

@@ -14,9 +14,10 @@ use Rattle.leaf_engine.specs.Turns.{Standing, standing, CanRun, Turned, has_ende
 use Rattle.leaf_table.specs.Leaves.{leaf_seen}
 use Rattle.leaf_table.specs.PageRooms.{is_spare, leaf_room}
 use Rattle.leaf_table.specs.Ends.{Ends, call_ends}
-use Rattle.leaf_dispatch.specs.Answers.{FewTries, FitsStage, OldestIsOther, act_of}
+use Rattle.leaf_dispatch.specs.Answers.{FewTries, FitsStage, OldestIsOther}
 use Rattle.leaf_dispatch.specs.declared.running.Running.{Running}
-use Rattle.leaf_dispatch.specs.declared.running.LeafTurn.{LeafTurn}
+use Rattle.guest_turns.specs.declared.runs.LeafTurn.{LeafTurn}
+use Rattle.guest_turns.specs.Turns.{turn_of, act_of, kept_after}
 
 -- how far it is
 abbrev pub standing_of : Running → Standing
@@ -60,15 +61,6 @@ HasTurned did m (Some r) bench (Some r') result =
     Turned did m (standing_of r) bench (standing_of r') result × ((leaf_seen r'.run.leaf).task ≡ (leaf_seen r.run.leaf).task) × CanRun m (standing_of r') (leaf_seen r'.run.leaf).tries (leaf_seen r'.run.leaf).written (leaf_seen r'.run.leaf).waits
 HasTurned did m _ bench _ result = ⊥
 
--- what is kept of a run after a turn: nothing where its reply has come
-abbrev pub kept_after : Option Reply → Standing → Option Standing
-kept_after None s = Some s
-kept_after (Some reply) s = None
-
--- a turn's event and its reply, without the reply of its act
-abbrev pub turn_of : LeafTurn → RunTurn
-turn_of t = record { event = t.event; reply = t.reply }
-
 abbrev pub act_in : Option Running → Event → Option Reply
 act_in None e = None
 act_in (Some r) e = act_of e r.run.stage
@@ -88,8 +80,8 @@ abbrev pub kept_until : Option Reply → Option Running → Option Running
 kept_until None kept = kept
 kept_until (Some reply) kept = None
 
--- the next turn of a leaf's run, which stood there, and the bundles that it made
-pub record LeafTurned {B : Type 0} (did : List Taken → B → Type 0) (m : Machine) (e : Ends) (s : Standing) (bench : B) (kept : Option Running) (result : LeafTurn) (made : List Made) : Type 0 where
+-- the next turn of a leaf's run, which stood there; what is kept of the run, and what is so of that; and the bundles that it made
+pub record LeafTurned {B : Type 0} (did : List Taken → B → Type 0) (m : Machine) (e : Ends) (s : Standing) (bench : B) (kept : Option Standing) (Keeps : Type 0) (result : LeafTurn) (made : List Made) : Type 0 where
   pub going : has_ended s.stage s.held ≡ false
   pub few_tries : FewTries e s
   pub fits : FitsStage e s.stage
@@ -98,8 +90,12 @@ pub record LeafTurned {B : Type 0} (did : List Taken → B → Type 0) (m : Mach
   pub turned : Turned did m s bench stands (turn_of result)
   pub act_is : result.act ≡ act_of result.event stands.stage
   pub made_is : made ≡ bundles_made result.event stands.rest
-  pub seen : run_seen kept ≡ kept_after result.reply stands
-  pub under_way : IsRunOf m e kept
+  pub seen : kept ≡ kept_after result.reply stands
+  pub under_way : Keeps
+
+-- the same of a run that is kept so
+abbrev pub RunTurned : {B : Type 0} → (List Taken → B → Type 0) → Machine → Ends → Standing → B → Option Running → LeafTurn → List Made → Type 0
+RunTurned did m e s bench kept result made = LeafTurned did m e s bench (run_seen kept) (IsRunOf m e kept) result made
 
 -- a run that was answered, and answers something else
 abbrev pub answered_with : Reply → Standing → Standing

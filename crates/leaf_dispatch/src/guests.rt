@@ -11,7 +11,7 @@ ghost use Rattle.leaf_engine.specs.Merges.{IsOperation, IsStepOf};
 ghost use Rattle.td_words.specs.declared.replies.Reply.TheVariants.{Refused};
 ghost use Rattle.leaf_dispatch.specs.Answers.{is_busy};
 ghost use Rattle.leaf_table.specs.Steps.{step_seen};
-ghost use Rattle.leaf_dispatch.specs.Guests.{guest_seen, due_in, next_in, IsLow, CanCount, is_outcome, IsNumber, IsReplyOf, IsStepped};
+ghost use Rattle.leaf_dispatch.specs.Guests.{guest_seen, due_in, next_in, IsLow, CanCount, is_outcome, IsNumber, IsReplyOf, unless, IsStepped};
 
 use leaf_table::Step;
 use td_words::{Access, GuestOp, Outcome, Reply, Status, Value};
@@ -140,41 +140,47 @@ fn next_private(guest: &GuestAt<'_>, cached: &Tlb, access: Access, register: u8,
     }
 }
 
-/// What becomes of the guest once a step has its reply; none where it was left.
-pub fn step_on<'a>(guest: GuestAt<'a>, step: Step, reply: Reply) -> Option<GuestAt<'a>>
-    requires counted { CanCount guest (step_seen step) }
+/// What becomes of the guest once a step has its reply, and whether it is left.
+pub fn step_on(guest: &mut GuestAt<'_>, step: Step, reply: Reply) -> bool
+    requires counted { CanCount guest.old (step_seen step) }
     requires fits { IsReplyOf (step_seen step) reply }
-    requires low { IsLow guest.walk }
+    requires low { IsLow guest.old.walk }
     requires level { IsStepOf (step_seen step) }
-    ensures stepped { IsStepped guest.entry (step_seen step) reply result }
-    ensures kept { IfSome result (λ g. IsLow g.walk × (g.list.now ≡ guest.entry.list.now)) }
+    ensures stepped { IsStepped guest.old (step_seen step) reply (unless result guest.new) }
+    ensures kept { IsLow guest.new.walk × (guest.new.list.now ≡ guest.old.list.now) }
 {
     match step {
-        Step::Operates(_) => Some(operate_on(guest, reply)),
-        Step::Accesses { .. } => Some(pass_on(guest)),
+        Step::Operates(_) => {
+            operate_on(guest, reply);
+            false
+        }
+        Step::Accesses { .. } => {
+            pass_on(guest);
+            false
+        }
         Step::Loads {
             access,
             gpa,
             level,
             ..
-        } => Some(walk_on(guest, access, gpa, level, reply)),
-        Step::Leaves(_) => None,
+        } => {
+            *guest = walk_on(*guest, access, gpa, level, reply);
+            false
+        }
+        Step::Leaves(_) => true,
     }
 }
 
 // An operation is completed.
-fn pass_on<'a>(guest: GuestAt<'a>) -> GuestAt<'a>
-    requires counted { (guest.completed < guest.most) × (guest.position < length guest.list.now) }
-    ensures seen { (run : Option Standing) → guest_seen result None ≡ passed_on (guest_seen guest.entry run) }
-    ensures walk { result.walk ≡ None }
-    ensures list { result.list.now ≡ guest.entry.list.now }
+fn pass_on(guest: &mut GuestAt<'_>)
+    requires counted { (guest.old.completed < guest.old.most) × (guest.old.position < length guest.old.list.now) }
+    ensures seen { (run : Option Standing) → guest_seen guest.new None ≡ passed_on (guest_seen guest.old run) }
+    ensures walk { guest.new.walk ≡ None }
+    ensures list { guest.new.list.now ≡ guest.old.list.now }
 {
-    GuestAt {
-        completed: guest.completed + 1,
-        position: guest.position + 1,
-        walk: None,
-        ..guest
-    }
+    guest.completed += 1;
+    guest.position += 1;
+    guest.walk = None;
 }
 
 // The guest is to be left.
@@ -191,17 +197,17 @@ fn leave_with<'a>(guest: GuestAt<'a>, outcome: Outcome) -> GuestAt<'a>
 }
 
 // What becomes of it by an operation's reply.
-fn operate_on<'a>(guest: GuestAt<'a>, reply: Reply) -> GuestAt<'a>
-    requires counted { (guest.completed < guest.most) × (guest.position < length guest.list.now) }
+fn operate_on(guest: &mut GuestAt<'_>, reply: Reply)
+    requires counted { (guest.old.completed < guest.old.most) × (guest.old.position < length guest.old.list.now) }
     requires outcome { is_outcome reply ≡ true }
-    ensures seen { (run : Option Standing) → guest_seen result None ≡ operated reply (guest_seen guest.entry run) }
-    ensures walk { result.walk ≡ None }
-    ensures list { result.list.now ≡ guest.entry.list.now }
+    ensures seen { (run : Option Standing) → guest_seen guest.new None ≡ operated reply (guest_seen guest.old run) }
+    ensures walk { guest.new.walk ≡ None }
+    ensures list { guest.new.list.now ≡ guest.old.list.now }
 {
     match reply {
         Reply::Done(_) => pass_on(guest),
-        Reply::Exited(outcome) => exit_on(guest, outcome),
-        Reply::Refused(status) => refuse_on(guest, status),
+        Reply::Exited(outcome) => *guest = exit_on(*guest, outcome),
+        Reply::Refused(status) => *guest = refuse_on(*guest, status),
     }
 }
 

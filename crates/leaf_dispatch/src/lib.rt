@@ -1,13 +1,13 @@
 //! Logical processors with their calls: their turns over words.
 //!
-//! Stands on `leaf_engine`, whose runs it makes turn by turn, and on `leaf_table`, which has the leaf
-//! of each call, by what the run is given: secret words, and the bundles that come in. A layer above
-//! may use that `LpState` is a `Processor`. From its calls on (`first` of `new`) each turn is the next
-//! event of its present call's leaf, or in a guest that of the guest's next step, told in pieces; the
-//! reply comes in with the call's last event. A turn takes no memory. What guests note and tell stands
-//! in `notes` and `told`, and the bundles that calls make in `bundles`; `guest`, `next_step` and `cached`
-//! tell of the guest that a processor is in. By `processors_follow` a turn is the flat machine's next
-//! event.
+//! Stands on `leaf_engine`, whose runs it makes turn by turn, on `guest_turns` for the steps of guests
+//! that need no run, and on `leaf_table`, which has the leaf of each call, by what the run is given:
+//! secret words, and the bundles that come in. A layer above may use that `LpState` is a `Processor`.
+//! From its calls on (`first` of `new`) each turn is the next event of its present call's leaf, or in a
+//! guest that of the guest's next step, told in pieces; the reply comes in with the call's last event. A
+//! turn takes no memory. What guests note and tell stands in `notes` and `told`, and the bundles that
+//! calls make in `bundles`; `guest`, `next_step` and `cached` tell of the guest that a processor is in. By
+//! `processors_follow` a turn is the flat machine's next event.
 #![tactic(auto)]
 
 mod answers;
@@ -17,6 +17,8 @@ mod laws;
 mod rooms;
 mod running;
 mod states;
+mod step_runs;
+mod step_turns;
 mod turns;
 
 pub use first_lists::FirstLists;

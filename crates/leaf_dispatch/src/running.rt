@@ -11,16 +11,17 @@ ghost use Rattle.leaf_table.specs.Steps.{step_seen};
 ghost use Rattle.leaf_table.specs.Given.{given_in};
 ghost use Rattle.leaf_table.specs.Table.{task_of, step_task};
 ghost use Rattle.leaf_table.specs.Ends.{Ends, call_makes, call_ends, step_ends};
-ghost use Rattle.leaf_dispatch.specs.Answers.{act_of};
+ghost use Rattle.guest_turns.specs.Turns.{turn_of, act_of};
 ghost use Rattle.leaf_dispatch.specs.NoteRooms.{run_room};
 ghost use Rattle.leaf_dispatch.specs.BundleRooms.{count_of, words_of, payload_words, HasAdded};
 ghost use Rattle.leaf_table.specs.PageRooms.{is_spare, leaf_room};
 ghost use Rattle.leaf_dispatch.specs.Held.{held_by};
-ghost use Rattle.leaf_dispatch.specs.Running.{standing_of, run_seen, answered_with, IsAnswered, turn_of, act_in, made_in_run, kept_until, holds_room, IsUnderWay, IsRunOf, IsKept, CanTurn, HasTurned, LeafTurned};
+ghost use Rattle.leaf_dispatch.specs.Running.{standing_of, run_seen, answered_with, IsAnswered, act_in, made_in_run, kept_until, holds_room, IsUnderWay, IsRunOf, IsKept, CanTurn, HasTurned, RunTurned};
 
 use crate::rooms::add_bundle;
 use bundles::Bundles;
 use export_pages::PageWords;
+use guest_turns::LeafTurn;
 use leaf_engine::{Event, HeldLock, Place, Run, RunTurn, Stage};
 use leaf_table::{AnyLeaf, Given, Step, leaf_of, step_leaf};
 use std::mem;
@@ -51,15 +52,6 @@ impl<'a> Drop for Running<'a> {
     }
 }
 
-/// A turn's event, the reply that its act comes to, where it is the act, and the reply at the last
-/// event.
-#[derive(Clone, Copy)]
-pub struct LeafTurn {
-    pub event: Event,
-    pub act: Option<Reply>,
-    pub reply: Option<Reply>,
-}
-
 /// The next turn of a call's run, which is kept until its reply comes, and begins where none is kept; the
 /// bundle that it makes is added, for which there is room. The room for a page's words is spare, or the run
 /// has it, which gives it back with its reply.
@@ -82,7 +74,7 @@ pub fn turn_call<'a, B: Bench>(
     requires room { run_room (count_of (call_makes call.now)) (run_seen kept.old) ≤ bundles.old.room }
     requires word_room { run_room (words_of (call_makes call.now)) (run_seen kept.old) ≤ bundles.old.word_room }
     requires page_room { holds_room spare.old kept.old ≡ true }
-    ensures turned { (made : List Made) × HasAdded bundles.old made bundles.new × LeafTurned (B.did bench.old) place.machine (call_ends place.machine call.now) (running (task_of (given_in given.entry) place call.now) (run_seen kept.old)) bench.new kept.new result made }
+    ensures turned { (made : List Made) × HasAdded bundles.old made bundles.new × RunTurned (B.did bench.old) place.machine (call_ends place.machine call.now) (running (task_of (given_in given.entry) place call.now) (run_seen kept.old)) bench.new kept.new result made }
     ensures page_room { holds_room spare.new kept.new ≡ true }
     ensures machine { B.machine bench.new ≡ B.machine bench.old }
 {
@@ -95,7 +87,7 @@ pub fn turn_call<'a, B: Bench>(
 /// The next turn of the run of a guest's step, which is kept until its reply comes, and begins where
 /// none is kept.
 #[inline(never)]
-pub fn turn_step<'a, B: Bench>(
+pub fn turn_step_run<'a, B: Bench>(
     kept: &mut Option<Running<'a>>,
     place: Place,
     given: Given<'a>,
@@ -110,7 +102,7 @@ pub fn turn_step<'a, B: Bench>(
     requires limits { IsStepOf (step_seen step) }
     requires at { place.machine ≡ B.machine bench.old }
     requires under_way { IsRunOf place.machine (step_ends tdr line (step_seen step)) kept.old }
-    ensures turned { LeafTurned (B.did bench.old) place.machine (step_ends tdr line (step_seen step)) (running (step_task (given_in given.entry) place tdr vp line (step_seen step)) (run_seen kept.old)) bench.new kept.new result [] }
+    ensures turned { RunTurned (B.did bench.old) place.machine (step_ends tdr line (step_seen step)) (running (step_task (given_in given.entry) place tdr vp line (step_seen step)) (run_seen kept.old)) bench.new kept.new result [] }
     ensures machine { B.machine bench.new ≡ B.machine bench.old }
 {
     begin_step_where_none(kept, place, given, tdr, vp, line, step);

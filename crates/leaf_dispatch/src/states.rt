@@ -12,8 +12,9 @@ ghost use Rattle.leaf_dispatch.specs.FirstLists.{AreFirstLists, AreFirstLists-pr
 use crate::first_lists::FirstLists;
 use crate::guests::{GuestAt, InGuest, next_step};
 use crate::rooms::{add_note, add_word, lines_bundles, lines_payloads, lines_room, longest};
-use crate::running::{Running, forget, held_of};
-use crate::turns::{GuestTurn, LineTurn, acting, answer_exit, entered_or, turn_guest, turn_line};
+use crate::running::{Running, held_of};
+use crate::step_runs::{StepRun, forget_step, step_held_of};
+use crate::turns::{GuestTurn, answer_exit, is_acting, leave_where, turn_guest, turn_line};
 use bundles::Bundles;
 use export_pages::PageWords;
 use leaf_engine::{Event, HeldLock, Place, Processor, Turn, turns_in_pieces};
@@ -38,7 +39,7 @@ pub struct LpState<'a> {
     run: Option<Running<'a>>,
     spare: Option<PageWords>,
     guest: Option<GuestAt<'a>>,
-    step_run: Option<Running<'a>>,
+    step_run: StepRun<'a>,
     cached: Tlb,
     replies: Vec<Reply>,
     notes: Vec<GuestNote>,
@@ -59,7 +60,7 @@ pub struct LpState<'a> {
 }
 
 impl<'a> LpState<'a> {
-    ghost use Rattle.std.specs.Prelude.{◌≡◌, ◌<◌, ◌^◌, ◌∷◌, None, Some, length, map, option_map, IfOk};
+    ghost use Rattle.std.specs.Prelude.{◌≡◌, ◌<◌, ◌^◌, ◌∷◌, true, false, None, Some, is_some, length, map, option_map, IfOk};
     ghost use Rattle.td_words.specs.Limits.{IsMachine};
     ghost use Rattle.leaf_engine.specs.OwnLists.{first_lp};
     ghost use Rattle.leaf_dispatch.specs.Guests.{note_seen};
@@ -126,7 +127,10 @@ impl<'a> LpState<'a> {
             run: None,
             spare: Some(page_words),
             guest: None,
-            step_run: None,
+            step_run: StepRun {
+                shared: None,
+                other: None,
+            },
             cached: Tlb::new(),
             replies,
             notes,
@@ -202,7 +206,7 @@ impl<'a> LpState<'a> {
     {
         match &self.guest {
             None => &[],
-            Some(_) => held_of(&self.step_run),
+            Some(_) => step_held_of(&self.step_run),
         }
     }
 
@@ -213,20 +217,37 @@ impl<'a> LpState<'a> {
         &self.cached
     }
 
+    // The next event, at the present line. It is apart from its caller, which is asked more often than
+    // there are events.
+    #[inline(never)]
+    fn next_event<B: Bench>(&mut self, call: &'a Call, further: &'a [Call], bench: &mut B) -> Event
+        requires machine { self.old.place.machine ≡ B.machine bench.old }
+        requires lines { self.old.lines.now ≡ call.now ∷ further.now }
+        ensures moved { HasMoved (B.did bench.old) self.old bench.new self.new result }
+        ensures same { B.machine bench.new ≡ B.machine bench.old }
+    {
+        if is_acting(&self.guest, &self.run) {
+            self.guest_event(bench)
+        } else {
+            self.line_event(call, further, bench)
+        }
+    }
+
     // The next event of the present line's own leaf.
     fn line_event<B: Bench>(&mut self, call: &'a Call, further: &'a [Call], bench: &mut B) -> Event
         requires machine { self.old.place.machine ≡ B.machine bench.old }
         requires lines { self.old.lines.now ≡ call.now ∷ further.now }
-        requires own { acting self.old.guest self.old.run ≡ None }
+        requires own { is_some (acting self.old.guest self.old.run) ≡ false }
         ensures moved { HasMoved (B.did bench.old) self.old bench.new self.new result }
         ensures same { B.machine bench.new ≡ B.machine bench.old }
     {
         turns_in_pieces();
-        let LineTurn { turn, guest } = turn_line(
+        let turn = turn_line(
             &mut self.run,
             &mut self.spare,
             &mut self.bundles,
             &mut self.cached,
+            &mut self.guest,
             self.place,
             self.given,
             self.codes,
@@ -235,35 +256,38 @@ impl<'a> LpState<'a> {
             bench,
         );
         match turn.reply {
-            None => self.guest = entered_or(guest, self.guest),
+            None => (),
             Some(reply) => {
                 let Ok(()) = self.replies.push(reply) else {
                     unreachable!()
                 };
                 self.lines = further;
                 self.guest = None;
-                forget(&mut self.step_run);
+                forget_step(&mut self.step_run);
             }
         }
         turn.event
     }
 
     // The next event of the guest.
-    fn guest_event<B: Bench>(&mut self, guest: GuestAt<'a>, bench: &mut B) -> Event
+    fn guest_event<B: Bench>(&mut self, bench: &mut B) -> Event
         requires machine { self.old.place.machine ≡ B.machine bench.old }
         requires lines { 0 < length self.old.lines.now }
-        requires acts { acting self.old.guest self.old.run ≡ Some guest }
+        requires acts { is_some (acting self.old.guest self.old.run) ≡ true }
         ensures moved { HasMoved (B.did bench.old) self.old bench.new self.new result }
         ensures same { B.machine bench.new ≡ B.machine bench.old }
     {
         turns_in_pieces();
         let line = self.replies().len() as u32 + 1;
+        let Some(guest) = &mut self.guest else {
+            unreachable!()
+        };
         let GuestTurn {
             step,
             turn,
             note,
             word,
-            guest,
+            left,
         } = turn_guest(
             &mut self.step_run,
             &mut self.cached,
@@ -276,7 +300,7 @@ impl<'a> LpState<'a> {
         add_note(&mut self.notes, note);
         add_word(&mut self.told, word);
         answer_exit(&mut self.run, step, turn.reply);
-        self.guest = guest;
+        leave_where(&mut self.guest, left);
         turn.event
     }
 }
@@ -299,10 +323,6 @@ impl<'a> Processor for LpState<'a> {
         let Some((call, further)) = self.lines.split_first() else {
             return Turn::Ended;
         };
-        let event = match acting(&self.guest, &self.run) {
-            Some(guest) => self.guest_event(guest, bench),
-            None => self.line_event(call, further, bench),
-        };
-        Turn::Moved(event)
+        Turn::Moved(self.next_event(call, further, bench))
     }
 }

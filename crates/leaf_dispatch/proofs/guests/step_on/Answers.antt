@@ -8,7 +8,7 @@ pub returns-in-Operates-clause-kept : goal.returns-in-Operates-clause-kept
 returns-in-Operates-clause-kept c = (rw c.operate_on.ensures.walk tt, c.operate_on.ensures.list)
 
 pub returns-in-Accesses-clause-stepped : goal.returns-in-Accesses-clause-stepped
-returns-in-Accesses-clause-stepped c = λ run. ap Some (c.pass_on.ensures.seen run) ∙ sym (ap (λ (s : Step). stepped s c.args.reply (guest_seen c.args.guest run)) (ap step_seen c.in-Accesses.is))
+returns-in-Accesses-clause-stepped c = λ run. ap Some (c.pass_on.ensures.seen run) ∙ sym (ap (λ (s : Step). stepped s c.args.reply (guest_seen c.args.guest.now run)) (ap step_seen c.in-Accesses.is))
 
 pub returns-in-Accesses-clause-kept : goal.returns-in-Accesses-clause-kept
 returns-in-Accesses-clause-kept c = (rw c.pass_on.ensures.walk tt, c.pass_on.ensures.list)

@@ -5,7 +5,7 @@ use Rattle.leaf_engine.specs.Turns.{Standing}
 use Rattle.leaf_engine.specs.OwnLists.{running}
 use Rattle.leaf_table.specs.Ends.{Ends, call_ends}
 use Rattle.leaf_dispatch.specs.BundleRooms.{count_of, words_of, payload_words}
-use Rattle.leaf_dispatch.specs.Running.{run_seen, made_in_run, IsKept, LeafTurned}
+use Rattle.leaf_dispatch.specs.Running.{run_seen, made_in_run, IsKept, RunTurned}
 use Rattle.leaf_table.specs.Given.{given_in}
 use Rattle.leaf_table.specs.Table.{task_of}
 use Rattle.leaf_dispatch.proofs.Keeping.{can-turn-at, run-turned}
@@ -43,7 +43,7 @@ returns-clause-turned g c =
     let k = subst (λ (z : Machine). IsKept z e s c.begin_where_none.new.kept) c.requires.at c.begin_where_none.ensures.kept in (
       made,
       c.add_made.ensures,
-      subst (λ (z : Machine). LeafTurned (g.B.Bench.did c.args.bench.now) z e s c.turn_kept-turn.new.bench c.leave_call.new.kept c.leave_call.result made) (sym c.requires.at)
+      subst (λ (z : Machine). RunTurned (g.B.Bench.did c.args.bench.now) z e s c.turn_kept-turn.new.bench c.leave_call.new.kept c.leave_call.result made) (sym c.requires.at)
           (run-turned (g.B.Bench.did c.args.bench.now) c.turn_kept-turn.new.bench _ e s c.begin_where_none.new.kept c.turn_kept-turn.new.kept c.leave_call.new.kept c.leave_call.result c.turn_kept-turn.result made k c.turn_kept-turn.ensures.turned c.leave_call.ensures.turn
           c.leave_call.ensures.act refl c.leave_call.ensures.kept),
     )

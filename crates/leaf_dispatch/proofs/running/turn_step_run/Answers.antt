@@ -4,12 +4,12 @@ use Rattle.leaf_engine.specs.Turns.{Standing}
 use Rattle.leaf_engine.specs.OwnLists.{running}
 use Rattle.leaf_table.specs.Ends.{Ends, step_ends}
 use Rattle.leaf_table.specs.Steps.{step_seen}
-use Rattle.leaf_dispatch.specs.Running.{run_seen, IsKept, LeafTurned}
+use Rattle.leaf_dispatch.specs.Running.{run_seen, IsKept, RunTurned}
 use Rattle.leaf_table.specs.Given.{given_in}
 use Rattle.leaf_table.specs.Table.{step_task}
 use Rattle.leaf_dispatch.proofs.Keeping.{can-turn-at, run-turned}
 use Rattle.leaf_dispatch.proofs.Making.{step-made}
-use Rattle.leaf_dispatch.proofs.running.turn_step.Goals as goal
+use Rattle.leaf_dispatch.proofs.running.turn_step_run.Goals as goal
 
 pub turn_kept-step_turn-requires : goal.turn_kept-step_turn-requires
 turn_kept-step_turn-requires g c =
@@ -21,6 +21,6 @@ returns-clause-turned g c =
     let s : Standing = running (step_task (given_in c.args.given) c.args.place c.args.tdr c.args.vp c.args.line (step_seen c.args.step)) (run_seen c.args.kept.now) in
     let k = subst (λ (z : Machine). IsKept z e s c.begin_step_where_none.new.kept) c.requires.at c.begin_step_where_none.ensures in
     let none = step-made (g.B.Bench.did c.args.bench.now) c.turn_kept-step_turn.new.bench _ e s c.begin_step_where_none.new.kept c.turn_kept-step_turn.new.kept c.turn_kept-step_turn.result refl k c.turn_kept-step_turn.ensures.turned in
-    subst (λ (z : Machine). LeafTurned (g.B.Bench.did c.args.bench.now) z e s c.turn_kept-step_turn.new.bench c.leave_step.new.kept c.leave_step.result []) (sym c.requires.at)
+    subst (λ (z : Machine). RunTurned (g.B.Bench.did c.args.bench.now) z e s c.turn_kept-step_turn.new.bench c.leave_step.new.kept c.leave_step.result []) (sym c.requires.at)
     (run-turned (g.B.Bench.did c.args.bench.now) c.turn_kept-step_turn.new.bench _ e s c.begin_step_where_none.new.kept c.turn_kept-step_turn.new.kept c.leave_step.new.kept c.leave_step.result c.turn_kept-step_turn.result [] k c.turn_kept-step_turn.ensures.turned c.leave_step.ensures.turn
     c.leave_step.ensures.act none c.leave_step.ensures.kept)

@@ -1,0 +1,10 @@
+-- The lock of the page that a shared GPA names.
+use Rattle.std.specs.Prelude.{ℕ}
+use Rattle.td_words.specs.declared.names.LockName.TheVariants as name
+use Rattle.td_words.specs.declared.names.Mode.TheVariants.{Shared}
+use Rattle.td_words.specs.Address.{lock_at}
+use Rattle.flat_core.specs.Guest.{shared_page}
+use Rattle.leaf_engine.specs.declared.events.HeldLock.{HeldLock}
+
+abbrev pub page_lock : (gpa : ℕ) → HeldLock
+page_lock gpa = record { name = name.Page (shared_page gpa); at = lock_at (shared_page gpa); mode = Shared }
