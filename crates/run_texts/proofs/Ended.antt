@@ -1,28 +1,33 @@
 -- Where a script's processors are at the end of its run.
-use Rattle.std.proofs.Common.{◌≡◌, ◌≢◌, ◌⊎◌, inl, inr, refl, sym, ◌∙◌, ap, subst, ℕ, zero, suc, ◌<◌, ◌≤◌, List, [], ◌∷◌, ◌++◌, length, drop, None, true, false, ◌==◌, arith}
+use Rattle.std.proofs.Common.{◌≡◌, ◌≢◌, ◌⊎◌, inl, inr, refl, sym, ◌∙◌, ap, subst, ℕ, zero, suc, ◌<◌, ◌≤◌, List, [], ◌∷◌, ◌++◌, length, drop, None, Bool, true, false, ◌==◌, arith}
 use Rattle.std.proofs.Math.Seq.{drop-nil}
 use Rattle.std.proofs.lemmas.Bool.{cases_lt}
 use Rattle.std.proofs.lemmas.Bool.Decides.{eqb_tells}
-use Rattle.td_words.specs.declared.machines.Machine.{Machine}
 use Rattle.td_words.specs.declared.calls.Call.{Call}
 use Rattle.flat_core.specs.Processor.{Lp}
 use Rattle.flat_core.specs.Opening.{Opening}
 use Rattle.flat_core.specs.Event.{State, start, event, lines_left, calls_of}
 use Rattle.flat_core.specs.Run.{play, run, bundles_in, told_in, to_the_end}
+use Rattle.flat_core.specs.Bounds.{RunsEnd}
 use Rattle.flat_core.specs.Laws.{OthersStay, AreMerged, ToldAreMerged}
+use Rattle.trace_lines.proofs.Going.{stays, one-more-item}
 use Rattle.bundle_texts.specs.Ordered.{container_text}
 use Rattle.bundle_texts.proofs.Fits.{same_text}
-use Rattle.atomic_table.specs.Seated.{TableId}
-use Rattle.trace_table.specs.Merges.{MergesTo}
-use Rattle.trace_table.specs.Benches.{BenchSeen}
 use Rattle.leaf_engine.specs.Besides.{Beside}
 use Rattle.leaf_engine.specs.OwnLists.{WordLp, first_lp}
 use Rattle.leaf_engine.specs.Merges.{order}
 use Rattle.leaf_dispatch.specs.declared.states.LpState.{LpState}
 use Rattle.run_texts.specs.Sealing.{bundles_seen, bundles_text}
-use Rattle.run_texts.specs.Replaying.{IsMidway, IsAtBench, HaveEnded, AreAtEnd, TurnsAreEvents, seen_at}
-use Rattle.run_texts.proofs.RunningOut.{stays}
-use Rattle.run_texts.proofs.Replayed.{IsOpen, now, end, there, same, prints-all, notes-all, fit, made}
+use Rattle.run_texts.specs.Replaying.{LeadsToEnd, StandsAt, HaveEnded, AreAtEnd, TurnsAreEvents, seen_at}
+use Rattle.run_texts.specs.Looking.{GoesOn, Goes}
+use Rattle.run_texts.proofs.Replayed.{IsOpen, end, there, same, prints-all, notes-all, fit, made}
+
+-- what leads to the end of a run does so with or without items that make no event
+pub leads-on : RunsEnd → OthersStay → (o : Opening) (schedule : List ℕ) → GoesOn o (LeadsToEnd o schedule)
+leads-on ends others o schedule = record {
+  idle = λ s p items none leads. ap (play o items) (sym (stays o s p none)) ∙ leads;
+  one_more = λ events p inside ended leads. one-more-item o (λ n items s. play o items s) (λ s n p items none. ap (play o items) (stays o s p none)) (λ s n p xs ys same. same 0) others ends events 0 p inside ended ∙ leads;
+}
 
 -- a processor that the machine hasn't stays as it was at the start
 
@@ -47,18 +52,18 @@ seen-beyond [] p h = refl
 seen-beyond (s ∷ ss) zero h = absurd (omega (arith, h))
 seen-beyond (s ∷ ss) (suc p) h = seen-beyond ss p (omega (arith, h))
 
-module _ (ls : TurnsAreEvents) (merged : ToldAreMerged) (o : Opening) (schedule : List ℕ) (lps : List LpState) (id : TableId) (b : BenchSeen) (m : Machine) (words : List ℕ) (op : IsOpen o) (l : IsAtBench o schedule [] lps id b) (ended : HaveEnded (length lps) lps) (closed : MergesTo m b.pass.lists words) where
+module _ (ls : TurnsAreEvents) (merged : ToldAreMerged) (o : Opening) (schedule : List ℕ) (lps : List LpState) (words : List ℕ) (op : IsOpen o) (l : StandsAt o [] (LeadsToEnd o schedule) lps words) (ended : HaveEnded (length lps) lps) where
   abbrev final : State
-  final = end ls o schedule lps id b m words op l ended closed
+  final = end ls o schedule lps words op l ended
 
   abbrev items : List ℕ
-  items = order (now ls o schedule lps id b m words op l ended closed).made ++ to_the_end 0 o.calls
+  items = order l.midway.made ++ to_the_end 0 o.calls
 
   told-at : (p : ℕ) → (final.lps p).told ≡ (seen_at lps p).beside.told
   told-at p = by (cases_lt p (length o.calls))
     where
       by : (p < length o.calls) ⊎ (length o.calls ≤ p) → (final.lps p).told ≡ (seen_at lps p).beside.told
-      by (inl inside) = ap (λ (x : Beside). x.told) ((there ls o schedule lps id b m words op l ended closed).beside p inside)
+      by (inl inside) = ap (λ (x : Beside). x.told) ((there ls o schedule lps words op l ended).beside p inside)
       by (inr beyond) =
           ap (λ (x : Lp). x.told) (stays-beyond ls.others o items (start o None) p beyond)
           ∙ ap (λ (x : WordLp). x.beside.told) (sym (seen-beyond lps p (omega (arith, l.count, beyond))))
@@ -67,14 +72,19 @@ module _ (ls : TurnsAreEvents) (merged : ToldAreMerged) (o : Opening) (schedule 
   at-end = record {
     count = l.count;
     few = omega (arith, op.few, l.count);
-    replies = prints-all ls o schedule lps id b m words op l ended closed;
-    notes = notes-all ls o schedule lps id b m words op l ended closed;
-    bundles = made ls o schedule lps id b m words op l ended closed;
-    fit = fit ls o schedule lps id b m words op l ended closed;
+    replies = prints-all ls o schedule lps words op l ended;
+    notes = notes-all ls o schedule lps words op l ended;
+    bundles = made ls o schedule lps words op l ended;
+    fit = fit ls o schedule lps words op l ended;
     told =
-        subst (λ (s : State). AreMerged (λ p. (seen_at lps p).beside.told) (told_in s)) (same ls o schedule lps id b m words op l ended closed)
+        subst (λ (s : State). AreMerged (λ p. (seen_at lps p).beside.told) (told_in s)) (same ls o schedule lps words op l ended)
         (subst (λ (f : ℕ → List ℕ). AreMerged f (told_in final)) (λ i p. told-at p i) (merged o None items));
   }
+
+-- where nobody looks on all come to their ends
+pub nobody-stops : TurnsAreEvents → ToldAreMerged → (o : Opening) (schedule : List ℕ) (lps : List LpState) (words : List ℕ) → IsOpen o → (ended : Bool) → Goes ⊥ (length lps) lps (λ left. StandsAt o left (LeadsToEnd o schedule) lps words) ended → AreAtEnd o schedule lps
+nobody-stops ls merged o schedule lps words op true h = at-end ls merged o schedule lps words op h.1 h.0
+nobody-stops ls merged o schedule lps words op false h = absurd h.0
 
 -- the container of their bundles is the run's
 pub seals-end : (o : Opening) (schedule : List ℕ) (lps : List LpState) → AreAtEnd o schedule lps → (forward backward : List ℕ) → container_text forward backward (bundles_seen lps) ≡ bundles_text forward backward o schedule

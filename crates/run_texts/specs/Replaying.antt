@@ -1,19 +1,21 @@
 -- Where the logical processors of a script are, over words, while its run is replayed.
-use Rattle.std.specs.Prelude.{◌≡◌, ℕ, zero, suc, ◌+◌, ◌<◌, ◌≤◌, true, List, [], ◌∷◌, ◌++◌, length, map, Option, IfSome}
+use Rattle.std.specs.Prelude.{◌≡◌, ℕ, zero, suc, ◌+◌, ◌<◌, ◌≤◌, true, List, [], ◌∷◌, ◌++◌, length, map, Option, None, IfSome, slice_index}
 use Rattle.std.specs.List.{concat}
 use Rattle.std.specs.List.Sorted.{IsPermutation}
 use Rattle.td_words.specs.Seen.{CodeSeen}
 use Rattle.td_words.specs.declared.machines.Machine.{Machine}
 use Rattle.td_words.specs.declared.calls.Call.{Call}
 use Rattle.flat_core.specs.Opening.{Opening}
-use Rattle.flat_core.specs.Run.{run, bundles_in, told_in}
-use Rattle.flat_core.specs.Bounds.{EventsRunOut}
+use Rattle.flat_core.specs.Event.{State, start}
+use Rattle.flat_core.specs.Run.{play, run, to_the_end, bundles_in, told_in}
+use Rattle.flat_core.specs.Bounds.{RunsEnd}
 use Rattle.flat_core.specs.Laws.{OthersStay, AreMerged}
 use Rattle.flat_core.specs.HostText.{host_text}
 use Rattle.flat_core.specs.GuestText.{note_told, guest_text}
 use Rattle.flat_bundles.specs.Bundles.{BundlesAreOfLines}
 use Rattle.bundle_texts.specs.Ordered.{FitContainer}
 use Rattle.report_text.specs.Lines.{reply_lines, note_line}
+use Rattle.step_core.specs.Words.{word_count}
 use Rattle.step_core.specs.Items.{Table, PlaysTo}
 use Rattle.step_core.specs.declared.items.Taken.{Taken}
 use Rattle.atomic_table.specs.Seated.{TableId}
@@ -81,12 +83,16 @@ abbrev pub TellAll : (out_bundles guest_out : Option (List ℕ)) → (replies co
 TellAll out_bundles guest_out replies container notes t =
     (t.replies.items ≡ replies) × IfSome out_bundles (λ name. t.container.items ≡ container) × IfSome guest_out (λ name. t.guest.items ≡ notes)
 
--- So far the turns that the processors made, which lead to this table, are a merge; and its events, and then the items that
--- are left, lead to the end of the flat machine's run under the schedule.
-pub record IsMidway (o : Opening) (schedule left : List ℕ) (lps : List LpState) (t : Table) : Type 0 where
+-- So far the turns that the processors made, which lead to this table, are a merge; and what is sought holds of the state where
+-- its events lead, with the items that are left and those up to the end.
+pub record IsMidway (o : Opening) (left : List ℕ) (sought : State → List ℕ → Type 0) (lps : List LpState) (t : Table) : Type 0 where
   pub made : List Item
   pub merge : Merge o (leaf_table o.machine (given_of o) o.codes) made (seen_at lps) t
-  pub same : run o (order made ++ left) ≡ run o schedule
+  pub holds : sought (play o (order made) (start o None)) (left ++ to_the_end 0 o.calls)
+
+-- these items lead from a state to the end of the run under the schedule
+abbrev pub LeadsToEnd : Opening → (schedule : List ℕ) → State → List ℕ → Type 0
+LeadsToEnd o schedule s items = play o items s ≡ run o schedule
 
 -- the first bench of a table, with this list of its own and none that it took in or has out
 abbrev pub only_bench : Machine → TableId → List Taken → BenchSeen
@@ -94,18 +100,25 @@ only_bench m id own = record { machine = m; pass = record { table = id; first = 
 
 -- The processors make their turns at one bench of a table, and its own list is what they did. That they are midway, by
 -- whatever table the list leads to, is known once the table tells at its close that there is one.
-pub record IsAtBench (o : Opening) (schedule left : List ℕ) (lps : List LpState) (id : TableId) (bench : BenchSeen) : Type 0 where
+pub record IsAtBench (o : Opening) (left : List ℕ) (sought : State → List ℕ → Type 0) (lps : List LpState) (id : TableId) (bench : BenchSeen) : Type 0 where
   pub own : List Taken
   pub is : bench ≡ only_bench o.machine id own
   pub count : length lps ≡ length o.calls
   pub numbered : AreNumbered o 0 lps
-  pub midway : (t : Table) → PlaysTo no_table own t → IsMidway o schedule left lps t
+  pub midway : (t : Table) → PlaysTo no_table own t → IsMidway o left sought lps t
+
+-- and once it has told so: these are the words of that table
+pub record StandsAt (o : Opening) (left : List ℕ) (sought : State → List ℕ → Type 0) (lps : List LpState) (words : List ℕ) : Type 0 where
+  pub count : length lps ≡ length o.calls
+  pub table : Table
+  pub midway : IsMidway o left sought lps table
+  pub words_are : (n : ℕ) → n < word_count o.machine → slice_index words n ≡ table.words n
 
 -- what ties turns over words to events of the flat machine, and its bundles to lines
 pub record TurnsAreEvents : Type 0 where
   pub merges : MergesAreRuns
   pub leaves : CallsHaveLeaves
   pub pieces : TurnsInPieces
-  pub runs_out : EventsRunOut
+  pub runs_end : RunsEnd
   pub others : OthersStay
   pub bundles : BundlesAreOfLines

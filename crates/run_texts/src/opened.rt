@@ -1,8 +1,9 @@
-//! The bundles that a run takes in.
+//! What a run takes in: secret words and bundles.
 
-ghost use Rattle.std.specs.Prelude.{◌≡◌, map, IfOk};
+ghost use Rattle.std.specs.Prelude.{◌≡◌, map, length, IfOk};
 ghost use Rattle.bundle_store.specs.Containers.{AreInOrder};
 ghost use Rattle.incoming.specs.Arrivals.{incoming_in};
+ghost use Rattle.leaf_table.specs.Given.{secrets_in};
 
 use crate::key_pairs::KeyPair;
 use aes_block::Aes256;
@@ -27,4 +28,15 @@ pub fn opened_bundles(
         backward: Aes256::new(&keys.backward),
     };
     open_bundles(alloc, &expanded, bundles)
+}
+
+/// So many secret words, each 0.
+pub fn no_secrets(alloc: Global, count: usize) -> Result<Vec<u64>, OutOfMemory>
+    ensures count { IfOk result (λ v. length v.items ≡ count) }
+    ensures zeros { IfOk result (λ v. secrets_in v.items ≡ (λ k. 0)) }
+{
+    match vec![in alloc; 0u64; count] {
+        Ok(words) => Ok(words),
+        Err(_) => Err(OutOfMemory),
+    }
 }

@@ -1,6 +1,6 @@
 //! A script's run over words: its processors under its schedule, and then each to its end.
 
-ghost use Rattle.std.specs.Prelude.{◌≡◌, ◌≤◌, ◌<◌, ◌+◌, ◌^◌, [], length, map, option_map, IfOk, IfSome};
+ghost use Rattle.std.specs.Prelude.{◌≡◌, ◌≤◌, ◌<◌, ◌^◌, length, map, option_map, IfOk, IfSome};
 ghost use Rattle.std.specs.List.{All, concat};
 ghost use Rattle.td_words.specs.Limits.{IsMachine};
 ghost use Rattle.flat_core.specs.GuestText.{guest_text};
@@ -9,26 +9,25 @@ ghost use Rattle.bundle_texts.specs.Ordered.{FitContainer, container_text};
 ghost use Rattle.script_text.specs.Laws.{IsInForm};
 ghost use Rattle.leaf_dispatch.specs.Inside.{AreOperations};
 ghost use Rattle.leaf_dispatch.specs.FirstLists.{AreFirstLists};
-ghost use Rattle.trace_table.specs.Benches.{bench_of};
 ghost use Rattle.leaf_table.specs.Given.{given_in};
 ghost use Rattle.run_texts.specs.Openings.{opening_of};
 ghost use Rattle.run_texts.specs.Sealing.{bundles_seen, bundles_text};
-ghost use Rattle.run_texts.specs.Replaying.{AreFirst, IsAtBench, HaveEnded, AreAtEnd, TurnsAreEvents, lines_seen, notes_seen, TellAll};
+ghost use Rattle.run_texts.specs.Replaying.{AreFirst, AreAtEnd, TurnsAreEvents, lines_seen, notes_seen, TellAll};
 
 use crate::key_pairs::KeyPair;
 use crate::noted::noted_lines;
 use crate::sealed::sealed_bundles;
+use crate::turns::{Nobody, script_run};
 use flat_bundles::bundle_law;
 use flat_core::{end_laws, event_laws, told_law};
 use leaf_dispatch::{FirstLists, LpState};
-use leaf_engine::{Processor, Turn, turns_in_pieces};
+use leaf_engine::turns_in_pieces;
 use leaf_table::{Given, calls_have_leaves};
 use merge_laws::merge_law;
 use report_text::host_lines;
 use script_text::Script;
 use std::alloc::Global;
 use td_words::{Call, Code, Machine, OutOfMemory};
-use trace_table::{SharedBench, SharedTable};
 
 /// What turns over words have to do with events of the flat machine, and its bundles with lines.
 pub fn laws_of_turns()
@@ -44,7 +43,7 @@ pub fn laws_of_turns()
 
 /// The processors of a machine, each at the first of its calls, with what the run is given, and with the
 /// lists of operations and where they stand.
-pub fn processors<'a>(
+pub(crate) fn processors<'a>(
     alloc: Global,
     machine: Machine,
     codes: &'a [Code],
@@ -77,62 +76,6 @@ pub fn processors<'a>(
         };
     }
     Ok(lps)
-}
-
-// One turn for each item of the schedule.
-fn follow_schedule(
-    script: &Script,
-    given: Given<'_>,
-    lps: &mut [LpState<'_>],
-    bench: &mut SharedBench<'_>,
-)
-    requires form { IsInForm script.now }
-    requires left { IsAtBench (opening_of (given_in given) script.now) script.now.schedule script.now.schedule lps.old (bench_of bench.old).pass.table (bench_of bench.old) }
-    ensures { IsAtBench (opening_of (given_in given.entry) script.now) script.now.schedule [] lps.new (bench_of bench.old).pass.table (bench_of bench.new) }
-{
-    let _secrets = given.secrets;
-    laws_of_turns();
-    for item in 0..script.schedule.len() {
-        lps[usize::from(script.schedule[item])].turn(bench);
-    }
-}
-
-// The turns of a processor up to its end, where those before it have ended.
-fn finish(
-    script: &Script,
-    given: Given<'_>,
-    lps: &mut [LpState<'_>],
-    lp: usize,
-    bench: &mut SharedBench<'_>,
-)
-    requires form { IsInForm script.now }
-    requires lp { lp < length lps.old }
-    requires ended { HaveEnded lp lps.old }
-    requires left { IsAtBench (opening_of (given_in given) script.now) script.now.schedule [] lps.old (bench_of bench.old).pass.table (bench_of bench.old) }
-    ensures count { length lps.new ≡ length lps.old }
-    ensures ended { HaveEnded (lp + 1) lps.new }
-    ensures left { IsAtBench (opening_of (given_in given.entry) script.now) script.now.schedule [] lps.new (bench_of bench.old).pass.table (bench_of bench.new) }
-{
-    let _secrets = given.secrets;
-    laws_of_turns();
-    while let Turn::Moved(_) = lps[lp].turn(bench) {}
-}
-
-// Each processor to its end, in number order.
-fn finish_all(
-    script: &Script,
-    given: Given<'_>,
-    lps: &mut [LpState<'_>],
-    bench: &mut SharedBench<'_>,
-)
-    requires form { IsInForm script.now }
-    requires left { IsAtBench (opening_of (given_in given) script.now) script.now.schedule [] lps.old (bench_of bench.old).pass.table (bench_of bench.old) }
-    ensures ended { HaveEnded (length lps.new) lps.new }
-    ensures left { IsAtBench (opening_of (given_in given.entry) script.now) script.now.schedule [] lps.new (bench_of bench.old).pass.table (bench_of bench.new) }
-{
-    for lp in 0..lps.len() {
-        finish(script, given, lps, lp, bench);
-    }
 }
 
 // The reply lines of all processors.
@@ -224,23 +167,8 @@ pub fn ended_processors<'a>(
 {
     laws_of_turns();
     told_law();
-    let codes: &[Code] = &script.codes;
-    let mut states = processors(
-        alloc,
-        script.machine,
-        codes,
-        given,
-        first_lists,
-        &script.calls,
-    )?;
-    let lps = states.as_mut_slice();
-    let (table, pass) = SharedTable::start(alloc, script.machine)?;
-    let mut bench = SharedBench::new(&table, pass);
-    follow_schedule(script, given, lps, &mut bench);
-    finish_all(script, given, lps, &mut bench);
-    let pass = bench.into_pass();
-    table.close(pass);
-    Ok(states)
+    let ran = script_run(alloc, script, given, first_lists, &Nobody, &mut ())?;
+    Ok(ran.lps)
 }
 
 /// The texts of a script's run under its schedule, with secret words and bundles that come in, and with

@@ -8,7 +8,6 @@ ghost use Rattle.bundle_store.specs.Containers.{container_in, AreInOrder};
 ghost use Rattle.bundle_texts.specs.Sealed.{sealed};
 ghost use Rattle.bundle_texts.specs.Ordered.{in_slot_order, FitContainer};
 ghost use Rattle.incoming.specs.Arrivals.{at_slot};
-ghost use Rattle.leaf_table.specs.Given.{secrets_in};
 ghost use Rattle.script_text.specs.Laws.{IsInForm};
 ghost use Rattle.run_texts.specs.Replaying.{seen_at};
 ghost use Rattle.soak_runs.specs.Soaked.{forward_key, backward_key, carried, run_with, first_word, line_of, soak_text};
@@ -18,7 +17,7 @@ use bundle_texts::bundles_read_again;
 use incoming::IncomingBundles;
 use leaf_dispatch::{FirstLists, LpState};
 use leaf_table::Given;
-use run_texts::{KeyPair, ended_processors, opened_bundles, sealed_container};
+use run_texts::{KeyPair, ended_processors, no_secrets, opened_bundles, sealed_container};
 use script_text::Script;
 use soak_scripts::{destination, soaks_are_in_form, source};
 use std::alloc::Global;
@@ -39,17 +38,6 @@ fn keys() -> KeyPair
             32, 33, 34, 35, 36, 37, 38, 39, 40, 41, 42, 43, 44, 45, 46, 47, 48, 49, 50, 51, 52, 53,
             54, 55, 56, 57, 58, 59, 60, 61, 62, 63,
         ],
-    }
-}
-
-// So many secret words, each 0.
-fn no_secrets(alloc: Global, count: usize) -> Result<Vec<u64>, OutOfMemory>
-    ensures count { IfOk result (λ v. length v.items ≡ count) }
-    ensures zeros { IfOk result (λ v. secrets_in v.items ≡ (λ k. 0)) }
-{
-    match vec![in alloc; 0u64; count] {
-        Ok(words) => Ok(words),
-        Err(_) => Err(OutOfMemory),
     }
 }
 

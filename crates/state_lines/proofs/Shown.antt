@@ -8,12 +8,10 @@ use Rattle.td_words.specs.declared.names.PageKind.{PageKind}
 use Rattle.td_words.specs.declared.names.PageKind.TheVariants as kind
 use Rattle.td_words.specs.declared.names.LifeState.{LifeState}
 use Rattle.td_words.specs.declared.names.LifeState.TheVariants as life
-use Rattle.td_words.specs.declared.names.OpState.{OpState}
-use Rattle.td_words.specs.declared.names.OpState.TheVariants as op
 use Rattle.td_words.specs.declared.names.VcpuState.{VcpuState}
 use Rattle.td_words.specs.declared.names.VcpuState.TheVariants as vcpu
 use Rattle.td_words.specs.declared.places.TheConstants.{TDR_LIFE, TDR_HKID, TDR_CHILDREN, TDR_TDCX_COUNT, TDR_TDCS, TDCS_OP, TDCS_EPOCH, TDCS_ENTERED, TDCS_MIG_EPOCH, TDCS_SESSION, TDCS_VP_COUNT, TDCS_STREAM_COUNT, VP_INDEX, VP_STATE, VP_ASSOCIATED, VP_LAST_EPOCH, VP_POSITION, STREAM_COUNTER}
-use Rattle.td_words.specs.NameNumber.{kind_number, life_number, op_number, vcpu_number}
+use Rattle.td_words.specs.NameNumber.{kind_number, life_number, vcpu_number}
 use Rattle.td_words.specs.Packing.{pamt_in, is_lawful_pamt}
 use Rattle.td_words.specs.Place.{Pamt as PamtPlace, Word}
 use Rattle.flat_core.specs.World.{World}
@@ -23,6 +21,8 @@ use Rattle.flat_core.specs.Lawful.{Lawful, IsPageOf, AreControls}
 use Rattle.flat_core.specs.Event.{State}
 use Rattle.word_rules.specs.Lines.{in_lines}
 use Rattle.word_rules.specs.Cells.{IsAs, page_cell, lock_word, associated_word, if_stands, entered_of_parity, tdr_lines, td_lock_lines, tdcs_lines, vp_lines, stream_lines, root_cell, control_cell}
+use Rattle.leaf_parts.specs.Words.{life_told, op_told}
+use Rattle.leaf_parts.proofs.Told.{life-back, op-back}
 use Rattle.state_lines.specs.declared.seen.TdcsSeen.{TdcsSeen}
 use Rattle.state_lines.specs.declared.seen.TdSeen.{TdSeen}
 use Rattle.state_lines.specs.declared.seen.VcpuSeen.{VcpuSeen}
@@ -30,32 +30,12 @@ use Rattle.state_lines.specs.declared.seen.StreamSeen.{StreamSeen}
 use Rattle.state_lines.specs.declared.seen.Content.TheVariants as content
 use Rattle.state_lines.specs.Laws.{AreShown}
 use Rattle.state_lines.specs.Lines.{page_text}
-use Rattle.state_lines.specs.Numbers as number
 use Rattle.state_lines.specs.StateText.{stands, entered_at, tdcs_of, tdcs_in, td_of, vcpu_of, stream_of, content_of, pamt_of, page_seen}
-use Rattle.state_lines.specs.WordText.{word_in, pamt_seen, tdcs_seen, tdcs_found, td_seen, lp_in, vcpu_seen, stream_seen, content_in, page_if, page_read, owner_if, owner_read}
+use Rattle.state_lines.specs.WordText.{word_in, pamt_seen, tdcs_seen, tdcs_found, td_seen, lp_in, vcpu_seen, stream_seen, content_in, page_if, page_read, owner_if, owner_read, vcpu_told}
 
--- numbers of states, read back
+-- numbers read back
 
-life-back : (l : LifeState) → number.life_of (life_number l) ≡ l
-life-back life.HkidAssigned = refl
-life-back life.KeysConfigured = refl
-life-back life.Blocked = refl
-life-back life.Teardown = refl
-
-op-back : (s : OpState) → number.op_of (op_number s) ≡ s
-op-back op.Uninitialized = refl
-op-back op.Initialized = refl
-op-back op.Runnable = refl
-op-back op.LiveExport = refl
-op-back op.PausedExport = refl
-op-back op.PostExport = refl
-op-back op.MemoryImport = refl
-op-back op.StateImport = refl
-op-back op.PostImport = refl
-op-back op.LiveImport = refl
-op-back op.FailedImport = refl
-
-vcpu-back : (s : VcpuState) → number.vcpu_of (vcpu_number s) ≡ s
+vcpu-back : (s : VcpuState) → vcpu_told (vcpu_number s) ≡ s
 vcpu-back vcpu.Created = refl
 vcpu-back vcpu.Ready = refl
 
@@ -106,11 +86,11 @@ module _ (back : PackingsUndone) (m : Machine) (words : List ℕ) (s : State) (l
 
   -- words of a TDR page
 
-  life-is : (t : ℕ) → w.pages.kinds t ≡ kind.Tdr → number.life_of (word_in words t TDR_LIFE) ≡ w.tds.lives t
+  life-is : (t : ℕ) → w.pages.kinds t ≡ kind.Tdr → life_told (word_in words t TDR_LIFE) ≡ w.tds.lives t
   life-is t is =
       let inside = tdr-inside t is in
       let own = lawful.pages.tdr t is in
-      ap number.life_of (word-is t TDR_LIFE kind.Tdr (life_number (w.tds.lives t)) inside (omega arith) is (ap (λ (u : ℕ). Some (life_number (w.tds.lives u))) own)) ∙ life-back (w.tds.lives t)
+      ap life_told (word-is t TDR_LIFE kind.Tdr (life_number (w.tds.lives t)) inside (omega arith) is (ap (λ (u : ℕ). Some (life_number (w.tds.lives u))) own)) ∙ life-back (w.tds.lives t)
 
   -- words of TDCS, the first control page of a TD that is alive
 
@@ -145,8 +125,8 @@ module _ (back : PackingsUndone) (m : Machine) (words : List ℕ) (s : State) (l
         other : (e : ℕ) → 1 - e % 2 ≡ (e + 1) % 2
         other e = omega arith
 
-    op-is : number.op_of (word_in words c TDCS_OP) ≡ w.tds.ops t
-    op-is = ap number.op_of (tdcs-word TDCS_OP _ (omega arith) refl) ∙ op-back (w.tds.ops t)
+    op-is : op_told (word_in words c TDCS_OP) ≡ w.tds.ops t
+    op-is = ap op_told (tdcs-word TDCS_OP _ (omega arith) refl) ∙ op-back (w.tds.ops t)
 
     vcpus-is : word_in words c TDCS_VP_COUNT ≡ length (w.tds.vps t)
     vcpus-is = tdcs-word TDCS_VP_COUNT _ (omega arith) refl
@@ -197,10 +177,10 @@ module _ (back : PackingsUndone) (m : Machine) (words : List ℕ) (s : State) (l
     first-page c (r ∷ x ∷ cs) h = absurd h
 
     tdcs-is : (cs : List ℕ) → w.tds.controls t ≡ cs → tdcs_found words t ≡ tdcs_in w t cs
-    tdcs-is [] e = ap (λ (n : ℕ). if n == 0 then None else stands (number.life_of (word_in words t TDR_LIFE)) (Some (tdcs_seen words (word_in words t TDR_TDCS % 65536))) None) (count-is ∙ ap length e)
+    tdcs-is [] e = ap (λ (n : ℕ). if n == 0 then None else stands (life_told (word_in words t TDR_LIFE)) (Some (tdcs_seen words (word_in words t TDR_TDCS % 65536))) None) (count-is ∙ ap length e)
     tdcs-is (c ∷ cs) e =
         let some : (word_in words t TDR_TDCX_COUNT == 0) ≡ false = ne_eqb _ _ (λ z. absurd (let n : word_in words t TDR_TDCX_COUNT ≡ length (c ∷ cs) = count-is ∙ ap length e in omega (arith, n, z))) in
-        ap (λ (b : Bool). if b then None else stands (number.life_of (word_in words t TDR_LIFE)) (Some (tdcs_seen words (word_in words t TDR_TDCS % 65536))) None) some
+        ap (λ (b : Bool). if b then None else stands (life_told (word_in words t TDR_LIFE)) (Some (tdcs_seen words (word_in words t TDR_TDCS % 65536))) None) some
         ∙ (ap (λ (l : LifeState). stands l (Some (tdcs_seen words (word_in words t TDR_TDCS % 65536))) None) (life-is t is)
         ∙ stands-alike (w.tds.lives t) _ _ None (λ alive. told alive))
       where
@@ -215,7 +195,7 @@ module _ (back : PackingsUndone) (m : Machine) (words : List ℕ) (s : State) (l
     tdcs-found-is : tdcs_found words t ≡ tdcs_in w t (w.tds.controls t)
     tdcs-found-is = tdcs-is (w.tds.controls t) refl
 
-    lives-is : number.life_of (word_in words t TDR_LIFE) ≡ w.tds.lives t
+    lives-is : life_told (word_in words t TDR_LIFE) ≡ w.tds.lives t
     lives-is = life-is t is
 
     td-told : td_seen words t ≡ td_of w t
@@ -230,7 +210,7 @@ module _ (back : PackingsUndone) (m : Machine) (words : List ℕ) (s : State) (l
     vcpu-told : w.pages.kinds p ≡ kind.Tdvpr → vcpu_seen words p ≡ vcpu_of w p
     vcpu-told is =
         let index = vp-word VP_INDEX _ (omega arith) is refl in
-        let state : number.vcpu_of (word_in words p VP_STATE) ≡ w.vps.states p = ap number.vcpu_of (vp-word VP_STATE _ (omega arith) is refl) ∙ vcpu-back (w.vps.states p) in
+        let state : vcpu_told (word_in words p VP_STATE) ≡ w.vps.states p = ap vcpu_told (vp-word VP_STATE _ (omega arith) is refl) ∙ vcpu-back (w.vps.states p) in
         let position = vp-word VP_POSITION _ (omega arith) is refl in
         let associated : lp_in (word_in words p VP_ASSOCIATED) ≡ w.vps.associated p = ap lp_in (vp-word VP_ASSOCIATED _ (omega arith) is refl) ∙ lp-back (w.vps.associated p) in
         let last = vp-word VP_LAST_EPOCH _ (omega arith) is refl in

@@ -1,5 +1,4 @@
 pub mod After
-pub mod Numbers
 pub mod Lines
 pub mod StateText
 pub mod WordText

@@ -2,6 +2,8 @@
 use Rattle.std.specs.Prelude.{ℕ, ◌+◌, ◌-◌, ◌%◌, ◌==◌, if◌then◌else◌, List, [], Option, Some, None, slice_index}
 use Rattle.td_words.specs.declared.names.PageKind.{PageKind}
 use Rattle.td_words.specs.declared.names.PageKind.TheVariants as kind
+use Rattle.td_words.specs.declared.names.VcpuState.{VcpuState}
+use Rattle.td_words.specs.declared.names.VcpuState.TheVariants as vcpu
 use Rattle.td_words.specs.declared.places.TheConstants.{TDR_LIFE, TDR_HKID, TDR_CHILDREN, TDR_TDCX_COUNT, TDR_TDCS, TDCS_OP, TDCS_EPOCH, TDCS_ENTERED, TDCS_MIG_EPOCH, TDCS_SESSION, TDCS_VP_COUNT, TDCS_STREAM_COUNT, VP_INDEX, VP_STATE, VP_ASSOCIATED, VP_LAST_EPOCH, VP_POSITION, STREAM_COUNTER}
 use Rattle.td_words.specs.Address.{pamt_at, word_at}
 use Rattle.td_words.specs.Packing.{Pamt, pamt_in}
@@ -11,7 +13,7 @@ use Rattle.state_lines.specs.declared.seen.VcpuSeen.{VcpuSeen}
 use Rattle.state_lines.specs.declared.seen.StreamSeen.{StreamSeen}
 use Rattle.state_lines.specs.declared.seen.Content.{Content}
 use Rattle.state_lines.specs.declared.seen.Content.TheVariants as content
-use Rattle.state_lines.specs.Numbers.{life_of, op_of, vcpu_of}
+use Rattle.leaf_parts.specs.Words.{life_told, op_told}
 use Rattle.state_lines.specs.Lines.{page_text}
 use Rattle.state_lines.specs.StateText.{stands}
 
@@ -27,7 +29,7 @@ tdcs_seen words c =
     let epoch = word_in words c TDCS_EPOCH in
     record {
       page = c;
-      op = op_of (word_in words c TDCS_OP);
+      op = op_told (word_in words c TDCS_OP);
       epoch = epoch;
       entered = word_in words c (TDCS_ENTERED + epoch % 2);
       entered_before = word_in words c (TDCS_ENTERED + (1 - epoch % 2));
@@ -40,11 +42,11 @@ tdcs_seen words c =
 abbrev pub tdcs_found : List ℕ → (tdr : ℕ) → Option TdcsSeen
 tdcs_found words t =
     if word_in words t TDR_TDCX_COUNT == 0 then None
-    else stands (life_of (word_in words t TDR_LIFE)) (Some (tdcs_seen words (word_in words t TDR_TDCS % 65536))) None
+    else stands (life_told (word_in words t TDR_LIFE)) (Some (tdcs_seen words (word_in words t TDR_TDCS % 65536))) None
 
 abbrev pub td_seen : List ℕ → ℕ → TdSeen
 td_seen words t = record {
-  life = life_of (word_in words t TDR_LIFE);
+  life = life_told (word_in words t TDR_LIFE);
   hkid = word_in words t TDR_HKID;
   children = word_in words t TDR_CHILDREN;
   tdcs = tdcs_found words t;
@@ -54,10 +56,14 @@ td_seen words t = record {
 abbrev pub lp_in : ℕ → Option ℕ
 lp_in word = if word == 0 then None else Some (word - 1)
 
+-- the state of a virtual processor of that number; each but 0 is that of the last
+abbrev pub vcpu_told : ℕ → VcpuState
+vcpu_told n = if n == 0 then vcpu.Created else vcpu.Ready
+
 abbrev pub vcpu_seen : List ℕ → ℕ → VcpuSeen
 vcpu_seen words v = record {
   index = word_in words v VP_INDEX;
-  state = vcpu_of (word_in words v VP_STATE);
+  state = vcpu_told (word_in words v VP_STATE);
   position = word_in words v VP_POSITION;
   associated = lp_in (word_in words v VP_ASSOCIATED);
   last_epoch = word_in words v VP_LAST_EPOCH;
@@ -68,8 +74,8 @@ stream_seen words s = record { counter = word_in words s STREAM_COUNTER }
 
 abbrev pub content_in : List ℕ → (page owner : ℕ) → PageKind → Content
 content_in words p t kind.Tdr = content.Td (td_seen words p)
-content_in words p t kind.Tdvpr = stands (life_of (word_in words t TDR_LIFE)) (content.Vcpu (vcpu_seen words p)) content.Nothing
-content_in words p t kind.Migsc = stands (life_of (word_in words t TDR_LIFE)) (content.Stream (stream_seen words p)) content.Nothing
+content_in words p t kind.Tdvpr = stands (life_told (word_in words t TDR_LIFE)) (content.Vcpu (vcpu_seen words p)) content.Nothing
+content_in words p t kind.Migsc = stands (life_told (word_in words t TDR_LIFE)) (content.Stream (stream_seen words p)) content.Nothing
 content_in words p t _ = content.Nothing
 
 abbrev pub page_if : List ℕ → ℕ → Option Pamt → List ℕ

@@ -1,7 +1,7 @@
 //! The lines of a machine's state: its pages with what they have, and its logical processors.
 //!
 //! Stands on `flat_core`, whose states these are, on `word_rules`, by which words show a state, and on
-//! `pamt_core`, which takes PAMT words apart. A layer above may use that `push_pages` reads the lines of a
+//! `pamt_core` and `leaf_parts`, which take words apart. A layer above may use that `push_pages` reads the lines of a
 //! state's pages from words that show it (`words_tell_pages`), and what each other call adds to a text.
 #![tactic(auto)]
 

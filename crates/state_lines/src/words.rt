@@ -3,17 +3,18 @@
 ghost use Rattle.std.specs.Prelude.{◌≡◌, slice_index, true, false};
 ghost use Rattle.state_lines.specs.StateText.{stands};
 ghost use Rattle.td_words.specs.declared.places.TheConstants.{TDR_LIFE};
-ghost use Rattle.state_lines.specs.Numbers.{life_of, op_of, vcpu_of};
-ghost use Rattle.state_lines.specs.WordText.{word_in, pamt_seen, tdcs_seen, tdcs_found, td_seen, lp_in, vcpu_seen, stream_seen, content_in, owner_read};
+ghost use Rattle.leaf_parts.specs.Words.{life_told};
+ghost use Rattle.state_lines.specs.WordText.{word_in, pamt_seen, tdcs_seen, tdcs_found, td_seen, lp_in, vcpu_seen, stream_seen, content_in, owner_read, vcpu_told};
 
 use crate::seen::{Content, StreamSeen, TdSeen, TdcsSeen, VcpuSeen};
+use leaf_parts::{life_told, op_told};
 use pamt_core::PamtWord;
 use td_words::places::{
     STREAM_COUNTER, TDCS_ENTERED, TDCS_EPOCH, TDCS_MIG_EPOCH, TDCS_OP, TDCS_SESSION,
     TDCS_STREAM_COUNT, TDCS_VP_COUNT, TDR_CHILDREN, TDR_HKID, TDR_LIFE, TDR_TDCS, TDR_TDCX_COUNT,
     VP_ASSOCIATED, VP_INDEX, VP_LAST_EPOCH, VP_POSITION, VP_STATE,
 };
-use td_words::{LifeState, OpState, PageKind, VcpuState};
+use td_words::{LifeState, PageKind, VcpuState};
 
 // The word at an address, and 0 behind the last one.
 fn word_at(words: &[u64], at: usize) -> u64
@@ -48,37 +49,8 @@ pub fn owner_of(words: &[u64], page: u16) -> u16
     }
 }
 
-fn life_of(number: u64) -> LifeState
-    ensures { result ≡ life_of number }
-{
-    match number {
-        0 => LifeState::HkidAssigned,
-        1 => LifeState::KeysConfigured,
-        2 => LifeState::Blocked,
-        _ => LifeState::Teardown,
-    }
-}
-
-fn op_of(number: u64) -> OpState
-    ensures { result ≡ op_of number }
-{
-    match number {
-        0 => OpState::Uninitialized,
-        1 => OpState::Initialized,
-        2 => OpState::Runnable,
-        3 => OpState::LiveExport,
-        4 => OpState::PausedExport,
-        5 => OpState::PostExport,
-        6 => OpState::MemoryImport,
-        7 => OpState::StateImport,
-        8 => OpState::PostImport,
-        9 => OpState::LiveImport,
-        _ => OpState::FailedImport,
-    }
-}
-
-fn vcpu_of(number: u64) -> VcpuState
-    ensures { result ≡ vcpu_of number }
+fn vcpu_told(number: u64) -> VcpuState
+    ensures { result ≡ vcpu_told number }
 {
     match number {
         0 => VcpuState::Created,
@@ -93,7 +65,7 @@ fn tdcs_seen(words: &[u64], page: u16) -> TdcsSeen
     let parity = (epoch % 2) as u16;
     TdcsSeen {
         page: page as u64,
-        op: op_of(word_in(words, page, TDCS_OP)),
+        op: op_told(word_in(words, page, TDCS_OP)),
         epoch,
         entered: word_in(words, page, TDCS_ENTERED + parity),
         entered_before: word_in(words, page, TDCS_ENTERED + (1 - parity)),
@@ -117,9 +89,9 @@ fn tdcs_found(words: &[u64], tdr: u16) -> Option<TdcsSeen>
 
 // Whether a TD isn't in TD_TEARDOWN.
 fn stands(words: &[u64], tdr: u16) -> bool
-    ensures { result ≡ stands (life_of (word_in words.now tdr TDR_LIFE)) true false }
+    ensures { result ≡ stands (life_told (word_in words.now tdr TDR_LIFE)) true false }
 {
-    match life_of(word_in(words, tdr, TDR_LIFE)) {
+    match life_told(word_in(words, tdr, TDR_LIFE)) {
         LifeState::Teardown => false,
         _ => true,
     }
@@ -129,7 +101,7 @@ fn td_seen(words: &[u64], tdr: u16) -> TdSeen
     ensures { result ≡ td_seen words.now tdr }
 {
     TdSeen {
-        life: life_of(word_in(words, tdr, TDR_LIFE)),
+        life: life_told(word_in(words, tdr, TDR_LIFE)),
         hkid: word_in(words, tdr, TDR_HKID),
         children: word_in(words, tdr, TDR_CHILDREN),
         tdcs: tdcs_found(words, tdr),
@@ -147,7 +119,7 @@ fn vcpu_seen(words: &[u64], vp: u16) -> VcpuSeen
 {
     VcpuSeen {
         index: word_in(words, vp, VP_INDEX),
-        state: vcpu_of(word_in(words, vp, VP_STATE)),
+        state: vcpu_told(word_in(words, vp, VP_STATE)),
         position: word_in(words, vp, VP_POSITION),
         associated: lp_in(word_in(words, vp, VP_ASSOCIATED)),
         last_epoch: word_in(words, vp, VP_LAST_EPOCH),

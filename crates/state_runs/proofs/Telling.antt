@@ -1,5 +1,5 @@
 -- What is read at the end is the state's text.
-use Rattle.std.proofs.Common.{◌≡◌, inl, inr, refl, sym, ◌∙◌, ap, subst, ℕ, ◌<◌, List, [], ◌∷◌, ◌++◌, length, Option, Some, None, option_map, Result, Ok, Err, OnOk, map, zero, suc, get_or, append_assoc, arith}
+use Rattle.std.proofs.Common.{◌≡◌, Bool, true, false, refl, sym, ◌∙◌, ap, subst, ℕ, ◌<◌, List, [], ◌∷◌, ◌++◌, length, Option, Some, None, option_map, Result, Ok, Err, OnOk, map, zero, suc, get_or, append_assoc, arith}
 use Rattle.std.specs.Global.{Vec}
 use Rattle.td_words.specs.declared.machines.Machine.{Machine}
 use Rattle.td_words.specs.Place.{WordPlace, Lock, Pamt, Word, Key, IsIn, address}
@@ -12,10 +12,6 @@ use Rattle.flat_core.specs.Laws.{EveryWorldIsLawful}
 use Rattle.word_rules.specs.Cells.{cell, IsAs}
 use Rattle.step_core.specs.Words.{word_count}
 use Rattle.step_core.specs.Items.{Table}
-use Rattle.step_core.specs.declared.items.Taken.{Taken}
-use Rattle.atomic_table.specs.Seated.{TableId}
-use Rattle.trace_table.specs.Merges.{MergesTo}
-use Rattle.trace_table.specs.Benches.{BenchSeen}
 use Rattle.leaf_engine.specs.declared.events.HeldLock.{HeldLock}
 use Rattle.leaf_engine.specs.Following.{StandsOn}
 use Rattle.leaf_engine.specs.Guests.{WordGuest}
@@ -30,8 +26,10 @@ use Rattle.leaf_dispatch.specs.Due.{in_guest, step_held}
 use Rattle.leaf_dispatch.specs.Held.{held_by}
 use Rattle.leaf_dispatch.specs.States.{seen_of}
 use Rattle.run_texts.proofs.Places.{seen-at}
-use Rattle.run_texts.specs.Replaying.{TurnsAreEvents, seen_at}
-use Rattle.run_texts.proofs.Replayed.{IsOpen, are-leaves, where-now}
+use Rattle.run_texts.specs.Replaying.{IsMidway, StandsAt, TurnsAreEvents, seen_at}
+use Rattle.run_texts.specs.Looking.{Goes, HasRun}
+use Rattle.run_texts.specs.declared.turns.Ran.{Ran}
+use Rattle.run_texts.proofs.Replayed.{IsOpen, are-leaves, ended-flat, either}
 use Rattle.state_lines.specs.After.{after_events, state_after}
 use Rattle.state_lines.specs.Laws.{AreShown, WordsTellPages, LpsTell, StatesGoOn}
 use Rattle.state_lines.specs.declared.seen.Holder.TheVariants as holder
@@ -39,9 +37,8 @@ use Rattle.state_lines.specs.Lines.{texts_below, guest_line}
 use Rattle.state_lines.specs.LpRead.{locks_read, run_locks, guest_read, lp_read}
 use Rattle.state_lines.specs.StateText.{page_seen, state_text}
 use Rattle.state_lines.proofs.Texts.{same-texts}
-use Rattle.state_runs.specs.Counting.{IsCounted, IsCounting, AreDone}
+use Rattle.state_runs.specs.Counting.{IsCounting}
 use Rattle.state_runs.specs.Reading.{lps_read, state_read}
-use Rattle.trace_table.proofs.Alone.{alone-at}
 
 -- a place of a machine has an address among its words
 inside-words : (m : Machine) (q : WordPlace) → IsIn m q → address m.pages q < word_count m
@@ -50,36 +47,22 @@ inside-words m (Pamt p) h = omega (arith, h)
 inside-words m (Word p i) h = omega (arith, h)
 inside-words m (Key k) h = omega (arith, h)
 
-module _ (ls : TurnsAreEvents) (go : StatesGoOn) (pages : WordsTellPages) (tell : LpsTell) (lawful : EveryWorldIsLawful) (o : Opening) (n : ℕ) (schedule : List ℕ) (due : ℕ) (lps : List LpState) (id : TableId) (b : BenchSeen) (words : List ℕ) (op : IsOpen o)
-    (l : IsCounting o n schedule [] due lps id b) (done : AreDone due (length lps) lps) (closed : MergesTo o.machine b.pass.lists words) where
-  one : MergesTo o.machine (l.own ∷ []) words
-  one = subst (λ (z : List (List Taken)). MergesTo o.machine z words) (ap (λ (z : BenchSeen). z.pass.lists) l.is) closed
-
+module _ (ls : TurnsAreEvents) (pages : WordsTellPages) (tell : LpsTell) (lawful : EveryWorldIsLawful) (o : Opening) (sought : State → List ℕ → Type 0) (left : List ℕ) (lps : List LpState) (words : List ℕ) (op : IsOpen o) (l : StandsAt o left sought lps words) where
   abbrev t : Table
-  t = one.table
+  t = l.table
 
-  now : IsCounted o n schedule [] due lps t
-  now = l.counted t (alone-at o.machine l.own words one)
+  abbrev now : IsMidway o left sought lps t
+  now = l.midway
 
   abbrev s : State
   s = play o (order now.made) (start o None)
-
-  -- it is the state that was asked for
-  is-after : s ≡ state_after o n schedule
-  is-after = by done
-    where
-      by : AreDone due (length lps) lps → s ≡ state_after o n schedule
-      by (inl e) = sym (ap (λ (k : ℕ). after_events o k (to_the_end 0 o.calls) s) e) ∙ now.leads
-      by (inr ended) =
-          sym (go.ended o s due (λ q less. (where-now ls o now.made (seen_at lps) t op now.merge).lines q less ∙ ended q (omega (arith, l.count, less))))
-          ∙ now.leads
 
   shown-by : IsShownBy o.machine t s
   shown-by = (ls.merges.turns o (leaf_table o.machine (given_of o) o.codes) now.made (seen_at lps) t op.few (are-leaves ls o op) op.codes now.merge).0
 
   shown : AreShown o.machine words s
   shown q inside =
-      subst (λ (v : ℕ). IsAs (cell s q) v) (sym (one.words_are (address o.machine.pages q) (inside-words o.machine q inside) ∙ shown-by.is.words q inside)) (shown-by.shows.word q inside)
+      subst (λ (v : ℕ). IsAs (cell s q) v) (sym (l.words_are (address o.machine.pages q) (inside-words o.machine q inside) ∙ shown-by.is.words q inside)) (shown-by.shows.word q inside)
 
   lawful-now : Lawful o.machine s.world
   lawful-now = lawful o None (order now.made)
@@ -87,14 +70,32 @@ module _ (ls : TurnsAreEvents) (go : StatesGoOn) (pages : WordsTellPages) (tell 
   stands : (p : ℕ) → p < length o.calls → StandsOn o (leaf_table o.machine (given_of o) o.codes p) p s t (seen_at lps p)
   stands p inside = ls.merges.stand o (leaf_table o.machine (given_of o) o.codes) now.made (seen_at lps) t op.few (are-leaves ls o op) op.codes now.merge p inside
 
-  pub reads : state_read o.machine.pages words o.calls lps ≡ state_text o (state_after o n schedule)
+  reads-now : state_read o.machine.pages words o.calls lps ≡ state_text o s
   unfolding state_text
-  reads =
+  reads-now =
       ap (λ z. z ++ lps_read words o.calls lps (length lps)) (pages.pages o.machine words s op.machine lawful-now shown)
-      ∙ (ap (λ z. texts_below (page_seen s.world) o.machine.pages ++ z)
+      ∙ ap (λ z. texts_below (page_seen s.world) o.machine.pages ++ z)
       (ap (lps_read words o.calls lps) l.count
       ∙ same-texts _ _ (length o.calls) (λ p less. tell o (leaf_table o.machine (given_of o) o.codes p) p (length (calls_of o.calls p)) words s (stands p less).memory.words (seen_at lps p) op.machine lawful-now shown (stands p less).stands))
-      ∙ ap (state_text o) is-after)
+
+-- and that is the state that was asked for
+pub reads : TurnsAreEvents → StatesGoOn → WordsTellPages → LpsTell → EveryWorldIsLawful → (o : Opening) (n : ℕ) (schedule : List ℕ) (due : ℕ) (lps : List LpState) (words : List ℕ) → IsOpen o → (ended : Bool)
+    → Goes (due ≡ 0) (length lps) lps (λ left. StandsAt o left (IsCounting n due o schedule) lps words) ended → state_read o.machine.pages words o.calls lps ≡ state_text o (state_after o n schedule)
+reads ls go pages tell lawful o n schedule due lps words op true h =
+    let sought : State → List ℕ → Type 0 = IsCounting n due o schedule in
+    let now = h.1.midway in
+    let s = play o (order now.made) (start o None) in
+    let none = λ (q : ℕ) (less : q < length o.calls). ended-flat ls o [] sought lps h.1.table q op now less (h.0 q (omega (arith, h.1.count, less))) in
+    reads-now ls pages tell lawful o sought [] lps words op h.1 ∙ ap (state_text o) (sym (go.ended o s due none) ∙ now.holds)
+reads ls go pages tell lawful o n schedule due lps words op false h =
+    let left = h.1.0 in
+    let now = h.1.1.midway in
+    let s = play o (order now.made) (start o None) in
+    reads-now ls pages tell lawful o (IsCounting n due o schedule) left lps words op h.1.1
+    ∙ ap (state_text o) (sym (ap (λ (k : ℕ). after_events o k (left ++ to_the_end 0 o.calls) s) h.0) ∙ now.holds)
+
+pub count-of : (o : Opening) (n : ℕ) (schedule : List ℕ) (due : ℕ) (r : Ran) → HasRun (IsCounting n) (λ k. k ≡ 0) o schedule due r → length r.lps.items ≡ length o.calls
+count-of o n schedule due r = either (due ≡ 0) (length r.lps.items) r.lps.items (λ left. StandsAt o left (IsCounting n due o schedule) r.lps.items r.words.words) r.ended (λ left l. l.count)
 
 -- a guest is told with its locks
 

@@ -1,3 +1,2 @@
 pub mod Counting
 pub mod Reading
-pub mod Bare

@@ -1,18 +1,17 @@
-//! A turn, and what it tells.
+//! Turns, and what they tell.
 
-ghost use Rattle.std.specs.Prelude.{◌≡◌, ◌+◌, ◌<◌, ◌^◌, option_map, List, ℕ};
-ghost use Rattle.td_words.specs.declared.replies.Reply.{Reply};
-ghost use Rattle.leaf_dispatch.specs.States.{seen_of};
+ghost use Rattle.std.specs.Prelude.{◌≡◌, option_map};
 ghost use Rattle.leaf_table.specs.Steps.{step_seen};
 ghost use Rattle.trace_lines.specs.Traces.{reply_behind};
 ghost use Rattle.trace_laws.specs.Told.{step_told, event_told};
-ghost use Rattle.trace_table.specs.Benches.{bench_of};
-ghost use Rattle.trace_runs.specs.Tracing.{act_by, TurnTells};
+ghost use Rattle.trace_runs.specs.Tracing.{act_by};
 
 use leaf_dispatch::LpState;
 use leaf_engine::{Event, Processor, Turn};
 use leaf_table::Step;
+use run_texts::Onlooker;
 use td_words::Reply;
+use trace_laws::turns_told;
 use trace_lines::{Traced, What};
 use trace_table::SharedBench;
 
@@ -72,26 +71,44 @@ fn reply_behind(before: usize, replies: &[Reply]) -> Option<Reply>
     }
 }
 
-/// A processor's turn, and its event, which is the one of that number.
-pub fn turn_told(
-    state: &mut LpState<'_>,
-    lp: u8,
-    number: u64,
-    bench: &mut SharedBench<'_>,
-) -> Option<Traced>
-    requires { state.old.place.machine ≡ (bench_of bench.old).machine }
-    ensures { TurnTells number lp state.old bench.old state.new bench.new result }
-{
-    let act = act_by(state.next_step());
-    let before = state.replies().len();
-    match state.turn(bench) {
-        Turn::Ended => None,
-        Turn::Moved(event) => Some(Traced {
-            number,
+/// It tells each event, behind those that it has told.
+pub struct Telling;
+
+impl Onlooker for Telling {
+    type Seen = Vec<Traced>;
+
+    ghost use Rattle.trace_runs.specs.Tracing.{IsTelling};
+
+    ghost seeks = { λ w. IsTelling };
+
+    ghost stops = { λ told. Unit {0} };
+
+    fn turn(
+        &self,
+        told: &mut Vec<Traced>,
+        lp: u8,
+        state: &mut LpState<'_>,
+        bench: &mut SharedBench<'_>,
+    ) -> Option<bool> {
+        turns_told();
+        let Ok(()) = told.reserve(1) else {
+            return None;
+        };
+        let act = act_by(state.next_step());
+        let before = state.replies().len();
+        let Turn::Moved(event) = state.turn(bench) else {
+            return Some(false);
+        };
+        let traced = Traced {
+            number: told.len() as u64 + 1,
             lp,
             line: before as u32 + 1,
             what: event_told(act, event),
             reply: reply_behind(before, state.replies()),
-        }),
+        };
+        let Ok(()) = told.push(traced) else {
+            unreachable!()
+        };
+        Some(true)
     }
 }
