@@ -1,8 +1,10 @@
 -- What a run has sealed comes in as it was made, so nothing of it is forged.
-use Rattle.std.proofs.Common.{◌≡◌, sym, ◌∙◌, ap, subst, ℕ, List, [], ◌∷◌, ◌++◌, map, get_or, Option, Some, Ok, Result, ◌==◌, nat_le}
-use Rattle.std.specs.Prelude.{IfSome}
+use Rattle.std.proofs.Common.{◌≡◌, ◌≢◌, ◌<◌, refl, sym, ◌∙◌, ap, subst, ℕ, List, [], ◌∷◌, ◌++◌, map, get_or, Option, Some, Ok, Result, ◌==◌, nat_le, arith}
+use Rattle.std.specs.Prelude.{IfSome, AllPairs}
 use Rattle.std.specs.List.{All}
+use Rattle.std.proofs.lemmas.Bool.{eq-eqb, ne_eqb}
 use Rattle.std.proofs.lemmas.List.Elements.{All-nil, All-cons, All-head, All-tail}
+use Rattle.std.proofs.lemmas.List.Sorted.{All-permutation, IsPermutation-sym}
 use Rattle.td_words.specs.declared.names.HeaderField.{HeaderField}
 use Rattle.flat_core.specs.World.{ClearHeader, Made}
 use Rattle.flat_core.specs.Opening.{Opening, Incoming}
@@ -18,12 +20,14 @@ use Rattle.mig_laws.proofs.Places.{by_places, at_place}
 use Rattle.mig_laws.proofs.Destination.{starts_from_its_pause}
 use Rattle.bundle_texts.specs.Sealed.{key_of, iv_bytes, additional_bytes, sealed_payload, tag_of, sealed_bytes, sealed}
 use Rattle.bundle_texts.specs.Ordered.{put_in, in_slot_order}
+use Rattle.bundle_texts.proofs.Order.{Rise, order_moves, order_rises}
+use Rattle.bundle_texts.proofs.Pairs.{pairs_head, pairs_tail}
 use Rattle.bundle_texts.proofs.Sizes.{length-tag_bytes, length-word_bytes}
 use Rattle.incoming.specs.Opened.{opened}
 use Rattle.incoming.specs.Arrivals.{incoming_in, at_slot}
 use Rattle.incoming.specs.Laws.{IsWhole}
 use Rattle.incoming.proofs.Sealed.{sealed-comes-in}
-use Rattle.image_laws.specs.Containers.{brought, NothingIsForged, ContainersBringImages, ContainersBringWords}
+use Rattle.image_laws.specs.Containers.{brought, as_made, ContainersBringBundles, NothingIsForged, ContainersBringImages, ContainersBringWords}
 
 -- what holds of bundles holds of them in the order of their slots
 put_holds : (P : Made → Type 0) (m : Made) (ns : List Made) → P m → All P ns → All P (put_in m ns)
@@ -55,6 +59,23 @@ module _ (forward backward : List ℕ) (made : List Made) where
 
   each_whole : All IsFormed made → All HasWords made → All Whole made
   each_whole forms words k d inside = whole_at (get_or made k d) (forms k d inside) (words k d inside)
+
+  -- each comes in as it was made, in its slot
+  abbrev StandsIn : List Made → Made → Type 0
+  StandsIn ms m = at_slot (map (incoming_in forward backward) (map (sealed forward backward) ms)) m.slot ≡ Some (as_made m)
+
+  stand_in : (ms : List Made) → All Whole ms → Rise ms → All (StandsIn ms) ms
+  stand_in [] whole rise = All-nil (StandsIn [])
+  stand_in (m ∷ ms) whole rise =
+      let rest : All (StandsIn ms) ms = stand_in ms (All-tail Whole m ms whole) (pairs_tail (λ (x y : Made). x.slot < y.slot) m ms rise) in
+      let above : All (λ n. m.slot < n.slot) ms = pairs_head (λ (x y : Made). x.slot < y.slot) m ms rise in
+      All-cons (StandsIn (m ∷ ms)) m ms first (λ k d inside. later (get_or ms k d) (above k d inside) (rest k d inside))
+    where
+      first : StandsIn (m ∷ ms) m
+      first = rw (eq-eqb m.slot m.slot refl) (ap (λ (z : Incoming). Some z) (sealed-comes-in forward backward m (All-head Whole m ms whole)))
+
+      later : (n : Made) → m.slot < n.slot → StandsIn ms n → StandsIn (m ∷ ms) n
+      later n above there = rw (ne_eqb m.slot n.slot (λ e. omega (arith, above, e))) there
 
   -- what one of them opens to is among them
   abbrev Opens : Made → Type 0
@@ -89,9 +110,17 @@ module _ (forward backward : List ℕ) (q : Opening) (to_tell : Option (List ℕ
   all_whole : All (Whole forward backward made) made
   all_whole = each_whole forward backward made (every_bundle_is_formed q to_tell schedule short) (bundles_have_words q to_tell schedule gives telling)
 
+  arrive : AllPairs (λ m n. m.slot ≢ n.slot) made → All (λ m. brought forward backward made m.slot ≡ Some (as_made m)) made
+  arrive apart =
+      All-permutation (λ m. brought forward backward made m.slot ≡ Some (as_made m)) (in_slot_order made) made (IsPermutation-sym made (in_slot_order made) (order_moves made))
+      (stand_in forward backward made (in_slot_order made) (order_holds (Whole forward backward made) made all_whole) (order_rises made apart))
+
   unforged : (o : Opening) → ((slot : ℕ) → o.bundles slot ≡ brought forward backward made slot) → Unforged o made
   unforged o same slot b h is has opens kind =
       come_in forward backward made (in_slot_order made) (order_holds (Opens forward backward made) made (each_opens forward backward made all_whole)) slot b h (sym (same slot) ∙ is) has
+
+pub containers_bring_bundles : ContainersBringBundles
+containers_bring_bundles forward backward q to_tell schedule short gives telling = arrive forward backward q to_tell schedule short gives telling
 
 pub nothing_is_forged : NothingIsForged
 nothing_is_forged forward backward q to_tell schedule short gives telling = unforged forward backward q to_tell schedule short gives telling

@@ -1,5 +1,5 @@
 -- What comes in by a container is what was sealed into it (TD Migration Architecture, "Migration Bundles").
-use Rattle.std.specs.Prelude.{◌≡◌, ℕ, List, map, Option, Some, IfSome}
+use Rattle.std.specs.Prelude.{◌≡◌, ◌≢◌, ℕ, List, map, Option, Some, Ok, true, IfSome, All, AllPairs}
 use Rattle.flat_core.specs.World.{Image, Made}
 use Rattle.flat_core.specs.Opening.{Opening, Incoming}
 use Rattle.flat_core.specs.Run.{bundles_in}
@@ -15,7 +15,17 @@ use Rattle.incoming.specs.Arrivals.{incoming_in, at_slot}
 abbrev pub brought : (forward backward : List ℕ) → List Made → ℕ → Option Incoming
 brought forward backward made = at_slot (map (incoming_in forward backward) (map (sealed forward backward) (in_slot_order made)))
 
--- Of what a run has made that was given words of 64 bits, nothing that comes in so is forged.
+-- a bundle that comes in as it was made: under its header, with the tag right, and with the words of its payload
+abbrev pub as_made : Made → Incoming
+as_made m = record { header = Ok m.header; opens = true; payload = m.payload }
+
+-- Of what a run has made that was given words of 64 bits, each bundle comes in so in its slot, where no two are in one slot.
+abbrev pub ContainersBringBundles : Type 0
+ContainersBringBundles = (forward backward : List ℕ) (q : Opening) (words_to_tell : Option (List ℕ)) (schedule : List ℕ) → AreCodesShort q → GivesWords q → AreToTell words_to_tell
+    → let made = bundles_in (reached q words_to_tell schedule) in
+    AllPairs (λ m n. m.slot ≢ n.slot) made → All (λ m. brought forward backward made m.slot ≡ Some (as_made m)) made
+
+-- And nothing that comes in so is forged.
 abbrev pub NothingIsForged : Type 0
 NothingIsForged = (forward backward : List ℕ) (q : Opening) (words_to_tell : Option (List ℕ)) (schedule : List ℕ) → AreCodesShort q → GivesWords q → AreToTell words_to_tell
     → let made = bundles_in (reached q words_to_tell schedule) in

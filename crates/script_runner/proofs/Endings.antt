@@ -9,14 +9,15 @@ use Rattle.command_files.specs.Commands.{CommandSeen, Replay, Run, Check}
 use Rattle.command_files.specs.Inputs.{Reads}
 use Rattle.script_runner.specs.Ending.{ToSave, Ended, memory_end, unwritten_end, success_end, handed_held, ending_of, IsOrderIn, HandedOut}
 use Rattle.script_runner.specs.Saving.{Writes, AllSaved, IsAmong}
-use Rattle.script_runner.specs.Ends.{Faults, IsEnding, PutsPart, PutsBehind, TellsName, TellsUnsaved, Tells, EndsWith, OneRun, IsBadScript, IsAbsent, IsBadContainer, IsBadKeysOrSecrets, IsComplete, success_text, IsOwnText, PutsFronts, PutsFrontsOf}
+use Rattle.script_runner.specs.Ends.{Faults, IsEnding, PutsPart, PutsBehind, TellsName, TellsUnsaved, Tells, EndsWith, ShowsThreads, IsBadScript, IsAbsent, IsBadContainer, IsBadKeysOrSecrets, IsComplete, success_text, IsOwnText, PutsFronts, PutsFrontsOf}
+use Rattle.script_runner.specs.Threads.{ThreadsOf}
 use Rattle.script_runner.specs.Commanded.{Outputs, Puts, PutsWant, DoesCommand}
 use Rattle.script_runner.proofs.Asked.{asks}
 use Rattle.script_runner.proofs.Part.{puts_part}
-use Rattle.script_runner.proofs.Due.{IsRun, Due, due, some_order, same_status, Usage, Absent, BadScript, Want, BadContainer, BadLength, Success}
+use Rattle.script_runner.proofs.Due.{Due, due, some_order, same_status, Usage, Absent, BadScript, Want, BadContainer, BadLength, Success}
 use Rattle.script_runner.proofs.Closing.{Closing, closing, saved_later, unput, never_zero, Told, Lost, Wanting, Whole, Unsaved, WantingAfter}
 use Rattle.script_runner.proofs.Came.{rose_earlier}
-use Rattle.script_runner.proofs.Told.{told_ending}
+use Rattle.script_runner.proofs.Told.{ToldRun, told_ending}
 
 -- ---- what is due, by its status
 
@@ -24,15 +25,6 @@ pub success_zero : (k : CommandSeen) (s : ScriptSeen) (handed : HandedOut) (orde
 success_zero (Replay n) s handed order = refl
 success_zero (Run n) s handed order = refl
 success_zero (Check name) s handed order = refl
-
-run_of : (contents : List ℕ → Option (List ℕ)) (c : Option CommandSeen) (order : List ℕ) (e : Ended) → Due contents c order e → e.status ≡ 0 → IsRun contents c order e
-run_of contents c order e (Usage none is) s = absurd (let t = ap (λ (x : Ended). x.status) is in omega (arith, t, s))
-run_of contents c order e (Absent name a is) s = absurd (let t = ap (λ (x : Ended). x.status) is in omega (arith, t, s))
-run_of contents c order e (BadScript line reason b is) s = absurd (let t = ap (λ (x : Ended). x.status) is in omega (arith, t, s))
-run_of contents c order e (Want is) s = absurd (let t = ap (λ (x : Ended). x.status) is in omega (arith, t, s))
-run_of contents c order e (BadContainer place b is) s = absurd (let t = ap (λ (x : Ended). x.status) is in omega (arith, t, s))
-run_of contents c order e (BadLength b is) s = absurd (omega (arith, is, s))
-run_of contents c order e (Success r) s = r
 
 bad_of : (contents : List ℕ → Option (List ℕ)) (c : Option CommandSeen) (order : List ℕ) (e : Ended) → Due contents c order e → e.status ≡ 2 → IsBadScript contents c
 bad_of contents c order e (Usage none is) s = absurd (let t = ap (λ (x : Ended). x.status) is in omega (arith, t, s))
@@ -154,6 +146,27 @@ ends_with (Some k) c r r' w w' o o' status (inr (part, kept, want)) = inr (want.
 
 -- ---- what each status says
 
+-- the run of a status 0, whose order is for a run that of what threads made
+pub one_run : (contents : List ℕ → Option (List ℕ)) (c : Option CommandSeen) (e : Ended) → ToldRun contents c e → (old new : Option (List ℕ)) → Gains old e.text new → (w w' : Writes) → AllSaved e.files w w'
+    → ShowsThreads contents c old new w w'
+one_run contents c e r old new gains w w' saved = (
+  record {
+    command = r.command;
+    read_as = r.read_as;
+    bytes = r.bytes;
+    there = r.there;
+    script = r.script;
+    reads = r.reads;
+    fits = r.fits;
+    words = r.words;
+    order = r.order;
+    is_order = r.is_order;
+    prints = subst (λ (x : Ended). Gains old x.text new) r.is gains;
+    saves = subst (λ (x : Ended). AllSaved x.files w w') r.is saved;
+  },
+  subst (λ (x : Ended). ThreadsOf r.command r.script (handed_held contents r.command) r.order x) r.is r.threads,
+)
+
 module _ (before after : Faults) (contents : List ℕ → Option (List ℕ)) (c : Option CommandSeen) (old new : Option (List ℕ)) (status : ℕ) where
   -- behind the text the status is 4 or 5
   unsaved_status : (replies : List ℕ) (files : List ToSave) → TellsUnsaved before after files replies old new status → (status ≡ 4) ⊎ (status ≡ 5)
@@ -190,24 +203,6 @@ module _ (before after : Faults) (contents : List ℕ → Option (List ℕ)) (c 
       let (order, in_order, d) = due_ending e (λ q. x3 (sym own ∙ q)) ending in
       (e, order, d, own)
   due_at s x3 x4 x5 is (inr h) = absurd (x5 (sym is ∙ h.0))
-
-  pub one_run : status ≡ 0 → (e : Ended) → IsEnding before after contents c e → e.status ≡ 0 → Gains old e.text new → (w w' : Writes) → AllSaved e.files w w' → OneRun contents c old new w w'
-  one_run zero e ending own gains w w' saved =
-      let (order, in_order, d) = due_ending e (λ q. omega (arith, q, own)) ending in
-      let r : IsRun contents c order e = run_of contents c order e d own in
-      record {
-        command = r.command;
-        read_as = r.read_as;
-        bytes = r.bytes;
-        there = r.there;
-        script = r.script;
-        reads = r.reads;
-        fits = r.fits;
-        order = order;
-        is_order = in_order r.command r.bytes r.script r.read_as r.there r.reads;
-        prints = subst (λ (x : Ended). Gains old x.text new) r.is gains;
-        saves = subst (λ (x : Ended). AllSaved x.files w w') r.is saved;
-      }
 
   pub bad_script : status ≡ 2 → EndsWith before after contents c old new status → IsBadScript contents c
   bad_script two h = let (e, order, d, own) = due_at 2 (λ q. omega (arith, q)) (λ q. omega (arith, q)) (λ q. omega (arith, q)) two h in bad_of contents c order e d own

@@ -18,7 +18,7 @@ use Rattle.command_files.specs.declared.inputs.InputFault.TheVariants as fault
 use Rattle.command_files.specs.Inputs.{Reads}
 use Rattle.script_runner.specs.Ending.{ToSave, Ended, memory_end, keys_end, secrets_end, unwritten_end, success_end, ending_of, HandedOut}
 use Rattle.script_runner.specs.Saving.{Writes, AllSaved, out_names}
-use Rattle.script_runner.specs.Ends.{Faults, ReadCause, WriteCause, EndsWith, OneRun, IsBadScript, IsBadContainer, IsBadKeysOrSecrets, IsComplete, PutsFrontsOf}
+use Rattle.script_runner.specs.Ends.{Faults, ReadCause, WriteCause, EndsWith, OneRun, ShowsThreads, IsBadScript, IsBadContainer, IsBadKeysOrSecrets, IsComplete, PutsFrontsOf}
 use Rattle.script_runner.specs.Threads.{ThreadsOf}
 use Rattle.script_runner.specs.Done.{PutsOnce, PutsText, HoldsOfRun, PutsRun, PutsAndSaved, PutsUsage, PutsFault, PutsName, PutsPlace, PutsLength, before_keys, before_secrets, PutsKeysOrSecrets, PutsThreads, PutsLost, PutsMemory, SavesNothing, ChangesNothing, SavesFront, KeepsOrSaves}
 use Rattle.script_runner.specs.Promised.{LoadsSome}
@@ -26,7 +26,7 @@ use Rattle.script_runner.proofs.Asked.{asks}
 use Rattle.script_runner.specs.Commanded.{Comes, ComesPart, AnswerEnd, ScriptEnd, ReadEnd, FurtherPart, Outputs, Puts, DoesCommand}
 use Rattle.script_runner.proofs.Closing.{Closing, closing, saved_later, unput, never_zero, Told, Lost, Wanting, Whole, Unsaved, WantingAfter}
 use Rattle.script_runner.proofs.Came.{Came, LengthCame, SomeLength, came, files_few, rose_earlier, Usage, Unread, BadScript, Want, Place, WrongLength, Success}
-use Rattle.script_runner.proofs.Told.{told_ending}
+use Rattle.script_runner.proofs.Told as told
 use Rattle.script_runner.proofs.Endings.{ends_with, some_file, success_zero}
 use Rattle.script_runner.proofs.Endings as endings
 
@@ -517,16 +517,19 @@ module _ (contents : Option (List ℕ → Option (List ℕ))) (c : Option Comman
   pub all_ends : Does → IfSome contents Ends
   all_ends d = ends_with contents c r r' w w' o o' status d
 
-  pub told_run : Does → status ≡ 0 → IfSome contents (λ k. OneRun k c o.told o'.told w w')
-  told_run (inl (e, comes, p)) zero = by contents comes
+  pub told_threads : Does → status ≡ 0 → IfSome contents (λ k. ShowsThreads k c o.told o'.told w w')
+  told_threads (inl (e, comes, p)) zero = by contents comes
     where
       whole : (e.status ≡ 0) × PutsOnce o.puts e.text (Ok tt) o'.puts × AllSaved e.files w w' × Gains o.told e.text o'.told
       whole = closes_whole names e (few_of e comes) w w' o o' status zero (closing e w w' o o' status p)
 
-      by : (k : Option (List ℕ → Option (List ℕ))) → Comes k (asks c) r r' e → IfSome k (λ k. OneRun k c o.told o'.told w w')
+      by : (k : Option (List ℕ → Option (List ℕ))) → Comes k (asks c) r r' e → IfSome k (λ k. ShowsThreads k c o.told o'.told w w')
       by None h = tt
-      by (Some k) h = endings.one_run before after k c o.told o'.told status zero e (told_ending before after k c r r' e refl refl h) whole.0 whole.3 w w' whole.2
-  told_run (inr (part, kept, want)) zero = absurd (let q = want.0 in omega (arith, q, zero))
+      by (Some k) h = endings.one_run k c e (told.told_run k c r r' e h whole.0) o.told o'.told whole.3 w w' whole.2
+  told_threads (inr (part, kept, want)) zero = absurd (let q = want.0 in omega (arith, q, zero))
+
+  pub told_run : Does → status ≡ 0 → IfSome contents (λ k. OneRun k c o.told o'.told w w')
+  told_run d zero = if_some {P = λ k. ShowsThreads k c o.told o'.told w w'} {Q = λ k. OneRun k c o.told o'.told w w'} contents (λ k h. h.0) (told_threads d zero)
 
   pub told_complete : Does → IfSome contents (λ k. (order : List ℕ) → IsComplete before after (ending_of k c order) status)
   told_complete d = if_some {P = Ends} {Q = λ k. (order : List ℕ) → IsComplete before after (ending_of k c order) status} contents (λ k h. endings.complete before after k c o.told o'.told status h) (all_ends d)

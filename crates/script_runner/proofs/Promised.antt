@@ -58,13 +58,15 @@ module _ (access : AccessesAreOwn) (prints : BlindRunsPrintTheSame) (bundles : B
     headline : status ≡ 0 → (c : Option CommandSeen) → Does (asks c) → PutsHeadline c r.loads r'.loads o.puts o'.puts w w'
     headline zero c d = blind.headline prints bundles agreeing access image carrying _ _ _ _ _ _ _ (past.put_threads contents c r r' w w' o o' status d zero)
 
-  by_contents : (held : List ℕ → Option (List ℕ)) (r r' : Reads) (w w' : Writes) (o o' : Outputs) (status : ℕ) (c : Option CommandSeen) → DoesCommand (Some held) (asks c) r r' w w' o o' status
+  by_contents : (held : List ℕ → Option (List ℕ)) (r r' : Reads) (w w' : Writes) (o o' : Outputs) (status : ℕ) → w.contents ≡ Some held → (c : Option CommandSeen) → DoesCommand (Some held) (asks c) r r' w w' o o' status
       → ByContents held c r r' w w' o o' status
-  by_contents held r r' w w' o o' status c d = record {
+  by_contents held r r' w w' o o' status told c d = record {
     one_run = past.told_run (Some held) c r r' w w' o o' status d;
     one_accesses = λ zero. in-one access (Some held) _ _ _ _ _ (past.told_run (Some held) c r r' w w' o o' status d zero);
+    one_threads = past.told_threads (Some held) c r r' w w' o o' status d;
     one_blind = λ zero. blind.one-blind prints bundles agreeing (Some held) _ _ _ _ _ (past.told_run (Some held) c r r' w w' o o' status d zero);
     one_images = λ zero. images.in-one image (Some held) _ _ _ _ _ (past.told_run (Some held) c r r' w w' o o' status d zero);
+    one_brings = λ zero. brings.in-one carrying held _ _ _ _ _ told (past.told_run (Some held) c r r' w w' o o' status d zero);
     ends = past.all_ends (Some held) c r r' w w' o o' status d;
     complete = past.told_complete (Some held) c r r' w w' o o' status d;
     bad = past.told_bad (Some held) c r r' w w' o o' status d;
@@ -85,11 +87,11 @@ module _ (access : AccessesAreOwn) (prints : BlindRunsPrintTheSame) (bundles : B
   all_headlines contents asked r r' w w' o o' status d zero =
       of_scripts (Does contents r r' w w' o o' status) (λ c. PutsHeadline c r.loads r'.loads o.puts o'.puts w w') (headline contents r r' w w' o o' status zero) asked d
 
-  pub all_contents : (contents : Option (List ℕ → Option (List ℕ))) (asked : Option AskedSeen) (r r' : Reads) (w w' : Writes) (o o' : Outputs) (status : ℕ) → DoesCommand contents asked r r' w w' o o' status
+  pub all_contents : (contents : Option (List ℕ → Option (List ℕ))) (asked : Option AskedSeen) (r r' : Reads) (w w' : Writes) (o o' : Outputs) (status : ℕ) → DoesCommand contents asked r r' w w' o o' status → w.contents ≡ contents
       → IfSome contents (λ held. OfScripts asked (λ c. ByContents held c r r' w w' o o' status))
-  all_contents None asked r r' w w' o o' status d = tt
-  all_contents (Some held) asked r r' w w' o o' status d =
-      of_scripts (Does (Some held) r r' w w' o o' status) (λ c. ByContents held c r r' w w' o o' status) (by_contents held r r' w w' o o' status) asked d
+  all_contents None asked r r' w w' o o' status d told = tt
+  all_contents (Some held) asked r r' w w' o o' status d told =
+      of_scripts (Does (Some held) r r' w w' o o' status) (λ c. ByContents held c r r' w w' o o' status) (by_contents held r r' w w' o o' status told) asked d
 
 -- the usage line is put where the words are no command, and a soak never ends in its status
 pub only_usage : (contents : Option (List ℕ → Option (List ℕ))) (asked : Option AskedSeen) (r r' : Reads) (w w' : Writes) (o o' : Outputs) (status : ℕ) → DoesCommand contents asked r r' w w' o o' status → status ≡ 1 → asked ≡ None

@@ -1,5 +1,5 @@
 -- Where contents are told: what is loaded comes to the ending that is due, or a read fault was counted.
-use Rattle.std.proofs.Common.{◌≡◌, ◌⊎◌, inl, inr, refl, sym, ◌∙◌, ap, subst, ℕ, ◌*◌, ◌^◌, ◌<◌, ◌≤◌, List, [], length, drop, Option, Some, None, Result, Ok, Err, IfOk, Bool, true, false, ◌==◌, if◌then◌else◌, arith}
+use Rattle.std.proofs.Common.{lit<, ◌≡◌, ◌⊎◌, inl, inr, refl, sym, ◌∙◌, ap, subst, ℕ, ◌*◌, ◌^◌, ◌<◌, ◌≤◌, List, [], length, drop, Option, Some, None, Result, Ok, Err, IfOk, Bool, true, false, ◌==◌, if◌then◌else◌, arith}
 use Rattle.std.specs.Global.{Vec}
 use Rattle.std.specs.Str.{bytes_eq}
 use Rattle.byteorder.specs.Endian.{little_number}
@@ -7,6 +7,7 @@ use Rattle.std.proofs.lemmas.Bool.{cases_Bool, le-leb, lt-leb, lt-ltb, ne_eqb}
 use Rattle.std.proofs.lemmas.Slice.Eq.{bytes_eq-Decides}
 use Rattle.script_text.specs.declared.faults.Reason.TheVariants.{Length}
 use Rattle.script_text.specs.declared.faults.ScriptFault.{ScriptFault}
+use Rattle.script_text.specs.declared.faults.ScriptFault.TheVariants.{Bad, OutOfMemory}
 use Rattle.script_text.specs.Reading.{read_of}
 use Rattle.script_text.specs.Seen.{ScriptSeen}
 use Rattle.script_text.specs.Needs.{needs_keys}
@@ -21,13 +22,15 @@ use Rattle.command_files.specs.declared.inputs.InputFault.TheVariants as fault
 use Rattle.command_files.specs.declared.inputs.Inputs.{Inputs}
 use Rattle.command_files.specs.Commands.{NamedSeen, CommandSeen, Replay, Run, Check, named_of, script_name}
 use Rattle.command_files.specs.Inputs.{Reads, Loads, LoadsNamed, LoadsNext, TakesInputs, AreSecrets, IsDue, due, load_fault, form_fault, container_fault, length_fault, keys_fault, secrets_fault, secret_word, place_fault, first, bundles_read, bundles_in, keys_in, keys_of}
-use Rattle.script_runner.specs.Ending.{Ended, bad_end, unread_end, run_end, name_in, input_name, held, absent_fault, container_wrong, length_wrong, keys_wrong, form_wrong, wrong_input, held_word, inputs_end, named_end, script_end, read_end, ending_of, IsOrderOf, without, HandedOut, held_by, held_keys, held_bundles, keys_or_none, no_keys}
+use Rattle.script_runner.specs.Ending.{Ended, bad_end, unread_end, run_end, name_in, input_name, held, absent_fault, container_wrong, length_wrong, keys_wrong, form_wrong, wrong_input, command_wrong, held_word, inputs_end, named_end, script_end, read_end, success_end, ending_of, IsOrderOf, without, HandedOut, handed_held, held_by, held_keys, held_bundles, keys_or_none, no_keys}
+use Rattle.script_runner.specs.Brings.{HandsWords}
 use Rattle.script_runner.specs.Ends.{Faults, IsEnding}
-use Rattle.script_runner.specs.Commanded.{Comes, AnswerEnd, ReadEnd, ScriptEnd, NamedEnd, InputsEnd}
+use Rattle.script_runner.specs.Threads.{ThreadsOf}
+use Rattle.script_runner.specs.Commanded.{Comes, AnswerEnd, ReadEnd, ScriptEnd, NamedEnd, InputsEnd, EndsRun, handed_in}
 use Rattle.script_runner.proofs.Asked.{asks}
 use Rattle.script_runner.proofs.Named.{script_end_of}
 use Rattle.script_runner.proofs.Due.{order_found, some_order}
-use Rattle.script_runner.proofs.Came.{loads_later, next_later, rose_later, rose_earlier, first_none}
+use Rattle.script_runner.proofs.Came.{loads_later, next_later, rose_later, rose_earlier, first_none, all_read}
 
 -- ---- without a name
 
@@ -73,6 +76,17 @@ beside i contents most (Some n) old (Some (Err load.TooLong)) new l = by (conten
     by (Some bytes) e told = Fine refl (rw e refl)
 beside i contents most (Some n) old (Some (Err load.Failed)) new l = Failed n refl refl l.cause
 beside i contents most (Some n) old (Some (Err load.OutOfMemory)) new l = Wanting refl
+
+-- one that was read is there
+read_there : (i : Input) (contents : List ℕ → Option (List ℕ)) (most : ℕ) (name : Option (List ℕ)) (old : Reads) (a : Option (Result (Vec ℕ) LoadFault)) (new : Reads)
+    → LoadsNamed (Some contents) most name old a new → load_fault i a ≡ None → absent_fault i (held contents name) ≡ None
+read_there i contents most name old a new l fine = by (beside i contents most name old a new l)
+  where
+    by : Beside i contents name a old.faults new.faults → absent_fault i (held contents name) ≡ None
+    by (Fine f h) = h
+    by (Gone f h) = absurd (let q = sym f ∙ fine in cc)
+    by (Failed n named f rose) = absurd (let q = sym f ∙ fine in cc)
+    by (Wanting f) = absurd (let q = sym f ∙ fine in cc)
 
 container_agrees : (contents : List ℕ → Option (List ℕ)) (name : Option (List ℕ)) (old : Reads) (a : Option (Result (Vec ℕ) LoadFault)) (new : Reads)
     → LoadsNamed (Some contents) (2 ^ 29) name old a new → load_fault input.Bundles a ≡ None → container_fault a ≡ container_wrong (held contents name)
@@ -191,12 +205,20 @@ never_wanting k c s d (Err fault.Keys) e want is h = cc
 never_wanting k c s d (Err fault.Secrets) e want is h = cc
 never_wanting k c s d (Err fault.OutOfMemory) e want is h = h
 
+-- what these loads handed out
+abbrev handed_by : (secrets keys bundles : Option (Result (Vec ℕ) LoadFault)) → HandedOut
+handed_by a b f = record { secrets = secret_word a; keys = keys_or_none (keys_in b); bundles = bundles_in f }
+
+-- that is what was taken
+taken_by : (a b f : Option (Result (Vec ℕ) LoadFault)) (inputs : Inputs) → AreSecrets a inputs.secrets.items → inputs.keys ≡ keys_in b → inputs.bundles.items ≡ bundles_in f → handed_in inputs ≡ handed_by a b f
+taken_by a b f inputs words key_bytes listed = λ x. record { secrets = λ i. words.each i x; keys = keys_or_none (key_bytes x); bundles = listed x }
+
 -- a run's ending, where no fault is due
 run_by : (k : CommandSeen) (c : NamedSeen) (s : ScriptSeen) (d : Option InputFault) (a b f : Option (Result (Vec ℕ) LoadFault)) (res : Result Inputs InputFault) (e : Ended) → d ≡ None → IsDue d res
     → IfOk res (λ inputs. AreSecrets a inputs.secrets.items) → IfOk res (λ inputs. inputs.keys ≡ keys_in b) → IfOk res (λ inputs. inputs.bundles.items ≡ bundles_in f) → InputsEnd k c s res e
-    → (order : List ℕ) × IsOrderOf k s order × (e ≡ run_end c s (record { secrets = secret_word a; keys = keys_or_none (keys_in b); bundles = bundles_in f }) order)
+    → (order : List ℕ) × IsOrderOf k s order × (e ≡ run_end c s (handed_by a b f) order)
 run_by k c s d a b f (Ok inputs) e none is words key_bytes listed ((order, is_order, ends, threads), fit) =
-    (order, is_order, ends ∙ (λ x. run_end c s (record { secrets = λ i. words.each i x; keys = keys_or_none (key_bytes x); bundles = listed x }) order))
+    (order, is_order, ends ∙ ap (λ (h : HandedOut). run_end c s h order) (taken_by a b f inputs words key_bytes listed))
 run_by k c s d a b f (Err (fault.Unread i)) e none is words key_bytes listed h = absurd (cc)
 run_by k c s d a b f (Err (fault.Container place)) e none is words key_bytes listed h = absurd (cc)
 run_by k c s d a b f (Err fault.Keys) e none is words key_bytes listed h = absurd (cc)
@@ -345,6 +367,52 @@ module _ (contents : List ℕ → Option (List ℕ)) (k : CommandSeen) (c : Name
       ∙ ap (λ (x : Option InputFault). first (container_wrong (held contents c.bundles)) (first (keys_wrong needed (held contents c.keys)) x))
       (length_agrees input.Secrets 4096 fault.Secrets (omega arith) contents c.secrets t.behind_keys t.secrets r' (secrets_loaded fine fine') fine'')
 
+  -- what was loaded is what names have, where all of it has its form
+  same_handed : load_fault input.Bundles t.bundles ≡ None → load_fault input.Keys t.keys ≡ None → load_fault input.Secrets t.secrets ≡ None → form_fault needed t.bundles t.keys t.secrets ≡ None
+      → handed_by t.secrets t.keys t.bundles ≡ held_by contents c.secrets c.keys c.bundles
+  same_handed fine fine' fine'' formed =
+      let (right'', more) = first_none _ _ formed in
+      let (right', right) = first_none _ _ more in
+      let words : secret_word t.secrets ≡ held_word (held contents c.secrets) = λ x i. words_agree contents c.secrets t.behind_keys t.secrets r' (secrets_loaded fine fine') fine'' right i x in
+      let same_keys : keys_or_none (keys_in t.keys) ≡ held_keys (held contents c.keys) = key_bytes_agree contents c.keys t.behind_bundles t.keys t.behind_keys needed (keys_named fine) fine' right' in
+      let same_bundles : bundles_in t.bundles ≡ held_bundles (held contents c.bundles) = bundles_agree contents c.bundles b t.bundles t.behind_bundles t.bundles_loaded fine right'' in
+      λ x. record { secrets = words x; keys = same_keys x; bundles = same_bundles x }
+
+  -- and none of it is wrong
+  none_wrong : load_fault input.Bundles t.bundles ≡ None → load_fault input.Keys t.keys ≡ None → load_fault input.Secrets t.secrets ≡ None → form_fault needed t.bundles t.keys t.secrets ≡ None → wrong_input contents needed c ≡ None
+  none_wrong fine fine' fine'' formed =
+      let there = read_there input.Bundles contents (2 ^ 29) c.bundles b t.bundles t.behind_bundles t.bundles_loaded fine in
+      let there' = read_there input.Keys contents (2 ^ 16) c.keys t.behind_bundles t.keys t.behind_keys (keys_named fine) fine' in
+      let there'' = read_there input.Secrets contents (2 ^ 16) c.secrets t.behind_keys t.secrets r' (secrets_loaded fine fine') fine'' in
+      at_last (gone_bundles contents) (gone_keys contents) (gone_secrets contents) (wrong_form contents) there there' there'' ∙ sym (forms fine fine' fine'') ∙ formed
+
+  abbrev handed : HandedOut
+  handed = held_by contents c.secrets c.keys c.bundles
+
+  abbrev RunsHeld : Type 0
+  RunsHeld = (wrong_input contents needed c ≡ None) × HandsWords handed × EndsRun k c s handed e
+
+  -- a script was run with what names have
+  runs_held : (inputs : Inputs) → due needed t.bundles t.keys t.secrets ≡ None → AreSecrets t.secrets inputs.secrets.items → inputs.keys ≡ keys_in t.keys → inputs.bundles.items ≡ bundles_in t.bundles
+      → EndsRun k c s (handed_in inputs) e × HandsWords (handed_in inputs) → RunsHeld
+  runs_held inputs none words key_bytes listed (run, fit) =
+      let (read, formed) = first_none _ _ none in
+      let (fine, fine', fine'') = all_read t.bundles t.keys t.secrets read in
+      let same : handed_in inputs ≡ handed = taken_by t.secrets t.keys t.bundles inputs words key_bytes listed ∙ same_handed fine fine' fine'' formed in
+      (none_wrong fine fine' fine'' formed, subst HandsWords same fit, subst (λ (h : HandedOut). EndsRun k c s h e) same run)
+
+  held_run : e.status ≡ 0 → RunsHeld
+  held_run zero = by res t.is_due t.words t.key_bytes t.bundle_list ends
+    where
+      by : (q : Result Inputs InputFault) → IsDue (due needed t.bundles t.keys t.secrets) q → IfOk q (λ inputs. AreSecrets t.secrets inputs.secrets.items) → IfOk q (λ inputs. inputs.keys ≡ keys_in t.keys)
+          → IfOk q (λ inputs. inputs.bundles.items ≡ bundles_in t.bundles) → InputsEnd k c s q e → RunsHeld
+      by (Ok inputs) d words key_bytes listed is = runs_held inputs d words key_bytes listed is
+      by (Err (fault.Unread i)) d words key_bytes listed is = absurd (let st : e.status ≡ 3 = ap (λ (x : Ended). x.status) is in omega (arith, st, zero))
+      by (Err (fault.Container place)) d words key_bytes listed is = absurd (let st : e.status ≡ 6 = ap (λ (x : Ended). x.status) is in omega (arith, st, zero))
+      by (Err fault.Keys) d words key_bytes listed is = absurd (let st : e.status ≡ 7 = ap (λ (x : Ended). x.status) is in omega (arith, st, zero))
+      by (Err fault.Secrets) d words key_bytes listed is = absurd (let st : e.status ≡ 7 = ap (λ (x : Ended). x.status) is in omega (arith, st, zero))
+      by (Err fault.OutOfMemory) d words key_bytes listed is = absurd is
+
   -- all inputs are there
   all_there : load_fault input.Bundles t.bundles ≡ None → absent_fault input.Bundles (held contents c.bundles) ≡ None → load_fault input.Keys t.keys ≡ None → absent_fault input.Keys (held contents c.keys) ≡ None
       → load_fault input.Secrets t.secrets ≡ None → absent_fault input.Secrets (held contents c.secrets) ≡ None → Told
@@ -360,15 +428,9 @@ module _ (contents : List ℕ → Option (List ℕ)) (k : CommandSeen) (c : Name
       by (Some f) d = faulty f d (sym same ∙ d)
       by None d =
           let (order, is_order, is) = run_by k c s (due needed t.bundles t.keys t.secrets) t.secrets t.keys t.bundles res e d t.is_due t.words t.key_bytes t.bundle_list ends in
-          let right : secrets_fault t.secrets ≡ None = (first_none _ _ (first_none _ _ (sym loaded_is ∙ d)).1).1 in
-          let right' : keys_fault needed t.keys ≡ None = (first_none _ _ (first_none _ _ (sym loaded_is ∙ d)).1).0 in
-          let right'' : container_fault t.bundles ≡ None = (first_none _ _ (sym loaded_is ∙ d)).0 in
-          let same_keys : keys_or_none (keys_in t.keys) ≡ held_keys (held contents c.keys) = key_bytes_agree contents c.keys t.behind_bundles t.keys t.behind_keys needed (keys_named fine) fine' right' in
-          let words : secret_word t.secrets ≡ held_word (held contents c.secrets) = λ x i. words_agree contents c.secrets t.behind_keys t.secrets r' (secrets_loaded fine fine') fine'' right i x in
-          let same_bundles : bundles_in t.bundles ≡ held_bundles (held contents c.bundles) = bundles_agree contents c.bundles b t.bundles t.behind_bundles t.bundles_loaded fine right'' in
           let none : None ≡ wrong_input contents needed c = sym d ∙ same in
           Ran order is_order
-          (is ∙ (λ x. run_end c s (record { secrets = words x; keys = same_keys x; bundles = same_bundles x }) order) ∙ ap (λ (x : Option InputFault). inputs_end c s (held_by contents c.secrets c.keys c.bundles) order x) none)
+          (is ∙ ap (λ (h : HandedOut). run_end c s h order) (same_handed fine fine' fine'' (sym loaded_is ∙ d)) ∙ ap (λ (x : Option InputFault). inputs_end c s (held_by contents c.secrets c.keys c.bundles) order x) none)
 
   by_secrets : load_fault input.Bundles t.bundles ≡ None → absent_fault input.Bundles (held contents c.bundles) ≡ None → load_fault input.Keys t.keys ≡ None → absent_fault input.Keys (held contents c.keys) ≡ None
       → Beside input.Secrets contents c.secrets t.secrets t.behind_keys.faults r'.faults → Told
@@ -493,3 +555,65 @@ pub told_ending : (before after : Faults) (contents : List ℕ → Option (List 
     → Comes (Some contents) (asks c) r r' e → IsEnding before after contents c e
 told_ending before after contents None r r' e starts stops (same, is) = let (order, in_order) = some_order contents None in inl (order, in_order, is)
 told_ending before after contents (Some c) r r' e starts stops h = told_answer before after contents c r h.between r' e starts stops h.answer h.script_loaded h.ends
+
+-- ---- the run of a status 0
+
+-- a script was run, or checked, with what names have, under an order of its events, which for a run is that of what threads made
+pub record ToldRun (contents : List ℕ → Option (List ℕ)) (c : Option CommandSeen) (e : Ended) : Type 0 where
+  pub command : CommandSeen
+  pub read_as : c ≡ Some command
+  pub bytes : List ℕ
+  pub there : contents (script_name command) ≡ Some bytes
+  pub script : ScriptSeen
+  pub reads : read_of bytes ≡ Ok script
+  pub fits : command_wrong contents script command ≡ None
+  pub words : HandsWords (handed_held contents command)
+  pub order : List ℕ
+  pub is_order : IsOrderOf command script order
+  pub is : e ≡ success_end command script (handed_held contents command) order
+  pub threads : ThreadsOf command script (handed_held contents command) order e
+
+module _ (contents : List ℕ → Option (List ℕ)) (e : Ended) (zero : e.status ≡ 0) where
+  script_run : (k : CommandSeen) (bytes : List ℕ) (s : ScriptSeen) (b r' : Reads) → contents (script_name k) ≡ Some bytes → read_of bytes ≡ Ok s → ScriptEnd (Some contents) k s b r' e → ToldRun contents (Some k) e
+  script_run (Replay n) bytes s b r' there reads (res, takes, ends) =
+      let (fits, words, run) = held_run contents (Replay n) n s b r' res e takes ends zero in
+      let (order, is_order, is, threads) = run in
+      record { command = Replay n; read_as = refl; bytes = bytes; there = there; script = s; reads = reads; fits = fits; words = words; order = order; is_order = is_order; is = is; threads = threads }
+  script_run (Run n) bytes s b r' there reads (res, takes, ends) =
+      let (fits, words, run) = held_run contents (Run n) n s b r' res e takes ends zero in
+      let (order, is_order, is, threads) = run in
+      record { command = Run n; read_as = refl; bytes = bytes; there = there; script = s; reads = reads; fits = fits; words = words; order = order; is_order = is_order; is = is; threads = threads }
+  script_run (Check name) bytes s b r' there reads (same, is) = record {
+    command = Check name;
+    read_as = refl;
+    bytes = bytes;
+    there = there;
+    script = s;
+    reads = reads;
+    fits = refl;
+    words = record { words = λ k few. lit< tt; come_in = λ slot. tt };
+    order = [];
+    is_order = tt;
+    is = is;
+    threads = tt;
+  }
+
+  read_run : (k : CommandSeen) (bytes : List ℕ) (read : Result ScriptSeen ScriptFault) (b r' : Reads) → contents (script_name k) ≡ Some bytes → read_of bytes ≡ read → ReadEnd (Some contents) k b r' read e → ToldRun contents (Some k) e
+  read_run k bytes (Ok s) b r' there reads h = script_run k bytes s b r' there reads h
+  read_run k bytes (Err (Bad line reason)) b r' there reads h = absurd (let st : e.status ≡ 2 = ap (λ (x : Ended). x.status) h.1 in omega (arith, st, zero))
+  read_run k bytes (Err OutOfMemory) b r' there reads h = absurd (let st : e.status ≡ 5 = ap (λ (x : Ended). x.status) h.1 in omega (arith, st, zero))
+
+  answer_run : (k : CommandSeen) (r b r' : Reads) (answer : Result (Vec ℕ) LoadFault) → Loads (Some contents) (2 ^ 24) (script_name k) r answer b → AnswerEnd (Some contents) k b r' answer e → ToldRun contents (Some k) e
+  answer_run k r b r' (Ok v) l h = by (contents (script_name k)) refl l.told
+    where
+      by : (q : Option (List ℕ)) → contents (script_name k) ≡ q → LoadsTold q (2 ^ 24) (Ok v) → ToldRun contents (Some k) e
+      by None there told = absurd told
+      by (Some bytes) there told = read_run k bytes (read_of bytes) b r' there refl (subst (λ (x : List ℕ). ReadEnd (Some contents) k b r' (read_of x) e) told.0 h)
+  answer_run k r b r' (Err load.Absent) l h = absurd (let st : e.status ≡ 3 = ap (λ (x : Ended). x.status) h.1 in omega (arith, st, zero))
+  answer_run k r b r' (Err load.TooLong) l h = absurd (let st : e.status ≡ 2 = ap (λ (x : Ended). x.status) h.1 in omega (arith, st, zero))
+  answer_run k r b r' (Err load.Failed) l h = absurd (let st : e.status ≡ 3 = ap (λ (x : Ended). x.status) h.1 in omega (arith, st, zero))
+  answer_run k r b r' (Err load.OutOfMemory) l h = absurd h
+
+pub told_run : (contents : List ℕ → Option (List ℕ)) (c : Option CommandSeen) (r r' : Reads) (e : Ended) → Comes (Some contents) (asks c) r r' e → e.status ≡ 0 → ToldRun contents c e
+told_run contents None r r' e h zero = absurd (let st : e.status ≡ 1 = ap (λ (x : Ended). x.status) h.1 in omega (arith, st, zero))
+told_run contents (Some c) r r' e h zero = answer_run contents e zero c r h.between r' h.answer h.script_loaded h.ends

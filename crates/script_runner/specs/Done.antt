@@ -24,7 +24,7 @@ use Rattle.script_runner.specs.Saving.{Writes, AllSaved, named_once}
 use Rattle.script_runner.specs.Threads.{ThreadsOf}
 use Rattle.script_runner.specs.Accesses.{OwnAccesses}
 use Rattle.script_runner.specs.Images.{StartsFromPauses}
-use Rattle.script_runner.specs.Brings.{HandsWords, BringsOver}
+use Rattle.script_runner.specs.Brings.{HandsWords, sealed_by, BringsOver}
 use Rattle.script_runner.specs.Blind.{HasBlindText}
 use Rattle.script_runner.specs.Ends.{IsRead}
 use Rattle.command_files.specs.declared.inputs.KeyBytes.{KeyBytes}
@@ -125,7 +125,7 @@ pub record PutsHeadline (c : Option CommandSeen) (loads loads' : List Loaded) (p
   pub run : PutsRun c loads loads' puts puts' (Ok tt)
   pub saved : AllSaved (success_end run.command run.script run.handed run.order).files written written'
   pub holds : HoldsOfRun run.command run.script run.handed run.order
-  pub brings : BringsOver run.handed run.script run.order
+  pub brings : BringsOver run.handed run.script run.order (sealed_by run.handed run.script run.order)
 
 -- the words are no command; nothing was loaded, and the usage line was put
 abbrev pub PutsUsage : Option CommandSeen → (loads loads' : List Loaded) → (puts puts' : List Put) → Type 0

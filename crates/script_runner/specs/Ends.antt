@@ -11,6 +11,8 @@ use Rattle.command_files.specs.Commands.{NamedSeen, CommandSeen, Replay, Run, Ch
 use Rattle.script_runner.specs.Ending.{ToSave, Ended, unread_end, memory_end, unwritten_end, success_end, command_wrong, handed_held, ending_of, IsOrderOf, IsOrderIn, without}
 use Rattle.script_runner.specs.Saving.{Writes, AllSaved, IsAmong}
 use Rattle.script_runner.specs.Blind.{HasBlindText}
+use Rattle.script_runner.specs.Brings.{HandsWords}
+use Rattle.script_runner.specs.Threads.{ThreadsOf}
 
 -- how often reading and writing files failed, and putting to the output
 pub record Faults : Type 0 where
@@ -75,11 +77,11 @@ EndsWith before after contents c old new status =
 
 -- ---- what each status says, where contents are told
 
--- One run: the named script is there and is in the grammar, the named inputs are there and have their forms, the output got
--- just the reply lines of the flat machine's run of the script, with the secret words of the named file and the bundles of the
--- named container, opened under the keys of the named file, under one order of its events, which for a replay is the schedule;
--- and then each file that is named was saved, the container with the bundles of that same run, sealed under the same keys, and
--- the guest file with what its guests noted. For check: the output got the script's numbers.
+-- One run: the named script is there and is in the grammar, the named inputs are there and have their forms, and hand out words
+-- of 64 bits; the output got just the reply lines of the flat machine's run of the script, with the secret words of the named
+-- file and the bundles of the named container, opened under the keys of the named file, under one order of its events, which for
+-- a replay is the schedule; and then each file that is named was saved, the container with the bundles of that same run, sealed
+-- under the same keys, and the guest file with what its guests noted. For check: the output got the script's numbers.
 pub record OneRun (contents : List ℕ → Option (List ℕ)) (c : Option CommandSeen) (old new : Option (List ℕ)) (written written' : Writes) : Type 0 where
   pub command : CommandSeen
   pub read_as : c ≡ Some command
@@ -88,10 +90,17 @@ pub record OneRun (contents : List ℕ → Option (List ℕ)) (c : Option Comman
   pub script : ScriptSeen
   pub reads : read_of bytes ≡ Ok script
   pub fits : command_wrong contents script command ≡ None
+  pub words : HandsWords (handed_held contents command)
   pub order : List ℕ
   pub is_order : IsOrderOf command script order
   pub prints : Gains old (success_end command script (handed_held contents command) order).text new
   pub saves : AllSaved (success_end command script (handed_held contents command) order).files written written'
+
+-- what the output got and what was saved is what threads made, in the order of these events
+abbrev pub ShowsThreads : (contents : List ℕ → Option (List ℕ)) → (c : Option CommandSeen) → (old new : Option (List ℕ)) → (written written' : Writes) → Type 0
+ShowsThreads contents c old new written written' =
+    (run : OneRun contents c old new written written')
+    × ThreadsOf run.command run.script (handed_held contents run.command) run.order (success_end run.command run.script (handed_held contents run.command) run.order)
 
 -- the text that the output got is the same in two worlds
 abbrev pub ShowsBlind : (contents : List ℕ → Option (List ℕ)) → (c : Option CommandSeen) → (old new : Option (List ℕ)) → (written written' : Writes) → Type 0

@@ -6,9 +6,9 @@ use Rattle.command_files.specs.Inputs.{Reads}
 use Rattle.script_runner.specs.Ending.{ending_of, handed_held, opening_by}
 use Rattle.script_runner.specs.Accesses.{OwnAccesses}
 use Rattle.script_runner.specs.Images.{StartsFromPauses}
-use Rattle.script_runner.specs.Brings.{BringsOver}
+use Rattle.script_runner.specs.Brings.{sealed_by, BringsOver, FileBringsOver}
 use Rattle.script_runner.specs.Saving.{Writes, out_names}
-use Rattle.script_runner.specs.Ends.{Faults, EndsWith, OneRun, IsComplete, IsBadScript, IsBadContainer, IsBadKeysOrSecrets, ShowsBlind, ReadCause, WriteCause, PutsFrontsOf}
+use Rattle.script_runner.specs.Ends.{Faults, EndsWith, OneRun, IsComplete, IsBadScript, IsBadContainer, IsBadKeysOrSecrets, ShowsThreads, ShowsBlind, ReadCause, WriteCause, PutsFrontsOf}
 use Rattle.script_runner.specs.Done.{PutsRun, PutsAndSaved, PutsThreads, PutsBlind, PutsUsage, PutsFault, PutsName, PutsPlace, PutsKeysOrSecrets, PutsLost, PutsMemory, SavesNothing, ChangesNothing, KeepsOrSaves}
 use Rattle.script_runner.specs.Commanded.{Outputs, ReachesPart}
 
@@ -47,8 +47,8 @@ pub record ByHistories (c : Option CommandSeen) (contents : Option (List ℕ →
   -- bundles that came in and opened, whatever its script.
   pub put_images : status ≡ 0 → (run : PutsRun c loaded.loads loaded'.loads output.puts output'.puts (Ok tt)) × StartsFromPauses (opening_by run.handed run.script) run.order
   -- The container that the run seals brings its bundles over: where a run of any script is handed out just that container and the same
-  -- keys, none of them is forged there, and each TD that is committed there started from this run's pause.
-  pub put_brings : status ≡ 0 → (run : PutsRun c loaded.loads loaded'.loads output.puts output'.puts (Ok tt)) × BringsOver run.handed run.script run.order
+  -- keys, each comes in as it was made, none is forged there, and each TD that is committed there started from this run's pause.
+  pub put_brings : status ≡ 0 → (run : PutsRun c loaded.loads loaded'.loads output.puts output'.puts (Ok tt)) × BringsOver run.handed run.script run.order (sealed_by run.handed run.script run.order)
   -- At 1 it was given the usage line, and nothing was loaded; at 2 the first fault of what the one load handed out, or that this is
   -- too long; at 3 the name, where the last load handed out nothing; at 6 the place of the first fault of the container that was
   -- loaded; at 7 that the key file or the secrets file hasn't its length.
@@ -81,8 +81,11 @@ pub record ByContents (held : List ℕ → Option (List ℕ)) (c : Option Comman
   -- that is named has what that same run leaves.
   pub one_run : status ≡ 0 → OneRun held c output.told output'.told written written'
   pub one_accesses : status ≡ 0 → (run : OneRun held c output.told output'.told written written') × OwnAccesses (opening_by (handed_held held run.command) run.script) run.order
+  pub one_threads : status ≡ 0 → ShowsThreads held c output.told output'.told written written'
   pub one_blind : status ≡ 0 → ShowsBlind held c output.told output'.told written written'
   pub one_images : status ≡ 0 → (run : OneRun held c output.told output'.told written written') × StartsFromPauses (opening_by (handed_held held run.command) run.script) run.order
+  -- The bytes that the named container file then has bring the bundles of that run over.
+  pub one_brings : status ≡ 0 → (run : OneRun held c output.told output'.told written written') × FileBringsOver run.command written'.contents (handed_held held run.command) run.script run.order
   -- Each status comes with its text.
   pub ends : EndsWith (faults_of loaded written output) (faults_of loaded' written' output') held c output.told output'.told status
   -- The status that is due comes, whatever the order of events; only a fault or want of memory keeps it from coming.

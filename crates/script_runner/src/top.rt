@@ -102,6 +102,7 @@ fn save_file<F: Files, K: Sink>(
     ensures reads { F.read_faults files.new ≡ F.read_faults files.old }
     ensures bytes { F.bytes_read files.new ≡ F.bytes_read files.old }
     ensures few { result ≤ 5 }
+    ensures writes_later { F.write_faults files.old ≤ F.write_faults files.new }
     ensures later { K.faults out.old ≤ K.faults out.new }
     ensures quiet { result ≡ 0 → (F.write_faults files.new ≡ F.write_faults files.old) × (K.faults out.new ≡ K.faults out.old) }
 {
@@ -128,6 +129,7 @@ fn save_named<F: Files, K: Sink>(
     ensures reads { F.read_faults files.new ≡ F.read_faults files.old }
     ensures bytes { F.bytes_read files.new ≡ F.bytes_read files.old }
     ensures few { result ≤ 5 }
+    ensures writes_later { F.write_faults files.old ≤ F.write_faults files.new }
     ensures later { K.faults out.old ≤ K.faults out.new }
     ensures quiet { result ≡ 0 → (F.write_faults files.new ≡ F.write_faults files.old) × (K.faults out.new ≡ K.faults out.old) }
 {
@@ -144,6 +146,7 @@ fn save_all<F: Files, K: Sink>(alloc: Global, how: &Ending<'_>, files: &mut F, o
     ensures reads { F.read_faults files.new ≡ F.read_faults files.old }
     ensures bytes { F.bytes_read files.new ≡ F.bytes_read files.old }
     ensures few { result ≤ 5 }
+    ensures writes_later { F.write_faults files.old ≤ F.write_faults files.new }
     ensures later { K.faults out.old ≤ K.faults out.new }
     ensures quiet { result ≡ 0 → (F.write_faults files.new ≡ F.write_faults files.old) × (K.faults out.new ≡ K.faults out.old) }
 {
@@ -163,6 +166,7 @@ fn finish<F: Files, K: Sink>(alloc: Global, how: &Ending<'_>, files: &mut F, out
     ensures few { how.now.status ≤ 7 → result ≤ 7 }
     ensures run { result ≡ 0 → how.now.status ≡ 0 }
     ensures quiet { result ≡ 0 → (F.write_faults files.new ≡ F.write_faults files.old) × (K.faults out.new ≡ K.faults out.old) }
+    ensures writes_later { F.write_faults files.old ≤ F.write_faults files.new }
     ensures later { K.faults out.old ≤ K.faults out.new }
 {
     let told = tell(how, out);
@@ -185,6 +189,7 @@ fn do_command<R: Threads + Sync, F: Files, K: Sink, G: Gate + Sync>(
     ensures few { result ≤ 7 }
     ensures quiet { result ≡ 0 → (F.read_faults files.new ≡ F.read_faults files.old) × (F.write_faults files.new ≡ F.write_faults files.old) × (K.faults out.new ≡ K.faults out.old) }
     ensures reads_later { F.read_faults files.old ≤ F.read_faults files.new }
+    ensures writes_later { F.write_faults files.old ≤ F.write_faults files.new }
     ensures puts_later { K.faults out.old ≤ K.faults out.new }
 {
     match decide(threads, alloc, words, files, gate) {
@@ -229,6 +234,7 @@ pub fn tdx_main<R: Threads + Sync, F: Files, K: Sink, G: Gate + Sync>(
     ensures quiet { result ≡ 0 → (F.read_faults files.new ≡ F.read_faults files.old) × (F.write_faults files.new ≡ F.write_faults files.old) × (K.faults out.new ≡ K.faults out.old) }
     // Counts never fall.
     ensures reads_later { F.read_faults files.old ≤ F.read_faults files.new }
+    ensures writes_later { F.write_faults files.old ≤ F.write_faults files.new }
     ensures puts_later { K.faults out.old ≤ K.faults out.new }
 {
     access_law();

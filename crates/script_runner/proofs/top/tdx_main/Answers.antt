@@ -1,3 +1,4 @@
+use Rattle.std.proofs.Common.{refl}
 use Rattle.script_runner.proofs.Promised.{all_histories, all_headlines, all_contents, only_usage, used}
 use Rattle.script_runner.proofs.Soaked.{of_soaks}
 use Rattle.script_runner.proofs.top.tdx_main.Goals as goal
@@ -12,7 +13,7 @@ returns-clause-by_histories g c =
 
 pub returns-clause-by_contents : goal.returns-clause-by_contents
 returns-clause-by_contents g c =
-    all_contents c.access_law.ensures.accesses c.two_world_law.ensures.prints c.two_world_law.ensures.bundles c.two_world_law.ensures.agreeing c.image_law.ensures.runs c.laws_of_carrying.ensures _ _ _ _ _ _ _ _ _ c.do_command.ensures.does
+    all_contents c.access_law.ensures.accesses c.two_world_law.ensures.prints c.two_world_law.ensures.bundles c.two_world_law.ensures.agreeing c.image_law.ensures.runs c.laws_of_carrying.ensures _ _ _ _ _ _ _ _ _ c.do_command.ensures.does refl
 
 pub returns-clause-soak : goal.returns-clause-soak
 returns-clause-soak g c = of_soaks _ _ _ _ _ _ _ _ _ c.do_command.ensures.does
