@@ -1,2 +1,4 @@
 pub mod Lists
 pub mod Parts
+mod Names
+mod OfCalls

@@ -1,2 +1,3 @@
 pub mod CallLines
 pub mod Lines
+pub mod Names
