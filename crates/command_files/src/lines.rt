@@ -9,8 +9,8 @@ use clap::{Arg, ArgMatches, Command};
 use std::alloc::{AllocError, Global};
 use td_words::OutOfMemory;
 
-// A line of no words. No program's name stands before it.
-fn empty_line<'a>(alloc: Global) -> Command<'a>
+/// A line of no words. No program's name stands before it.
+pub fn empty_line<'a>(alloc: Global) -> Command<'a>
     ensures { app_of result ≡ line_of [] }
 {
     Command::new(alloc, "tdx")
@@ -19,7 +19,8 @@ fn empty_line<'a>(alloc: Global) -> Command<'a>
         .disable_version_flag(true)
 }
 
-fn with_word<'a>(
+/// With a word that has to be there.
+pub fn with_word<'a>(
     alloc: Global,
     line: Command<'a>,
     name: &'a str,
@@ -32,7 +33,8 @@ fn with_word<'a>(
     }
 }
 
-fn with_option<'a>(
+/// With an option that takes a value.
+pub fn with_option<'a>(
     alloc: Global,
     line: Command<'a>,
     name: &'a str,

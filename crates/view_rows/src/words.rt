@@ -28,6 +28,9 @@ const OBJECTS: &str =
 // As checks/second/stating.py has it after two events.
 const STATE: &str = "lp 0 done 0 of 1\nlp 0 call holds P 1 shared\nlp 1 done 1 of 1\n";
 
+// And after all of them.
+const END: &str = "lp 0 done 1 of 1\nlp 1 done 1 of 1\n";
+
 // Words, the status and the text. The files are the script s, a bad script b, and a container c without
 // bundles.
 const ROWS: &[(&str, u8, &str)] = &[
@@ -50,11 +53,7 @@ const ROWS: &[(&str, u8, &str)] = &[
     ("--json trace s", 1, USAGE),
     ("state s --after 2", 0, STATE),
     ("state --after 0x2 s", 0, STATE),
-    (
-        "state s --after 9",
-        0,
-        "lp 0 done 1 of 1\nlp 1 done 1 of 1\n",
-    ),
+    ("state s --after 9", 0, END),
     ("state b --after 2", 2, "script line 2 WORD\n"),
     ("state absent --after 2", 3, "cannot read absent\n"),
     ("state s", 1, USAGE),
@@ -65,6 +64,36 @@ const ROWS: &[(&str, u8, &str)] = &[
     ("state s --json --after 2", 1, USAGE),
     ("trace s --after 2", 1, USAGE),
     ("replay s", 1, USAGE),
+    // an option's value may stand behind `=`
+    ("state s --after=2", 0, STATE),
+    ("state --after=2 s", 0, STATE),
+    ("state s --after=18446744073709551615", 0, END),
+    ("state s --after=18446744073709551616", 1, USAGE),
+    ("state s --after=", 1, USAGE),
+    ("state s --after=-2", 1, USAGE),
+    ("state s --after -2", 1, USAGE),
+    ("state s --after=2 --after 2", 1, USAGE),
+    ("state s --After=2", 1, USAGE),
+    ("trace s --json=true", 1, USAGE),
+    // behind `--` no word is an option, and a lone dash is a name
+    ("trace -- s", 0, EVENTS),
+    ("trace s --", 0, EVENTS),
+    ("trace --json -- s", 0, OBJECTS),
+    ("trace s -- --json", 1, USAGE),
+    ("trace -- --json", 3, "cannot read --json\n"),
+    ("state --after -- 2 s", 1, USAGE),
+    ("bundles -- c", 0, ""),
+    ("bundles -", 3, "cannot read -\n"),
+    ("bundles -c", 1, USAGE),
+    ("bundles -- -c", 3, "cannot read -c\n"),
+    ("bundles ", 3, "cannot read \n"),
+    // there are no others
+    ("trace s -j", 1, USAGE),
+    ("trace s --help", 1, USAGE),
+    ("bundles --version", 1, USAGE),
+    ("--help", 1, USAGE),
+    ("help", 1, USAGE),
+    ("", 1, USAGE),
 ];
 
 fn files(alloc: Global) -> Result<MemFiles, Fail> {
@@ -81,6 +110,17 @@ fn files(alloc: Global) -> Result<MemFiles, Fail> {
         })?;
     }
     Ok(MemFiles::new(alloc, files, Vec::new(alloc)))
+}
+
+#[test]
+fn no_words_are_no_command(rt: HostRuntime) -> Result<(), Fail> {
+    let alloc = rt.alloc();
+    let mut files = files(alloc)?;
+    let mut out = MemSink::new(alloc, Vec::new(alloc));
+    let words = Vec::new(alloc);
+    assert_eq!(rt; view_main(alloc, &words, &mut files, &mut out), 1);
+    assert_eq!(rt; out.bytes.as_slice(), USAGE.as_bytes());
+    Ok(())
 }
 
 #[test]

@@ -23,7 +23,7 @@ use Rattle.script_text.specs.Seen.{ScriptSeen}
 use Rattle.trace_lines.specs.Traces.{traces}
 use Rattle.trace_texts.specs.CallLines.{call_lists}
 use Rattle.trace_texts.specs.Lines.{trace_text}
-use Rattle.trace_runs.specs.Bare.{bare_opening}
+use Rattle.run_texts.specs.Openings.{bare_opening}
 use Rattle.state_lines.specs.After.{state_after}
 use Rattle.state_lines.specs.StateText.{state_text}
 use Rattle.view_runner.specs.Views.{ViewSeen, Bundles, Run, name_of}
@@ -106,15 +106,19 @@ pub record Reaches (contents : Option (List ℕ → Option (List ℕ))) (v : Vie
   pub loaded : Loads contents (most_of v) (name_of v) old answer new
   pub ends : AnswerEnd v answer e
 
+-- it is loaded, whatever the load answers
+abbrev pub LoadsFile : Option (List ℕ → Option (List ℕ)) → ViewSeen → Reads → Reads → Type 0
+LoadsFile contents v old new = (answer : Result (Vec ℕ) LoadFault) × Loads contents (most_of v) (name_of v) old answer new
+
 -- words that are no command load nothing
 abbrev pub Comes : Option (List ℕ → Option (List ℕ)) → Option ViewSeen → Reads → Reads → Ended → Type 0
 Comes contents None old new e = (new ≡ old) × (e ≡ usage_end)
 Comes contents (Some v) old new e = Reaches contents v old new e
 
--- the same, where memory was wanting on the way
+-- the same, where memory was wanting on the way, as it may be before the file is loaded
 abbrev pub ComesPart : Option (List ℕ → Option (List ℕ)) → Option ViewSeen → Reads → Reads → Type 0
 ComesPart contents None old new = new ≡ old
-ComesPart contents (Some v) old new = (answer : Result (Vec ℕ) LoadFault) × Loads contents (most_of v) (name_of v) old answer new
+ComesPart contents (Some v) old new = (new ≡ old) ⊎ LoadsFile contents v old new
 
 -- ---- what is put
 

@@ -1,2 +1,3 @@
 pub mod Views
+pub mod Worked
 pub mod Endings

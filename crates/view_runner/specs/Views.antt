@@ -1,18 +1,16 @@
--- What words ask to be shown.
-use Rattle.std.specs.Prelude.{ℕ, List, [], ◌∷◌, Option, Some, None, is_some, option_map, slice_index_or, Bool, true, false, not, ◌==◌, ◌&&◌, ◌||◌, if◌then◌else◌, codes}
+-- What words ask to be shown, as the library `clap` reads them.
+use Rattle.std.specs.Prelude.{ℕ, List, [], ◌∷◌, Option, Some, None, option_map, option_and_then, if◌then◌else◌, codes}
 use Rattle.std.specs.Str.{bytes_eq}
+use Rattle.clap.specs.Words.{App, Row, Rule, first_of, new_rule}
+use Rattle.clap.specs.declared.builder.action.ArgAction.TheVariants.{SetTrue}
 use Rattle.line_words.specs.Number.{number}
 use Rattle.trace_texts.specs.declared.lines.Form.{Form}
 use Rattle.trace_texts.specs.declared.lines.Form.TheVariants as form
-use Rattle.view_runner.specs.declared.commands.Verb.{Verb}
-use Rattle.view_runner.specs.declared.commands.Verb.TheVariants as verb
-use Rattle.view_runner.specs.declared.commands.Count.{Count}
-use Rattle.view_runner.specs.declared.commands.Count.TheVariants as count
+use Rattle.command_files.specs.Commands.{option_rule, word_rule, line_of, found_in}
 use Rattle.view_runner.specs.declared.commands.Shown.{Shown}
 use Rattle.view_runner.specs.declared.commands.Shown.TheVariants as shown
 use Rattle.view_runner.specs.declared.commands.View.{View}
 use Rattle.view_runner.specs.declared.commands.View.TheVariants as view
-use Rattle.view_runner.specs.declared.commands.Begun.{Begun}
 
 -- the bundles of the container of that name, or what is shown of a run of the script of that name
 pub data ViewSeen : Type 0 where
@@ -28,90 +26,59 @@ abbrev pub name_of : ViewSeen → List ℕ
 name_of (Bundles name) = name
 name_of (Run x name) = name
 
--- what was read so far
-pub record BegunSeen : Type 0 where
-  pub verb : Verb
-  pub name : Option (List ℕ)
-  pub json : Bool
-  pub count : Count
+-- ---- the command lines of clap
 
-abbrev pub begun_seen : Begun → BegunSeen
-begun_seen b = record { verb = b.verb; name = option_map (λ name. name.now) b.name; json = b.json; count = b.count }
+-- an option without a value
+abbrev pub flag_rule : List ℕ → Rule
+flag_rule name = record (new_rule name) { long = Some name; action = Some SetTrue }
 
-abbrev pub begins_with_dash : List ℕ → Bool
-begins_with_dash word = slice_index_or word 0 0 == 45
+-- the rest of `bundles`
+abbrev pub bundles_line : App
+bundles_line = line_of (word_rule (codes "CONTAINER") ∷ [])
 
--- the first words
-abbrev pub verb_of : List ℕ → Option Verb
-verb_of word =
-    if bytes_eq word (codes "bundles") then Some verb.Bundles
-    else if bytes_eq word (codes "trace") then Some verb.Trace
-    else if bytes_eq word (codes "state") then Some verb.State
+-- the rest of `trace`
+abbrev pub trace_line : App
+trace_line = line_of (word_rule (codes "SCRIPT") ∷ flag_rule (codes "json") ∷ [])
+
+-- the rest of `state`
+abbrev pub state_line : App
+state_line = line_of (word_rule (codes "SCRIPT") ∷ option_rule (codes "after") ∷ [])
+
+-- ---- what was found
+
+-- the bundles of a container
+abbrev pub bundles_in : List Row → Option ViewSeen
+bundles_in rows = option_map Bundles (first_of (codes "CONTAINER") rows)
+
+-- the value that clap has for `--json` is `true` where it stands, and else `false`
+abbrev pub form_of : Option (List ℕ) → Form
+form_of None = form.Plain
+form_of (Some value) = if bytes_eq value (codes "true") then form.Json else form.Plain
+
+-- the events of a script's run
+abbrev pub trace_in : List Row → Option ViewSeen
+trace_in rows = option_map (λ script. Run (shown.Trace (form_of (first_of (codes "json") rows))) script) (first_of (codes "SCRIPT") rows)
+
+-- the state after so many of them, a number as scripts have it, which has to be there
+abbrev pub state_by : Option (List ℕ) → Option ℕ → Option ViewSeen
+state_by (Some script) (Some events) = Some (Run (shown.State events) script)
+state_by (Some script) None = None
+state_by None events = None
+
+abbrev pub state_in : List Row → Option ViewSeen
+state_in rows = state_by (first_of (codes "SCRIPT") rows) (option_and_then number (first_of (codes "after") rows))
+
+-- ---- commands
+
+-- the first word is the command, and the rest is what clap's reading of that command's line makes of it
+abbrev pub view_behind : List ℕ → List (List ℕ) → Option ViewSeen
+view_behind word rest =
+    if bytes_eq word (codes "bundles") then option_and_then bundles_in (found_in bundles_line rest)
+    else if bytes_eq word (codes "trace") then option_and_then trace_in (found_in trace_line rest)
+    else if bytes_eq word (codes "state") then option_and_then state_in (found_in state_line rest)
     else None
 
--- a trace takes `--json` once, and a state `--after` once, with the number in the word behind it
-abbrev pub takes_json : Verb → Bool → List ℕ → Bool
-takes_json verb.Trace json word = not json && bytes_eq word (codes "--json")
-takes_json _ json word = false
-
-abbrev pub takes_after : Verb → Count → List ℕ → Bool
-takes_after verb.State count.Absent word = bytes_eq word (codes "--after")
-takes_after _ c word = false
-
-abbrev pub counted : Option ℕ → BegunSeen → Option BegunSeen
-counted None b = None
-counted (Some n) b = Some (record b { count = count.Given n })
-
--- a further word: one of these options, or one name, which doesn't begin with a dash
-abbrev pub after_by : Count → List ℕ → BegunSeen → Option BegunSeen
-after_by count.Next word b = counted (number word) b
-after_by _ word b =
-    if takes_json b.verb b.json word then Some (record b { json = true })
-    else if takes_after b.verb b.count word then Some (record b { count = count.Next })
-    else if begins_with_dash word || is_some b.name then None
-    else Some (record b { name = Some word })
-
-abbrev pub after : List ℕ → BegunSeen → Option BegunSeen
-after word b = after_by b.count word b
-
-abbrev pub form_of : Bool → Form
-form_of true = form.Json
-form_of false = form.Plain
-
-abbrev pub shown_of : Verb → (json : Bool) → Count → Option Shown
-shown_of verb.Trace json c = Some (shown.Trace (form_of json))
-shown_of verb.State json (count.Given n) = Some (shown.State n)
-shown_of _ json c = None
-
-abbrev pub run_of : List ℕ → Option Shown → Option ViewSeen
-run_of name None = None
-run_of name (Some x) = Some (Run x name)
-
-abbrev pub view_of : Verb → (json : Bool) → Count → List ℕ → Option ViewSeen
-view_of verb.Bundles json c name = Some (Bundles name)
-view_of v json c name = run_of name (shown_of v json c)
-
--- a command has a name, and a state has its number of events
-abbrev pub finished_by : Option (List ℕ) → BegunSeen → Option ViewSeen
-finished_by None b = None
-finished_by (Some name) b = view_of b.verb b.json b.count name
-
-abbrev pub finished : BegunSeen → Option ViewSeen
-finished b = finished_by b.name b
-
-abbrev pub further : Option BegunSeen → (BegunSeen → Option ViewSeen) → Option ViewSeen
-further None go = None
-further (Some b) go = go b
-
-abbrev pub reads : List (List ℕ) → BegunSeen → Option ViewSeen
-reads [] b = finished b
-reads (word ∷ words) b = further (after word b) (reads words)
-
-abbrev pub reads_behind : Option Verb → List (List ℕ) → Option ViewSeen
-reads_behind None words = None
-reads_behind (Some v) words = reads words (record { verb = v; name = None; json = false; count = count.Absent })
-
 -- the command that these words are
-abbrev pub view_in : List (List ℕ) → Option ViewSeen
+unfoldable pub view_in : List (List ℕ) → Option ViewSeen
 view_in [] = None
-view_in (word ∷ words) = reads_behind (verb_of word) words
+view_in (word ∷ rest) = view_behind word rest

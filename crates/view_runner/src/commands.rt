@@ -1,20 +1,19 @@
 //! Commands.
 
-ghost use Rattle.std.specs.Prelude.{◌≡◌, option_map, map, string_bytes};
+ghost use Rattle.std.specs.Prelude.{◌≡◌, option_map, option_and_then, map, string_bytes, IfOk};
 ghost use Rattle.std.specs.Str.{bytes_eq};
+ghost use Rattle.clap.specs.Words.{found_of, rows_of};
 ghost use Rattle.line_words.specs.Number.{number};
-ghost use Rattle.view_runner.specs.Views.{begins_with_dash, verb_of, begun_seen, view_seen, takes_json, takes_after, counted, after, form_of, shown_of, finished, view_in, name_of};
+ghost use Rattle.command_files.specs.Commands.{found_in};
+ghost use Rattle.view_runner.specs.Views.{view_seen, name_of, bundles_line, trace_line, state_line, form_of, bundles_in, trace_in, state_in, view_behind, view_in};
 
+use crate::lines::{bundles_line, state_line, trace_line};
+use clap::ArgMatches;
+use command_files::{read_line, value_of};
 use line_words::number;
+use std::alloc::Global;
+use td_words::OutOfMemory;
 use trace_texts::Form;
-
-/// What is shown of a file.
-#[derive(Clone, Copy, Debug, PartialEq, Eq)]
-pub enum Verb {
-    Bundles,
-    Trace,
-    State,
-}
 
 /// What is shown of a script's run: its events in a form, or the state after so many of them.
 #[derive(Clone, Copy)]
@@ -31,166 +30,131 @@ pub enum View<'a> {
     Run { shown: Shown, script: &'a str },
 }
 
-/// The number of events: not asked for so far, in the next word, or given.
-#[derive(Clone, Copy)]
-pub enum Count {
-    Absent,
-    Next,
-    Given(u64),
-}
-
-/// What was read of a command so far.
-#[derive(Clone, Copy, Drop)]
-pub struct Begun<'a> {
-    pub verb: Verb,
-    pub name: Option<&'a str>,
-    pub json: bool,
-    pub count: Count,
-}
-
-fn begins_with_dash(word: &str) -> bool
-    ensures { result ≡ begins_with_dash word.now }
-{
-    let bytes = word.as_bytes();
-    !bytes.is_empty() && bytes[0] == b'-'
-}
-
 fn is(word: &str, name: &str) -> bool
     ensures { result ≡ bytes_eq word.now name.now }
 {
     word == name
 }
 
-fn verb_of(word: &str) -> Option<Verb>
-    ensures { result ≡ verb_of word.now }
+// The form that the library's value of `--json` says.
+fn form_of(value: Option<&str>) -> Form
+    ensures { result ≡ form_of (option_map (λ v. v.now) value.entry) }
 {
-    if is(word, "bundles") {
-        Some(Verb::Bundles)
-    } else if is(word, "trace") {
-        Some(Verb::Trace)
-    } else if is(word, "state") {
-        Some(Verb::State)
-    } else {
-        None
+    match value {
+        Some(value) => {
+            if is(value, "true") {
+                Form::Json
+            } else {
+                Form::Plain
+            }
+        }
+        None => Form::Plain,
     }
 }
 
-fn takes_json(begun: Begun<'_>, word: &str) -> bool
-    ensures { result ≡ takes_json begun.entry.verb begun.entry.json word.now }
+// The number that the value of an option is, where it has one.
+fn number_of(value: Option<&str>) -> Option<u64>
+    ensures { result ≡ option_and_then number (option_map (λ v. v.now) value.entry) }
 {
-    match begun.verb {
-        Verb::Trace => !begun.json && is(word, "--json"),
-        _ => false,
+    match value {
+        Some(word) => number(word.as_bytes()),
+        None => None,
     }
 }
 
-fn takes_after(begun: Begun<'_>, word: &str) -> bool
-    ensures { result ≡ takes_after begun.entry.verb begun.entry.count word.now }
+fn bundles_in<'a>(found: &ArgMatches<'a>) -> Option<View<'a>>
+    ensures { option_map view_seen result ≡ bundles_in (rows_of (found_of found.now)) }
 {
-    match begun.verb {
-        Verb::State => match begun.count {
-            Count::Absent => is(word, "--after"),
-            _ => false,
-        },
-        _ => false,
+    match value_of(found, "CONTAINER") {
+        Some(name) => Some(View::Bundles(name)),
+        None => None,
     }
 }
 
-// The word behind `--after`.
-fn counted<'a>(begun: Begun<'a>, word: &str) -> Option<Begun<'a>>
-    ensures { option_map begun_seen result ≡ counted (number word.now) (begun_seen begun.entry) }
+fn trace_in<'a>(found: &ArgMatches<'a>) -> Option<View<'a>>
+    ensures { option_map view_seen result ≡ trace_in (rows_of (found_of found.now)) }
 {
-    match number(word.as_bytes()) {
-        Some(count) => Some(Begun {
-            count: Count::Given(count),
-            ..begun
+    match value_of(found, "SCRIPT") {
+        Some(script) => Some(View::Run {
+            shown: Shown::Trace(form_of(value_of(found, "json"))),
+            script,
         }),
         None => None,
     }
 }
 
-// One more word.
-fn after<'a>(begun: Begun<'a>, word: &'a str) -> Option<Begun<'a>>
-    ensures { option_map begun_seen result ≡ after word.now (begun_seen begun.entry) }
+fn state_in<'a>(found: &ArgMatches<'a>) -> Option<View<'a>>
+    ensures { option_map view_seen result ≡ state_in (rows_of (found_of found.now)) }
 {
-    if let Count::Next = begun.count {
-        counted(begun, word)
-    } else if takes_json(begun, word) {
-        Some(Begun {
-            json: true,
-            ..begun
-        })
-    } else if takes_after(begun, word) {
-        Some(Begun {
-            count: Count::Next,
-            ..begun
-        })
-    } else if begins_with_dash(word) || begun.name.is_some() {
-        None
-    } else {
-        Some(Begun {
-            name: Some(word),
-            ..begun
-        })
-    }
-}
-
-fn form_of(json: bool) -> Form
-    ensures { result ≡ form_of json }
-{
-    if json { Form::Json } else { Form::Plain }
-}
-
-fn shown_of(verb: Verb, json: bool, count: Count) -> Option<Shown>
-    ensures { result ≡ shown_of verb json count }
-{
-    match verb {
-        Verb::Bundles => None,
-        Verb::Trace => Some(Shown::Trace(form_of(json))),
-        Verb::State => match count {
-            Count::Given(events) => Some(Shown::State(events)),
-            _ => None,
-        },
-    }
-}
-
-fn finished<'a>(begun: Begun<'a>) -> Option<View<'a>>
-    ensures { option_map view_seen result ≡ finished (begun_seen begun.entry) }
-{
-    let name = begun.name?;
-    match begun.verb {
-        Verb::Bundles => Some(View::Bundles(name)),
-        _ => match shown_of(begun.verb, begun.json, begun.count) {
-            Some(shown) => Some(View::Run {
-                shown,
-                script: name,
+    match value_of(found, "SCRIPT") {
+        Some(script) => match number_of(value_of(found, "after")) {
+            Some(events) => Some(View::Run {
+                shown: Shown::State(events),
+                script,
             }),
             None => None,
         },
+        None => None,
+    }
+}
+
+fn read_bundles<'a>(alloc: Global, rest: &'a [String]) -> Result<Option<View<'a>>, OutOfMemory>
+    ensures { IfOk result (λ v. option_map view_seen v ≡ option_and_then bundles_in (found_in bundles_line (map string_bytes rest.now))) }
+{
+    let line = bundles_line(alloc)?;
+    match read_line(line, rest)? {
+        Some(found) => Ok(bundles_in(&found)),
+        None => Ok(None),
+    }
+}
+
+fn read_trace<'a>(alloc: Global, rest: &'a [String]) -> Result<Option<View<'a>>, OutOfMemory>
+    ensures { IfOk result (λ v. option_map view_seen v ≡ option_and_then trace_in (found_in trace_line (map string_bytes rest.now))) }
+{
+    let line = trace_line(alloc)?;
+    match read_line(line, rest)? {
+        Some(found) => Ok(trace_in(&found)),
+        None => Ok(None),
+    }
+}
+
+fn read_state<'a>(alloc: Global, rest: &'a [String]) -> Result<Option<View<'a>>, OutOfMemory>
+    ensures { IfOk result (λ v. option_map view_seen v ≡ option_and_then state_in (found_in state_line (map string_bytes rest.now))) }
+{
+    let line = state_line(alloc)?;
+    match read_line(line, rest)? {
+        Some(found) => Ok(state_in(&found)),
+        None => Ok(None),
+    }
+}
+
+// What the words behind the first ask for, by the command that it is.
+fn view_behind<'a>(
+    alloc: Global,
+    word: &str,
+    rest: &'a [String],
+) -> Result<Option<View<'a>>, OutOfMemory>
+    ensures { IfOk result (λ v. option_map view_seen v ≡ view_behind word.now (map string_bytes rest.now)) }
+{
+    if is(word, "bundles") {
+        read_bundles(alloc, rest)
+    } else if is(word, "trace") {
+        read_trace(alloc, rest)
+    } else if is(word, "state") {
+        read_state(alloc, rest)
+    } else {
+        Ok(None)
     }
 }
 
 /// The command that the words behind the program's name are.
-pub fn read_view<'a>(words: &'a [String]) -> Option<View<'a>>
-    ensures { option_map view_seen result ≡ view_in (map string_bytes words.now) }
+pub fn read_view<'a>(alloc: Global, words: &'a [String]) -> Result<Option<View<'a>>, OutOfMemory>
+    ensures { IfOk result (λ v. option_map view_seen v ≡ view_in (map string_bytes words.now)) }
 {
     if words.is_empty() {
-        return None;
+        return Ok(None);
     }
-    let verb = verb_of(words[0].as_str())?;
-    let mut begun = Begun {
-        verb,
-        name: None,
-        json: false,
-        count: Count::Absent,
-    };
-    for i in 1..words.len() {
-        match after(begun, words[i].as_str()) {
-            Some(next) => begun = next,
-            None => return None,
-        }
-    }
-    finished(begun)
+    view_behind(alloc, words[0].as_str(), &words[1..])
 }
 
 /// The file that a command names.

@@ -1,20 +1,21 @@
 //! The top call: what is due is decided, and then told.
 
-ghost use Rattle.std.specs.Prelude.{◌≡◌, ◌≤◌, Some, map, string_bytes, IfOk, Result};
+ghost use Rattle.std.specs.Prelude.{◌≡◌, ◌≤◌, map, string_bytes, IfOk, Result};
 ghost use Rattle.bundle_store.specs.declared.outside.PutFault.{PutFault};
 ghost use Rattle.view_runner.specs.Views.{view_seen, view_in};
-ghost use Rattle.view_runner.specs.Endings.{told_seen, Reaches, Comes, ComesPart, TellsBy, PutsWant, DoesView};
+ghost use Rattle.view_runner.specs.Endings.{told_seen, Reaches, LoadsFile, Comes, ComesPart, TellsBy, PutsWant, DoesView};
 
 use crate::commands::{View, name_of, read_view};
 use crate::ending::{MOST_CONTAINER, MOST_SCRIPT, Told, of_bundles, of_run, usage};
 use bundle_store::{Files, PutFault, Sink};
 use std::alloc::{AllocError, Global};
+use td_words::OutOfMemory;
 
 const MEMORY: &str = "out of memory\n";
 
 fn of_view<'a, F: Files>(alloc: Global, view: &View<'a>, files: &mut F) -> Result<Told, AllocError>
     ensures ends { IfOk result (λ e. Reaches (F.contents files.old) (view_seen view.now) (record { loads = F.loads files.old; faults = F.read_faults files.old; bytes = F.bytes_read files.old }) (record { loads = F.loads files.new; faults = F.read_faults files.new; bytes = F.bytes_read files.new }) (told_seen e)) }
-    ensures part { ComesPart (F.contents files.old) (Some (view_seen view.now)) (record { loads = F.loads files.old; faults = F.read_faults files.old; bytes = F.bytes_read files.old }) (record { loads = F.loads files.new; faults = F.read_faults files.new; bytes = F.bytes_read files.new }) }
+    ensures part { LoadsFile (F.contents files.old) (view_seen view.now) (record { loads = F.loads files.old; faults = F.read_faults files.old; bytes = F.bytes_read files.old }) (record { loads = F.loads files.new; faults = F.read_faults files.new; bytes = F.bytes_read files.new }) }
     ensures same { F.contents files.new ≡ F.contents files.old }
     ensures saves { F.saves files.new ≡ F.saves files.old }
     ensures writes { F.write_faults files.new ≡ F.write_faults files.old }
@@ -41,9 +42,10 @@ fn decide<F: Files>(alloc: Global, words: &[String], files: &mut F) -> Result<To
     ensures writes { F.write_faults files.new ≡ F.write_faults files.old }
     ensures few { IfOk result (λ e. e.status ≤ 6) }
 {
-    match read_view(words) {
-        None => usage(alloc),
-        Some(view) => of_view(alloc, &view, files),
+    match read_view(alloc, words) {
+        Ok(None) => usage(alloc),
+        Ok(Some(view)) => of_view(alloc, &view, files),
+        Err(OutOfMemory) => Err(AllocError),
     }
 }
 

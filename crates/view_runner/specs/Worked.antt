@@ -1,0 +1,62 @@
+-- Worked command lines, which compute (`are_read_so` in `proofs/Worked.antt`).
+use Rattle.std.specs.Prelude.{ℕ, ◌-◌, ◌^◌, List, [], ◌∷◌, Option, Some, None, codes}
+use Rattle.trace_texts.specs.declared.lines.Form.TheVariants.{Plain, Json}
+use Rattle.view_runner.specs.Views.{ViewSeen, Bundles, Run}
+use Rattle.view_runner.specs.declared.commands.Shown.TheVariants.{Trace, State}
+
+-- of the script s
+abbrev pub plain : Option ViewSeen
+plain = Some (Run (Trace Plain) (codes "s"))
+
+abbrev pub json : Option ViewSeen
+json = Some (Run (Trace Json) (codes "s"))
+
+abbrev pub after : ℕ → Option ViewSeen
+after n = Some (Run (State n) (codes "s"))
+
+-- words, and what they ask for; None is a faulty command line
+abbrev pub worked_lines : List (List (List ℕ) × Option ViewSeen)
+worked_lines =
+    -- the first word is the command
+    ([], None)
+    ∷ (codes "traces" ∷ codes "s" ∷ [], None)
+    ∷ (codes "--json" ∷ codes "trace" ∷ codes "s" ∷ [], None)
+    -- the file is one word, which may be empty
+    ∷ (codes "bundles" ∷ codes "c" ∷ [], Some (Bundles (codes "c")))
+    ∷ (codes "bundles" ∷ codes "" ∷ [], Some (Bundles (codes "")))
+    ∷ (codes "bundles" ∷ [], None)
+    ∷ (codes "bundles" ∷ codes "c" ∷ codes "d" ∷ [], None)
+    ∷ (codes "bundles" ∷ codes "--json" ∷ codes "c" ∷ [], None)
+    -- `--json` stands before it or behind it, at most once, and has no value
+    ∷ (codes "trace" ∷ codes "s" ∷ [], plain)
+    ∷ (codes "trace" ∷ codes "s" ∷ codes "--json" ∷ [], json)
+    ∷ (codes "trace" ∷ codes "--json" ∷ codes "s" ∷ [], json)
+    ∷ (codes "trace" ∷ codes "s" ∷ codes "--json" ∷ codes "--json" ∷ [], None)
+    ∷ (codes "trace" ∷ codes "s" ∷ codes "--json=true" ∷ [], None)
+    ∷ (codes "trace" ∷ codes "--json" ∷ [], None)
+    ∷ (codes "trace" ∷ codes "s" ∷ codes "-j" ∷ [], None)
+    ∷ (codes "trace" ∷ codes "s" ∷ codes "--after" ∷ codes "2" ∷ [], None)
+    -- so does `--after`, as one word or two, and has to be there
+    ∷ (codes "state" ∷ codes "s" ∷ codes "--after" ∷ codes "2" ∷ [], after 2)
+    ∷ (codes "state" ∷ codes "--after" ∷ codes "2" ∷ codes "s" ∷ [], after 2)
+    ∷ (codes "state" ∷ codes "s" ∷ codes "--after=2" ∷ [], after 2)
+    ∷ (codes "state" ∷ codes "s" ∷ [], None)
+    ∷ (codes "state" ∷ codes "s" ∷ codes "--after" ∷ [], None)
+    ∷ (codes "state" ∷ codes "s" ∷ codes "--after" ∷ codes "2" ∷ codes "--after=2" ∷ [], None)
+    ∷ (codes "state" ∷ codes "s" ∷ codes "--after" ∷ codes "2" ∷ codes "--json" ∷ [], None)
+    -- its number is one as scripts have it
+    ∷ (codes "state" ∷ codes "s" ∷ codes "--after=0" ∷ [], after 0)
+    ∷ (codes "state" ∷ codes "s" ∷ codes "--after=0x1f" ∷ [], after 31)
+    ∷ (codes "state" ∷ codes "s" ∷ codes "--after=18446744073709551615" ∷ [], after (2 ^ 64 - 1))
+    ∷ (codes "state" ∷ codes "s" ∷ codes "--after=18446744073709551616" ∷ [], None)
+    ∷ (codes "state" ∷ codes "s" ∷ codes "--after=-2" ∷ [], None)
+    ∷ (codes "state" ∷ codes "s" ∷ codes "--after=" ∷ [], None)
+    ∷ (codes "state" ∷ codes "s" ∷ codes "--after=two" ∷ [], None)
+    -- a lone dash is a name, and behind `--` no word is an option
+    ∷ (codes "bundles" ∷ codes "-" ∷ [], Some (Bundles (codes "-")))
+    ∷ (codes "bundles" ∷ codes "-c" ∷ [], None)
+    ∷ (codes "bundles" ∷ codes "--" ∷ codes "-c" ∷ [], Some (Bundles (codes "-c")))
+    ∷ (codes "trace" ∷ codes "--" ∷ codes "--json" ∷ [], Some (Run (Trace Plain) (codes "--json")))
+    ∷ (codes "trace" ∷ codes "--json" ∷ codes "--" ∷ codes "s" ∷ [], json)
+    ∷ (codes "state" ∷ codes "--after" ∷ codes "--" ∷ codes "2" ∷ codes "s" ∷ [], None)
+    ∷ []
