@@ -1,3 +1,4 @@
 pub mod Making
 pub mod AtOnce
+pub mod ShortTurns
 pub mod SharedTurns

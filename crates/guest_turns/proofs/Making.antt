@@ -27,6 +27,9 @@ store_of at x = Stepped (step.Store at x) 0
 one-put : (m : Machine) (q : WordPlace) (x : ℕ) (h : Option Measure) → IsChanged m (Put q x) h (store_of (address m.pages q) x ∷ []) h
 one-put m q x h = record { write = write.Word (step.Store (address m.pages q) x); between = h; handed = λ hand is. (refl, is); written = (refl, (0, refl)) }
 
+pub a-put : (m : Machine) (q : WordPlace) (x : ℕ) → AreChanged m (Put q x ∷ []) None (store_of (address m.pages q) x ∷ []) None
+a-put m q x = (None, (store_of (address m.pages q) x ∷ [], ([], refl, one-put m q x None, (refl, refl))))
+
 pub two-puts : (m : Machine) (q : WordPlace) (x : ℕ) (p : WordPlace) (y : ℕ) → AreChanged m (Put q x ∷ Put p y ∷ []) None (store_of (address m.pages q) x ∷ store_of (address m.pages p) y ∷ []) None
 two-puts m q x p y = (
   None,

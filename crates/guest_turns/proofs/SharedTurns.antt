@@ -5,12 +5,10 @@ use Rattle.td_words.specs.declared.names.LockName.TheVariants as name
 use Rattle.td_words.specs.declared.names.Mode.TheVariants.{Shared}
 use Rattle.td_words.specs.declared.names.Access.{Access}
 use Rattle.td_words.specs.declared.names.Access.TheVariants.{Read, Write}
-use Rattle.td_words.specs.declared.refusals.Status.TheVariants.{OperandBusy}
-use Rattle.td_words.specs.declared.replies.Reply.{Reply}
-use Rattle.td_words.specs.declared.replies.Reply.TheVariants.{Done, Refused}
+use Rattle.td_words.specs.declared.replies.Reply.TheVariants.{Done}
 use Rattle.td_words.specs.declared.replies.Value.TheVariants as value
 use Rattle.td_words.specs.Address.{lock_at, pamt_at, word_at}
-use Rattle.td_words.specs.Place.{WordPlace, Word, address}
+use Rattle.td_words.specs.Place.{Word}
 use Rattle.td_words.specs.Place as place
 use Rattle.flat_core.specs.Processor.{OfPage}
 use Rattle.flat_core.specs.Tree.{word_of_gpa}
@@ -20,19 +18,19 @@ use Rattle.step_core.specs.declared.items.Taken.{Taken}
 use Rattle.step_core.specs.declared.items.Taken.TheVariants.{Stepped}
 use Rattle.leaf_engine.specs.declared.events.Event.TheVariants as event
 use Rattle.leaf_engine.specs.declared.events.Stage.TheVariants as stage
-use Rattle.leaf_engine.specs.declared.needs.Need.TheVariants as need
 use Rattle.leaf_engine.specs.Items.{IsLoaded}
 use Rattle.leaf_engine.specs.Trees.{Tree, Lock, answers, settle}
-use Rattle.leaf_engine.specs.Turns.{standing, Turned, grants, tried, last_reply, busy}
+use Rattle.leaf_engine.specs.Turns.{standing, Turned, grants}
 use Rattle.leaf_parts.specs.Words.{says_host}
 use Rattle.guest_turns.specs.declared.runs.SharedRun.{SharedRun}
 use Rattle.guest_turns.specs.declared.runs.SharedStage.{SharedStage}
-use Rattle.guest_turns.specs.declared.runs.SharedStage.TheVariants.{Denied, Locked, Violated, Completed}
-use Rattle.guest_turns.specs.SharedTurns.{access_tree, host_tree, locked_tree, ended_tree, violation, stands, standing_at, IsIn, SharedTurned, stage_behind, source, target}
+use Rattle.guest_turns.specs.declared.runs.SharedStage.TheVariants.{Locked, Violated, Completed}
+use Rattle.guest_turns.specs.SharedTurns.{access_tree, host_tree, locked_tree, ended_tree, violation, stands, standing_at, standing_of, IsIn, SharedTurned, stage_behind, source, target}
 use Rattle.guest_turns.specs.Pages.{page_lock}
 use Rattle.guest_turns.specs.Turns.{HasMoved}
 use Rattle.guest_turns.specs.declared.words.Moved.{Moved}
 use Rattle.guest_turns.proofs.Making.{load_of, store_of, two-puts, comes-to-act}
+use Rattle.guest_turns.proofs.ShortTurns.{answers-at-once, behind_try, tries-page}
 
 -- the page that it names is judged first
 abbrev pub names_other : Machine → (vp gpa : ℕ) → Bool
@@ -50,53 +48,28 @@ settled m Write v line r gpa = refl
 
 pub violates : {B : Type 0} (did : List Taken → B → Type 0) (m : Machine) (access : Access) (v line r gpa : ℕ) (bench : B) → did [] bench → names_other m v gpa ≡ false
     → SharedTurned did m (standing (settle (access_tree m access v line r gpa)) stage.Trying [] None) bench None (record { event = event.Act; act = Some (violation access gpa); reply = Some (violation access gpa) })
-violates did m access v line r gpa bench nothing other = record {
-  stands = standing (answers (violation access gpa)) (stage.Answered (violation access gpa)) [] None;
-  turned = comes-to-act did m (settle (access_tree m access v line r gpa)) [] [] (answers (violation access gpa)) [] (violation access gpa) bench nothing
-      (settled m access v line r gpa ∙ ap (λ (b : Bool). settled_by b access v line r gpa) other) refl (refl, refl);
-  act_is = refl;
-  seen = refl;
-  inside = cc;
-}
+violates did m access v line r gpa bench nothing other =
+    answers-at-once standing_of IsIn did m (settle (access_tree m access v line r gpa)) (violation access gpa) bench nothing (settled m access v line r gpa ∙ ap (λ (b : Bool). settled_by b access v line r gpa) other)
 
-behind-try : (run : SharedRun) (granted : Bool)
-    → standing_at run (stage_behind granted) ≡ tried (standing (lock_tree run.access run.vp run.line run.register run.gpa) stage.Trying [] None) (locked_tree run.access run.vp run.line run.register run.gpa) (name.Page (shared_page run.gpa)) (lock_at (shared_page run.gpa)) Shared granted
+behind-try : (run : SharedRun) (granted : Bool) → standing_at run (stage_behind granted) ≡ behind_try granted (shared_page run.gpa) (locked_tree run.access run.vp run.line run.register run.gpa)
 behind-try run true = refl
 behind-try run false = refl
-
-unanswered : (run : SharedRun) (granted : Bool) → None ≡ last_reply (standing_at run (stage_behind granted)).stage (standing_at run (stage_behind granted)).held
-unanswered run true = refl
-unanswered run false = refl
 
 pub tries : {B : Type 0} (did : List Taken → B → Type 0) (m : Machine) (run : SharedRun) (saw : ℕ) (granted : Bool) (bench : B)
     → did (Stepped (step.Add (lock_at run.page) 1) saw ∷ []) bench → granted ≡ grants Shared saw → run.stage ≡ stage_behind granted → IsIn m run → names_other m run.vp run.gpa ≡ true
     → SharedTurned did m (standing (settle (access_tree m run.access run.vp run.line run.register run.gpa)) stage.Trying [] None) bench (Some run) (record { event = event.Try (name.Page run.page) Shared granted; act = None; reply = None })
-tries did m run saw granted bench made by at inside other = record {
-  stands = standing_at run (stage_behind granted);
-  turned = (
-    Stepped (step.Add (lock_at (shared_page run.gpa)) 1) saw ∷ [],
-    subst (λ (q : ℕ). did (Stepped (step.Add (lock_at q) 1) saw ∷ []) bench) run.named made,
+tries did m run saw granted bench made by at inside other =
+    let whole : Tree = settle (access_tree m run.access run.vp run.line run.register run.gpa) in
+    let locked : Tree = locked_tree run.access run.vp run.line run.register run.gpa in
     record {
-      turn = record {
-        loads = [];
-        tree = lock_tree run.access run.vp run.line run.register run.gpa;
-        need = need.Lock (name.Page (shared_page run.gpa)) (lock_at (shared_page run.gpa)) Shared;
-        loaded = settled m run.access run.vp run.line run.register run.gpa ∙ ap (λ (b : Bool). settled_by b run.access run.vp run.line run.register run.gpa) other;
-        gives = refl;
-        comes = record {
-          seen = saw;
-          items = refl;
-          event = ap (λ (q : ℕ). event.Try (name.Page q) Shared granted) run.named ∙ ap (λ (b : Bool). event.Try (name.Page (shared_page run.gpa)) Shared b) by;
-          after = behind-try run granted ∙ ap (λ (b : Bool). tried (standing (settle (access_tree m run.access run.vp run.line run.register run.gpa)) stage.Trying [] None) (locked_tree run.access run.vp run.line run.register run.gpa) (name.Page (shared_page run.gpa)) (lock_at (shared_page run.gpa)) Shared b) by;
-        };
-      };
-      reply = unanswered run granted;
-    },
-  );
-  act_is = refl;
-  seen = ap (λ (s : SharedStage). Some (standing_at run s)) at;
-  inside = inside;
-}
+      stands = behind_try granted (shared_page run.gpa) locked;
+      turned = subst (λ (q : ℕ). Turned did m (standing whole stage.Trying [] None) bench (behind_try granted (shared_page run.gpa) locked) (record { event = event.Try (name.Page q) Shared granted; reply = None })) (sym run.named)
+          (tries-page did m whole locked (shared_page run.gpa) saw granted bench (subst (λ (q : ℕ). did (Stepped (step.Add (lock_at q) 1) saw ∷ []) bench) run.named made) by
+          (settled m run.access run.vp run.line run.register run.gpa ∙ ap (λ (b : Bool). settled_by b run.access run.vp run.line run.register run.gpa) other));
+      act_is = refl;
+      seen = ap (λ (s : SharedStage). Some (standing_at run s)) at ∙ ap Some (behind-try run granted);
+      inside = inside;
+    }
 
 -- the act
 pub is-violated : {B : Type 0} (did : List Taken → B → Type 0) (m : Machine) (access : Access) (v line r gpa pamt : ℕ) (bench : B) → did (load_of (pamt_at (shared_page gpa)) pamt ∷ []) bench → says_host pamt ≡ false
@@ -126,24 +99,3 @@ pub completes : {B : Type 0} (did then_did : List Taken → B → Type 0) (m : M
     → ((xs : List Taken) → then_did xs bench → did (load_of (pamt_at (shared_page gpa)) pamt ∷ xs) bench) → HasMoved then_did v (source access v r gpa) (target access v r gpa) bench w → says_host pamt ≡ true
     → Turned did m (stands Locked access v line r gpa) bench (stands (Completed w.position w.word) access v line r gpa) (record { event = event.Act; reply = None })
 completes did then_did m access v line r gpa pamt w bench more moved host = is-completed did m access v line r gpa pamt w.position w.word bench (more _ moved) host
-
--- the last event
-pub takes-back : {B : Type 0} (did : List Taken → B → Type 0) (m : Machine) (access : Access) (v line r gpa answer : ℕ) (bench : B) → did (Stepped (step.Sub (lock_at (shared_page gpa)) 1) answer ∷ []) bench
-    → SharedTurned did m (stands Denied access v line r gpa) bench None (record { event = event.Undo (name.Page (shared_page gpa)); act = None; reply = Some (Refused (OperandBusy (name.Page (shared_page gpa)))) })
-takes-back did m access v line r gpa answer bench made = record {
-  stands = standing (locked_tree access v line r gpa) (busy (name.Page (shared_page gpa))) [] None;
-  turned = (_, made, record { turn = record { items = (answer, refl); event = refl; after = refl }; reply = refl });
-  act_is = refl;
-  seen = refl;
-  inside = cc;
-}
-
-pub gives-back : {B : Type 0} (did : List Taken → B → Type 0) (m : Machine) (rest : Tree) (gpa : ℕ) (reply : Reply) (answer : ℕ) (bench : B) → did (Stepped (step.Sub (lock_at (shared_page gpa)) 1) answer ∷ []) bench
-    → SharedTurned did m (standing rest (stage.Answered reply) (page_lock gpa ∷ []) None) bench None (record { event = event.Free (name.Page (shared_page gpa)); act = None; reply = Some reply })
-gives-back did m rest gpa reply answer bench made = record {
-  stands = standing rest (stage.Answered reply) [] None;
-  turned = (_, made, record { turn = (record { newest = page_lock gpa; held_are = refl; items = (answer, refl); event = refl }, refl); reply = refl });
-  act_is = refl;
-  seen = refl;
-  inside = cc;
-}

@@ -1,5 +1,5 @@
 -- How far a shared access is, as what is left of its leaf's tree, and what an event of it does.
-use Rattle.std.specs.Prelude.{◌≡◌, ℕ, ◌+◌, ◌<◌, Bool, true, false, Option, Some, None, List, [], ◌∷◌}
+use Rattle.std.specs.Prelude.{ℕ, ◌+◌, ◌<◌, Bool, true, false, Option, Some, None, MatchOption, List, [], ◌∷◌}
 use Rattle.td_words.specs.declared.names.LockName.TheVariants as name
 use Rattle.td_words.specs.declared.names.Access.{Access}
 use Rattle.td_words.specs.declared.names.Access.TheVariants.{Read, Write}
@@ -17,11 +17,11 @@ use Rattle.step_core.specs.declared.items.Taken.{Taken}
 use Rattle.leaf_engine.specs.declared.events.HeldLock.{HeldLock}
 use Rattle.leaf_engine.specs.declared.events.Stage.TheVariants as stage
 use Rattle.leaf_engine.specs.Trees.{Tree, Load, answers}
-use Rattle.leaf_engine.specs.Turns.{Standing, standing, Turned}
+use Rattle.leaf_engine.specs.Turns.{Standing, standing}
 use Rattle.leaf_parts.specs.Words.{says_host}
 use Rattle.access_core.specs.OperationTrees.{with_position, with_register, unless_violation, shared_load_tree, shared_store_tree, loaded, stored}
 use Rattle.guest_turns.specs.Pages.{page_lock}
-use Rattle.guest_turns.specs.Turns.{turn_of, act_of, kept_after}
+use Rattle.guest_turns.specs.Turns.{ShortTurned, ShortGoesOn}
 use Rattle.guest_turns.specs.declared.runs.SharedStage.{SharedStage}
 use Rattle.guest_turns.specs.declared.runs.SharedStage.TheVariants.{Denied, Locked, Violated, Completed}
 use Rattle.guest_turns.specs.declared.runs.SharedRun.{SharedRun}
@@ -62,10 +62,6 @@ standing_at r s = stands s r.access r.vp r.line r.register r.gpa
 abbrev pub standing_of : SharedRun → Standing
 standing_of r = standing_at r r.stage
 
-abbrev pub run_seen : Option SharedRun → Option Standing
-run_seen None = None
-run_seen (Some r) = Some (standing_of r)
-
 abbrev pub held_by : Option SharedRun → List HeldLock
 held_by None = []
 held_by (Some r) = (standing_of r).held
@@ -75,28 +71,16 @@ pub record IsIn (m : Machine) (r : SharedRun) : Type 0 where
   pub vp : r.vp < m.pages
   pub page : r.page < m.pages
 
--- an access that is kept, if there is one
-abbrev pub IsKeptIn : Machine → Option SharedRun → Type 0
-IsKeptIn m None = Unit {0}
-IsKeptIn m (Some r) = IsIn m r
-
 -- one that is kept
 abbrev pub IsRunIn : Machine → Option SharedRun → Type 0
-IsRunIn m None = ⊥
-IsRunIn m (Some r) = IsIn m r
+IsRunIn m kept = MatchOption kept ⊥ (IsIn m)
 
--- the turn of a run that stood there, and what is kept of it
-pub record SharedTurned {B : Type 0} (did : List Taken → B → Type 0) (m : Machine) (s : Standing) (bench : B) (kept : Option SharedRun) (result : LeafTurn) : Type 0 where
-  pub stands : Standing
-  pub turned : Turned did m s bench stands (turn_of result)
-  pub act_is : result.act ≡ act_of result.event stands.stage
-  pub seen : run_seen kept ≡ kept_after result.reply stands
-  pub inside : IsKeptIn m kept
+-- the turn of a run that stood there, and what is kept of it; and the next turn of the one that is kept
+abbrev pub SharedTurned : {B : Type 0} → (List Taken → B → Type 0) → Machine → Standing → B → Option SharedRun → LeafTurn → Type 0
+SharedTurned did m s bench kept result = ShortTurned standing_of IsIn did m s bench kept result
 
--- the next turn of the one that is kept
 abbrev pub KeptTurned : {B : Type 0} → (List Taken → B → Type 0) → Machine → Option SharedRun → B → Option SharedRun → LeafTurn → Type 0
-KeptTurned did m None bench kept result = ⊥
-KeptTurned did m (Some r) bench kept result = SharedTurned did m (standing_of r) bench kept result
+KeptTurned did m before bench kept result = ShortGoesOn standing_of IsIn did m before bench kept result
 
 -- how far it is behind the try of its page's lock
 abbrev pub stage_behind : Bool → SharedStage

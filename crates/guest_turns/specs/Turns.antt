@@ -1,5 +1,5 @@
--- What a turn of a guest's step makes, and what is kept of its run.
-use Rattle.std.specs.Prelude.{ℕ, ◌+◌, ◌%◌, ◌^◌, List, [], ◌∷◌, Option, Some, None}
+-- What a turn without a run of its leaf makes, and what is kept in place of that run.
+use Rattle.std.specs.Prelude.{◌≡◌, ℕ, ◌+◌, ◌%◌, ◌^◌, List, [], ◌∷◌, Option, Some, None, option_map, IfSome, MatchOption}
 use Rattle.td_words.specs.declared.machines.Machine.{Machine}
 use Rattle.td_words.specs.declared.replies.Reply.{Reply}
 use Rattle.td_words.specs.Address.{word_at}
@@ -38,3 +38,16 @@ MadeAtOnce did m t bench reply = (rest : Tree) × Turned did m (standing (settle
 abbrev pub HasMoved : {B : Type 0} → (List Taken → B → Type 0) → (vp from to : ℕ) → B → Moved → Type 0
 HasMoved did v from to bench w =
     did (Stepped (step.Load (word_at v 4)) w.position ∷ Stepped (step.Load from) w.word ∷ Stepped (step.Store to w.word) 0 ∷ Stepped (step.Store (word_at v 4) ((w.position + 1) % 2 ^ 64)) 0 ∷ []) bench
+
+-- The turn of a run that stood there, where what is kept of it is a small record that stands where the run would; and what is
+-- so of that record in its machine.
+pub record ShortTurned {A : Type 0} {B : Type 0} (stands_at : A → Standing) (IsAt : Machine → A → Type 0) (did : List Taken → B → Type 0) (m : Machine) (s : Standing) (bench : B) (kept : Option A) (result : LeafTurn) : Type 0 where
+  pub stands : Standing
+  pub turned : Turned did m s bench stands (turn_of result)
+  pub act_is : result.act ≡ act_of result.event stands.stage
+  pub seen : option_map stands_at kept ≡ kept_after result.reply stands
+  pub inside : IfSome kept (IsAt m)
+
+-- the next turn of the one that is kept
+abbrev pub ShortGoesOn : {A : Type 0} → {B : Type 0} → (A → Standing) → (Machine → A → Type 0) → (List Taken → B → Type 0) → Machine → Option A → B → Option A → LeafTurn → Type 0
+ShortGoesOn stands_at IsAt did m before bench kept result = MatchOption before ⊥ (λ r. ShortTurned stands_at IsAt did m (stands_at r) bench kept result)

@@ -17,4 +17,5 @@ pub use acts::held_of;
 pub use operations::{add_registers, set_register};
 pub use private_accesses::{load_private, store_private};
 pub use runs::{LeafTurn, SharedRun, SharedStage};
-pub use shared_accesses::{begin_shared, turn_shared};
+pub use shared_accesses::{begin_shared, try_page, turn_shared};
+pub use words::load;

@@ -130,8 +130,8 @@ fn names_other(named: u64, pages: u16, vp: u16) -> bool
     named < u64::from(pages) && named != u64::from(vp)
 }
 
-// The try of a page's lock, and whether it was granted.
-fn try_page<B: Bench>(bench: &mut B, page: u16) -> bool
+/// The try of a page's lock, which is held shared, and whether it was granted.
+pub fn try_page<B: Bench>(bench: &mut B, page: u16) -> bool
     requires { page < (B.machine bench.old).pages }
     ensures tried { TriedOnce (B.did bench.old) (lock_at page) Mode.Shared bench.new result }
     ensures machine { B.machine bench.new ≡ B.machine bench.old }

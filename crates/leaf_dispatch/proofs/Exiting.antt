@@ -1,5 +1,5 @@
 -- A run that answers something else stays under way.
-use Rattle.std.proofs.Common.{◌≡◌, ◌∙◌, true, false, List, [], ◌∷◌, Option, refl, ap, sym, subst}
+use Rattle.std.proofs.Common.{◌≡◌, ◌∙◌, true, false, is_none, List, [], ◌∷◌, Option, None, refl, ap, sym, subst}
 use Rattle.td_words.specs.declared.machines.Machine.{Machine}
 use Rattle.td_words.specs.declared.calls.Call.{Call}
 use Rattle.td_words.specs.declared.calls.Call.TheVariants as call
@@ -14,10 +14,16 @@ use Rattle.leaf_table.specs.Ends.{Ends, call_fits, call_ends}
 use Rattle.leaf_dispatch.specs.Answers.{is_busy, FewTries, FitsStage, OldestIsOther}
 use Rattle.leaf_dispatch.specs.Guests.{IsExit}
 use Rattle.leaf_table.specs.Leaves.{leaf_seen}
-use Rattle.leaf_dispatch.specs.Running.{standing_of, answered_with, IsUnderWay, IsRunOf, IsRunAt, IsAnsweredBy}
+use Rattle.leaf_dispatch.specs.Running.{standing_of, answered_with, IsUnderWay, IsRunOf, IsAnsweredBy}
+use Rattle.leaf_dispatch.specs.CallRuns.{IsCallRunAt}
+use Rattle.leaf_dispatch.specs.ShortRuns.{IsOneOf}
+use Rattle.host_turns.specs.HostTurns.{standing_of as host_standing, IsIn}
+use Rattle.host_turns.specs.declared.runs.HostRun.{HostRun}
 use Rattle.leaf_table.specs.declared.leaves.AnyLeaf.{AnyLeaf}
+use Rattle.leaf_dispatch.specs.declared.call_runs.CallRun.{CallRun}
 use Rattle.leaf_dispatch.specs.declared.running.Running.{Running}
 use Rattle.leaf_dispatch.proofs.Lowering.{by-fits}
+use Rattle.leaf_dispatch.proofs.ShortRuns.{none-is, other-of}
 
 still-held : (x : Stage) (held : List HeldLock) (reply : Reply) → IsAnsweredBy x → has_ended x held ≡ false → has_ended (stages.Answered reply) held ≡ false
 still-held (stages.Answered r) [] reply is e = cc
@@ -60,6 +66,8 @@ exits-fit m c (Done v) is = absurd is
 exits-fit m c (Refused s) is = absurd is
 
 -- the run of the first line, where that of any call would still be under way
-pub still-at : (m : Machine) (lines : List Call) (run run' : Option Running) → ((c : Call) → IsRunOf m (call_ends m c) run → IsRunOf m (call_ends m c) run') → IsRunAt m lines run → IsRunAt m lines run'
-still-at m [] run run' h is = tt
-still-at m (c ∷ cs) run run' h is = h c is
+pub still-at : (m : Machine) (lines : List Call) (k k' : CallRun) → is_none k.host ≡ true → k'.host ≡ k.host → ((c : Call) → IsRunOf m (call_ends m c) k.other → IsRunOf m (call_ends m c) k'.other) → IsCallRunAt m lines k → IsCallRunAt m lines k'
+still-at m [] k k' alone same h is = tt
+still-at m (c ∷ cs) k k' alone same h is =
+    let nothing : k.host ≡ None = none-is k.host alone in
+    subst (λ (r : Option HostRun). IsOneOf host_standing IsIn m (call_ends m c) r k'.other) (sym (same ∙ nothing)) (h c (other-of host_standing IsIn m (call_ends m c) k.host k.other nothing is))

@@ -43,7 +43,8 @@ use Rattle.leaf_dispatch.proofs.StepTurns.{step-is, guest-moves, cached-stays}
 use Rattle.leaf_dispatch.proofs.Fewer.{run-same, Counts, IsLowStep, step-fewer}
 use Rattle.leaf_dispatch.proofs.Replying.{reply-fits, first-trying}
 use Rattle.leaf_dispatch.proofs.Rooming.{room-is, operated-room, goes-room}
-use Rattle.leaf_dispatch.proofs.LineEvents.{none-is, no-run}
+use Rattle.leaf_dispatch.proofs.LineEvents.{no-run}
+use Rattle.leaf_dispatch.proofs.ShortRuns.{none-is}
 
 -- no list of a script is longer than the longest
 pub longest-holds : (cs : List CodeSeen) (t i : ℕ) → length (code_in cs t i) ≤ longest_in cs

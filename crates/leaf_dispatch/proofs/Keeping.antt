@@ -1,7 +1,6 @@
 -- What a turn leaves of a run.
 use Rattle.std.proofs.Common.{◌≡◌, ◌∙◌, ℕ, ◌-◌, false, List, [], ◌∷◌, Option, Some, None, refl, ap, sym, subst, arith}
 use Rattle.td_words.specs.declared.machines.Machine.{Machine}
-use Rattle.td_words.specs.declared.calls.Call.{Call}
 use Rattle.td_words.specs.declared.replies.Reply.{Reply}
 use Rattle.flat_core.specs.World.{Made}
 use Rattle.step_core.specs.declared.items.Taken.{Taken}
@@ -14,10 +13,10 @@ use Rattle.leaf_engine.specs.Means.{Task}
 use Rattle.leaf_engine.specs.Trees.{Tree, settle}
 use Rattle.leaf_engine.specs.Turns.{Standing, standing, CanRun, Turned, has_ended, last_reply}
 use Rattle.leaf_table.specs.Leaves.{leaf_seen}
-use Rattle.leaf_table.specs.Ends.{Ends, EndsAs, BeginsUnderOther, call_ends}
+use Rattle.leaf_table.specs.Ends.{Ends, EndsAs, BeginsUnderOther}
 use Rattle.guest_turns.specs.Turns.{turn_of, act_of, kept_after}
 use Rattle.leaf_dispatch.specs.Answers.{FewTries, FitsStage, OldestIsOther}
-use Rattle.leaf_dispatch.specs.Running.{standing_of, run_seen, act_in, made_in_run, kept_until, IsUnderWay, IsRunOf, IsRunAt, IsKept, CanTurn, HasTurned, RunTurned}
+use Rattle.leaf_dispatch.specs.Running.{standing_of, run_seen, act_in, made_in_run, kept_until, IsUnderWay, IsRunOf, IsKept, CanTurn, HasTurned, RunTurned}
 use Rattle.leaf_dispatch.specs.declared.running.Running.{Running}
 use Rattle.guest_turns.specs.declared.runs.LeafTurn.{LeafTurn}
 use Rattle.leaf_table.proofs.Ending.{ends-fed}
@@ -90,16 +89,6 @@ run-turned did bench m e s kept kept' kept'' result turn made k t same =
     by : HasTurned did m kept bench kept' (turn_of result) → result.act ≡ act_in kept' result.event → made ≡ made_in_run kept' result.event → (reply : Option Reply) → result.reply ≡ reply → kept'' ≡ kept_until reply kept' → RunTurned did m e s bench kept'' result made
     by t act adds None none is = subst (λ (z : Option Running). RunTurned did m e s bench z result made) (sym is) (run-goes-on did bench m e s kept kept' result made k t act adds none)
     by t act adds (Some r) some is = subst (λ (z : Option Running). RunTurned did m e s bench z result made) (sym is) (run-is-over did bench m e s kept kept' result made r k t act adds some)
-
--- what is kept, as the run of the first line
-
-pub run-at : (m : Machine) (c : Call) (cs lines : List Call) (kept : Option Running) → lines ≡ c ∷ cs → IsRunOf m (call_ends m c) kept → IsRunAt m lines kept
-run-at m c cs lines kept e is = subst (λ (z : List Call). IsRunAt m z kept) (sym e) is
-
-pub no-run-at : (m : Machine) (lines : List Call) (kept : Option Running) → run_seen kept ≡ None → IsRunAt m lines kept
-no-run-at m [] kept e = tt
-no-run-at m (c ∷ cs) None e = tt
-no-run-at m (c ∷ cs) (Some r) e = cc
 
 -- in a machine that is the bench's
 

@@ -16,5 +16,7 @@ pub mod Summing
 pub mod LineEvents
 pub mod GuestEvents
 pub mod StateEvents
+pub mod ShortRuns
 pub mod AtOnce
+pub mod CallTurns
 pub mod Firsts

@@ -28,12 +28,22 @@ use Rattle.leaf_dispatch.specs.Bounds.{stage_left, events_left}
 use Rattle.leaf_dispatch.specs.Guests.{guest_seen, IsLow, next_in}
 use Rattle.leaf_dispatch.specs.Inside.{unless_gives, entered_or, IsGuestKept, KeepsGuest}
 use Rattle.leaf_dispatch.specs.NoteRooms.{least, call_room, lines_room, stage_room, run_room, room_of, room_left}
-use Rattle.leaf_dispatch.specs.Running.{run_seen, IsAnsweredBy, standing_of, RunTurned}
+use Rattle.leaf_dispatch.specs.Running.{IsAnsweredBy, standing_of}
+use Rattle.leaf_dispatch.specs.CallRuns.{CallTurned}
+use Rattle.leaf_dispatch.specs.ShortRuns.{seen_by}
 use Rattle.leaf_table.specs.Given.{Given}
 use Rattle.leaf_table.specs.Table.{code_in, task_of, place_table}
-use Rattle.leaf_dispatch.specs.StepRuns.{seen_by, step_run_seen, IsOneOf, IsStepRunOf}
+use Rattle.leaf_dispatch.specs.StepRuns.{step_run_seen, IsStepRunOf}
 use Rattle.leaf_dispatch.specs.declared.step_runs.StepRun.{StepRun}
-use Rattle.guest_turns.specs.declared.runs.SharedRun.{SharedRun}
+use Rattle.leaf_dispatch.specs.declared.call_runs.CallRun.{CallRun}
+use Rattle.guest_turns.specs.SharedTurns.{standing_of as shared_standing, IsIn as IsSharedIn}
+use Rattle.host_turns.specs.HostTurns.{stands, standing_of as host_standing}
+use Rattle.host_turns.specs.declared.runs.HostAccess.{HostAccess}
+use Rattle.host_turns.specs.declared.runs.HostEnd.TheVariants.{Loaded, Stored, NotHost}
+use Rattle.host_turns.specs.declared.runs.HostStage.{HostStage}
+use Rattle.host_turns.specs.declared.runs.HostStage.TheVariants.{Denied, Locked, Ended}
+use Rattle.host_turns.specs.declared.runs.HostRun.{HostRun}
+use Rattle.td_words.specs.declared.refusals.Status.TheVariants as status
 use Rattle.leaf_dispatch.specs.declared.guests.GuestAt.{GuestAt}
 use Rattle.leaf_dispatch.specs.declared.running.Running.{Running}
 use Rattle.guest_turns.specs.declared.runs.LeafTurn.{LeafTurn}
@@ -41,6 +51,7 @@ use Rattle.leaf_dispatch.proofs.Lowering.{Gives}
 use Rattle.leaf_dispatch.proofs.Turning.{line-gives, line-moves, LineMoved, Moved, bound-before, none-begun, bound-after}
 use Rattle.leaf_dispatch.proofs.Fewer.{enters-fewer, releases-fewer}
 use Rattle.leaf_dispatch.proofs.Making.{room-before, less-stage}
+use Rattle.leaf_dispatch.proofs.ShortRuns.{none-is, no-run-of}
 
 -- a call answers its reply, what it makes of the cached translations, and the bundles that it makes
 abbrev told_quietly : List Translation → List Made → Beside → Beside
@@ -62,19 +73,25 @@ quiet : (c : Call) (act : Option Reply) (made : List Made) (b : Beside) → besi
 quiet c None made b = refl
 quiet c (Some r) made b = call-quiet c r made b
 
+-- the reply that tells of an entry
+abbrev tells_entry : Reply → Bool
+tells_entry (Done (value.Entered stale index position root)) = true
+tells_entry _ = false
+
 -- the guest that an act enters is at its start
-pub record Begins (c : Call) (x : WordGuest) : Type 0 where
+pub record Begins (c : Call) (r : Reply) (x : WordGuest) : Type 0 where
+  pub told : tells_entry r ≡ true
   pub events : guest_events c ≡ operation_events * x.most + 1
   pub completed : x.completed ≡ 0
   pub stays : x.leaving ≡ None
   pub none : x.run ≡ None
   pub room : (longest : ℕ) → call_room longest c ≡ least x.most longest
 
-begins : (c : Call) (r : Reply) (x : WordGuest) → or_else (guest_entered (call_answer c r)) None ≡ Some x → Begins c x
+begins : (c : Call) (r : Reply) (x : WordGuest) → or_else (guest_entered (call_answer c r)) None ≡ Some x → Begins c r x
 begins (call.VpEnter tdr vp most) (Done (value.Entered stale index position root)) x e =
     let entered : WordGuest = record { tdr = tdr; vp = vp; root = root; most = most; completed = 0; index = index; position = position; walk = None; leaving = None; run = None } in
     let same : entered ≡ x = cc in
-    subst (λ (z : WordGuest). Begins (call.VpEnter tdr vp most) z) same (record { events = refl; completed = refl; stays = refl; none = refl; room = λ n. refl })
+    subst (λ (z : WordGuest). Begins (call.VpEnter tdr vp most) (Done (value.Entered stale index position root)) z) same (record { told = refl; events = refl; completed = refl; stays = refl; none = refl; room = λ n. refl })
 begins (call.VpEnter tdr vp most) (Done _) x e = cc
 begins (call.VpEnter tdr vp most) (Refused s) x e = cc
 begins (call.VpEnter tdr vp most) (Exited out) x e = cc
@@ -85,21 +102,20 @@ begins (call.VpFlush tdr vp) (Exited out) x e = cc
 begins (call.HostRead page word) r x e = cc
 begins _ r x e = cc
 
+-- which a host access never has
+no-entry : (k : HostStage) (access : HostAccess) (page i : ℕ) (r : Reply) → (stands k access page i).stage ≡ stages.Answered r → tells_entry r ≡ false
+no-entry Denied access page i r e = cc
+no-entry Locked access page i r e = cc
+no-entry (Ended (Loaded x)) access page i r e = (let same : r ≡ Done (value.Number x) = cc in ap tells_entry same)
+no-entry (Ended Stored) access page i r e = (let same : r ≡ Done value.Nothing = cc in ap tells_entry same)
+no-entry (Ended NotHost) access page i r e = (let same : r ≡ Refused status.NotHost = cc in ap tells_entry same)
+
 pub gives-back : (b : Bool) (g : GuestAt) → unless_gives b g ≡ None → b ≡ true
 gives-back true g e = refl
 gives-back false g e = cc
 
-pub none-is : {A : Type 0} (x : Option A) → is_none x ≡ true → x ≡ None
-none-is None e = refl
-none-is (Some y) e = cc
-
 pub no-run : (m : Machine) (e : Ends) (k : StepRun) → step_run_seen k ≡ None → IsStepRunOf m e k
-no-run m e k none = by k.shared k.other none
-  where
-    by : (shared : Option SharedRun) (other : Option Running) → seen_by shared other ≡ None → IsOneOf m e shared other
-    by None None none = tt
-    by None (Some r) none = cc
-    by (Some r) other none = cc
+no-run m e k none = no-run-of shared_standing IsSharedIn m e k.shared k.other none
 
 pub room-begun : (longest : ℕ) (cs : List Call) → room_of longest cs None None ≡ lines_room longest cs
 room-begun longest [] = refl
@@ -124,11 +140,11 @@ module _ (p : Place) (given : Given) (codes : List CodeSeen) (c : Call) (cs : Li
   abbrev pub turned : Option WordGuest → Standing → Option Reply → WordLp
   turned g s reply = after_turn c cs g rs (besides us ns) s reply
 
-  module _ {B : Type 0} (did : List Taken → B → Type 0) (bench : B) (kept : Option Running) (result : LeafTurn) (made : List Made) (cached : us ≡ cached_by (call_answer c) result.act ts) (adds : ns ≡ added ms made) where
+  module _ {B : Type 0} (did : List Taken → B → Type 0) (bench : B) (kept : CallRun) (result : LeafTurn) (made : List Made) (cached : us ≡ cached_by (call_answer c) result.act ts) (adds : ns ≡ added ms made) where
     besides-are : besides us ns ≡ beside_by (call_answer c) made result.act (besides ts ms)
     besides-are = (λ i. besides (cached i) (adds i)) ∙ sym (quiet c result.act made (besides ts ms))
 
-    module _ (run : Option Standing) (t : RunTurned did p.machine ends (was run) bench kept result made) where
+    module _ (run : Option Standing) (t : CallTurned did p.machine ends (was run) bench kept result made) where
       gives : Gives ends (was run) t.stands result.event
       gives = line-gives did bench p.machine ends (was run) result made t
 
@@ -137,13 +153,13 @@ module _ (p : Place) (given : Given) (codes : List CodeSeen) (c : Call) (cs : Li
 
       line-moved : TurnsInPieces → (g G : Option WordGuest) → G ≡ guest_by (call_answer c) result.act g → LineMoved did bench given p c cs run g rs (besides ts ms) (turned G t.stands result.reply) result
       line-moved law g G is =
-          line-moves law did bench given p c cs run g rs (besides ts ms) kept (turned G t.stands result.reply) result made t
+          line-moves law did bench given p c cs run g rs (besides ts ms) (turned G t.stands result.reply) result made t
           (ap (λ (z : Option WordGuest). after_turn c cs z rs (besides us ns) t.stands result.reply) is
           ∙ ap (λ (z : Beside). after_turn c cs (guest_by (call_answer c) result.act g) rs z t.stands result.reply) besides-are)
 
       -- outside guests
 
-      enters : (act : Option Reply) (x : WordGuest) → result.act ≡ act → Some x ≡ guest_by (call_answer c) act None → (r : Reply) × (act_of result.event t.stands.stage ≡ Some r) × Begins c x
+      enters : (act : Option Reply) (x : WordGuest) → result.act ≡ act → Some x ≡ guest_by (call_answer c) act None → (r : Reply) × (act_of result.event t.stands.stage ≡ Some r) × Begins c r x
       enters None x e is = cc
       enters (Some r) x e is = (r, sym t.act_is ∙ e, begins c r x (sym is))
 
@@ -178,12 +194,12 @@ module _ (p : Place) (given : Given) (codes : List CodeSeen) (c : Call) (cs : Li
       -- and what is kept then
       pub outside-keeps : (ent : Option GuestAt) → option_map (λ (g : GuestAt). guest_seen g None) ent ≡ guest_by (call_answer c) result.act None
           → IfSome ent (λ g. (g.tdr < p.machine.pages) × (g.vp < p.machine.pages) × (code_in codes g.tdr g.index ≡ g.list.now) × IsLow g.walk) → result.reply ≡ None
-          → (step : StepRun) → is_none (step_run_seen step) ≡ true → KeepsGuest p.machine codes us (length rs + 1) (entered_or ent None) kept step
+          → (step : StepRun) → is_none (step_run_seen step) ≡ true → KeepsGuest p.machine codes us (length rs + 1) (entered_or ent None) kept.other step
       outside-keeps None is inside none step nothing = nothing
       outside-keeps (Some g) is inside none step nothing =
           let e = enters result.act (guest_seen g None) refl is in
           let a = gives.act e.0 e.1 in
-          keeps kept (t.seen ∙ ap (λ (z : Option Reply). kept_after z t.stands) none) (subst IsAnsweredBy (sym a.stage) tt) (record {
+          keeps kept.host kept.other (t.seen ∙ ap (λ (z : Option Reply). kept_after z t.stands) none) e.0 a.stage e.2.told (record {
             tdr = inside.0;
             vp = inside.1;
             list = inside.2;
@@ -193,12 +209,17 @@ module _ (p : Place) (given : Given) (codes : List CodeSeen) (c : Call) (cs : Li
             alone = λ z. nothing;
           })
         where
-          keeps : (k : Option Running) → run_seen k ≡ Some t.stands → IsAnsweredBy t.stands.stage → IsGuestKept p.machine codes us (length rs + 1) g step → KeepsGuest p.machine codes us (length rs + 1) (Some g) k step
-          keeps None seen answered is = cc
-          keeps (Some r) seen answered is = (let same : t.stands ≡ standing_of r = cc in (subst (λ (s : Standing). IsAnsweredBy s.stage) same answered, is))
+          keeps : (host : Option HostRun) (other : Option Running) → seen_by host_standing host other ≡ Some t.stands → (reply : Reply) → t.stands.stage ≡ stages.Answered reply → tells_entry reply ≡ true → IsGuestKept p.machine codes us (length rs + 1) g step
+              → KeepsGuest p.machine codes us (length rs + 1) (Some g) other step
+          keeps None None seen reply on told is = cc
+          keeps None (Some r) seen reply on told is = (let same : t.stands ≡ standing_of r = cc in (subst (λ (s : Standing). IsAnsweredBy s.stage) same (subst IsAnsweredBy (sym on) tt), is))
+          keeps (Some h) other seen reply on told is =
+              let same : host_standing h ≡ t.stands = cc in
+              let no : true ≡ false = sym told ∙ no-entry h.stage h.access h.page h.word reply (ap (λ (s : Standing). s.stage) same ∙ on) in
+              cc
 
     -- in a guest, while its VP.ENTER gives E back
-    module _ (r : Running) (x : WordGuest) (answered : IsAnsweredBy r.run.stage) (t : RunTurned did p.machine ends (standing_of r) bench kept result made) where
+    module _ (r : Running) (x : WordGuest) (answered : IsAnsweredBy r.run.stage) (t : CallTurned did p.machine ends (standing_of r) bench kept result made) where
       pub acts-once : result.act ≡ None
       acts-once = by result.act refl
         where
@@ -237,9 +258,9 @@ module _ (p : Place) (given : Given) (codes : List CodeSeen) (c : Call) (cs : Li
       inside-room longest (Some z) = rw (room-begun longest cs) (omega arith)
       inside-room longest None = omega arith
 
-      pub inside-keeps : (g : GuestAt) (step : StepRun) → IsGuestKept p.machine codes ts (length rs + 1) g step → result.reply ≡ None → KeepsGuest p.machine codes us (length rs + 1) (Some g) kept step
-      inside-keeps g step is none =
-          keeps kept (t.seen ∙ ap (λ (z : Option Reply). kept_after z t.stands) none) still (subst (λ (ys : List Translation). IsGuestKept p.machine codes ys (length rs + 1) g step) (sym inside-cached) is)
+      pub inside-keeps : (g : GuestAt) (step : StepRun) → is_none kept.host ≡ true → IsGuestKept p.machine codes ts (length rs + 1) g step → result.reply ≡ None → KeepsGuest p.machine codes us (length rs + 1) (Some g) kept.other step
+      inside-keeps g step alone is none =
+          keeps kept.host kept.other alone (t.seen ∙ ap (λ (z : Option Reply). kept_after z t.stands) none) still (subst (λ (ys : List Translation). IsGuestKept p.machine codes ys (length rs + 1) g step) (sym inside-cached) is)
         where
           on : (s : Stage) → r.run.stage ≡ s → IsAnsweredBy s → (z : Reply) × (r.run.stage ≡ stages.Answered z)
           on (stages.Answered z) e a = (z, e)
@@ -252,6 +273,8 @@ module _ (p : Place) (given : Given) (codes : List CodeSeen) (c : Call) (cs : Li
               let now = (gives (Some (standing_of r)) t).stays_answered was-on.0 was-on.1 in
               subst IsAnsweredBy (sym now.1) tt
 
-          keeps : (k : Option Running) → run_seen k ≡ Some t.stands → IsAnsweredBy t.stands.stage → IsGuestKept p.machine codes us (length rs + 1) g step → KeepsGuest p.machine codes us (length rs + 1) (Some g) k step
-          keeps None seen answered is = cc
-          keeps (Some k) seen answered is = (let same : t.stands ≡ standing_of k = cc in (subst (λ (s : Standing). IsAnsweredBy s.stage) same answered, is))
+          keeps : (host : Option HostRun) (other : Option Running) → is_none host ≡ true → seen_by host_standing host other ≡ Some t.stands → IsAnsweredBy t.stands.stage → IsGuestKept p.machine codes us (length rs + 1) g step
+              → KeepsGuest p.machine codes us (length rs + 1) (Some g) other step
+          keeps None None alone seen answered is = cc
+          keeps None (Some k) alone seen answered is = (let same : t.stands ≡ standing_of k = cc in (subst (λ (s : Standing). IsAnsweredBy s.stage) same answered, is))
+          keeps (Some h) other alone seen answered is = cc

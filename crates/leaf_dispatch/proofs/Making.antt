@@ -1,5 +1,5 @@
 -- What a turn makes of bundles, and the room that it leaves.
-use Rattle.std.proofs.Common.{◌≡◌, ◌∙◌, ℕ, suc, ◌+◌, ◌<◌, ◌≤◌, List, [], ◌∷◌, ◌++◌, length, take, get_or, Option, Some, None, refl, ap, sym, subst, arith}
+use Rattle.std.proofs.Common.{◌≡◌, ◌∙◌, ℕ, suc, ◌+◌, ◌<◌, ◌≤◌, true, is_none, List, [], ◌∷◌, ◌++◌, length, take, get_or, Option, Some, None, refl, ap, sym, subst, arith}
 use Rattle.std.proofs.Math.Seq.{take-suc}
 use Rattle.td_words.specs.declared.machines.Machine.{Machine}
 use Rattle.td_words.specs.declared.calls.Call.{Call}
@@ -21,7 +21,12 @@ use Rattle.guest_turns.specs.Turns.{act_of, kept_after}
 use Rattle.leaf_dispatch.specs.Inside.{line_then}
 use Rattle.leaf_dispatch.specs.NoteRooms.{stage_room, run_room}
 use Rattle.leaf_dispatch.specs.BundleRooms.{count_of, words_of, lines_make, still_make, payload_words}
-use Rattle.leaf_dispatch.specs.Running.{standing_of, run_seen, made_in_run, IsKept, HasTurned, RunTurned, IsAnsweredBy, IsAnswered}
+use Rattle.leaf_dispatch.specs.Running.{standing_of, run_seen, made_in_run, IsKept, HasTurned, IsAnsweredBy, IsAnswered}
+use Rattle.leaf_dispatch.specs.ShortRuns.{seen_by}
+use Rattle.leaf_dispatch.specs.CallRuns.{call_run_seen, CallTurned}
+use Rattle.leaf_dispatch.specs.declared.call_runs.CallRun.{CallRun}
+use Rattle.host_turns.specs.HostTurns.{standing_of as host_standing}
+use Rattle.host_turns.specs.declared.runs.HostRun.{HostRun}
 use Rattle.leaf_table.specs.Given.{Given}
 use Rattle.leaf_table.specs.Table.{task_of}
 use Rattle.leaf_dispatch.specs.declared.running.Running.{Running}
@@ -111,29 +116,29 @@ module _ (size : Option ℕ → ℕ) (of : List Made → ℕ) (counts : Counts s
       subst (λ (z : Standing). of (made_in_run (Some r') turn.event) ≤ stage_room (size e.makes) z.stage) k.0 (omega (arith, room))
 
   -- of the present line's run
-  module _ {B : Type 0} (did : List Taken → B → Type 0) (bench : B) (given : Given) (p : Place) (c : Call) (cs lines : List Call) (run kept : Option Running) (result : LeafTurn) (made : List Made) (is : lines ≡ c ∷ cs)
-      (t : RunTurned did p.machine (call_ends p.machine c) (running (task_of given p c) (run_seen run)) bench kept result made) where
-    room-used : of made + stage_room (size (call_makes c)) t.stands.stage ≤ run_room (size (call_makes c)) (run_seen run)
+  module _ {B : Type 0} (did : List Taken → B → Type 0) (bench : B) (given : Given) (p : Place) (c : Call) (cs lines : List Call) (run : Option Standing) (kept : CallRun) (result : LeafTurn) (made : List Made) (is : lines ≡ c ∷ cs)
+      (t : CallTurned did p.machine (call_ends p.machine c) (running (task_of given p c) run) bench kept result made) where
+    room-used : of made + stage_room (size (call_makes c)) t.stands.stage ≤ run_room (size (call_makes c)) run
     room-used =
-        let room = made-room (call_ends p.machine c) (running (task_of given p c) (run_seen run)) t.stands result.event (line-gives did bench p.machine (call_ends p.machine c) (running (task_of given p c) (run_seen run)) result made t) in
+        let room = made-room (call_ends p.machine c) (running (task_of given p c) run) t.stands result.event (line-gives did bench p.machine (call_ends p.machine c) (running (task_of given p c) run) result made t) in
         let same : of made ≡ of (bundles_made result.event t.stands.rest) = ap of t.made_is in
-        let before = room-before (size (call_makes c)) (task_of given p c) (run_seen run) in
+        let before = room-before (size (call_makes c)) (task_of given p c) run in
         omega (arith, room, same, before)
 
-    pub line-room : result.reply ≡ None → of made + still_make size lines (run_seen kept) ≤ still_make size lines (run_seen run)
+    pub line-room : result.reply ≡ None → of made + still_make size lines (call_run_seen kept) ≤ still_make size lines run
     line-room none =
-        let seen : run_seen kept ≡ Some t.stands = t.seen ∙ ap (λ (z : Option Reply). kept_after z t.stands) none in
+        let seen : call_run_seen kept ≡ Some t.stands = t.seen ∙ ap (λ (z : Option Reply). kept_after z t.stands) none in
         let used = room-used in
-        subst (λ (ls : List Call). of made + still_make size ls (run_seen kept) ≤ still_make size ls (run_seen run)) (sym is)
-        (subst (λ (z : Option Standing). of made + still_make size (c ∷ cs) z ≤ still_make size (c ∷ cs) (run_seen run)) (sym seen) (omega (arith, used)))
+        subst (λ (ls : List Call). of made + still_make size ls (call_run_seen kept) ≤ still_make size ls run) (sym is)
+        (subst (λ (z : Option Standing). of made + still_make size (c ∷ cs) z ≤ still_make size (c ∷ cs) run) (sym seen) (omega (arith, used)))
 
-    pub ended-room : (z : Reply) → result.reply ≡ Some z → of made + still_make size cs (run_seen kept) ≤ still_make size lines (run_seen run)
+    pub ended-room : (z : Reply) → result.reply ≡ Some z → of made + still_make size cs (call_run_seen kept) ≤ still_make size lines run
     ended-room z some =
-        let seen : run_seen kept ≡ None = t.seen ∙ ap (λ (x : Option Reply). kept_after x t.stands) some in
+        let seen : call_run_seen kept ≡ None = t.seen ∙ ap (λ (x : Option Reply). kept_after x t.stands) some in
         let used = room-used in
         let begun = makes-begun size cs in
-        subst (λ (ls : List Call). of made + still_make size cs (run_seen kept) ≤ still_make size ls (run_seen run)) (sym is)
-        (subst (λ (x : Option Standing). of made + still_make size cs x ≤ still_make size (c ∷ cs) (run_seen run)) (sym seen) (omega (arith, used, begun)))
+        subst (λ (ls : List Call). of made + still_make size cs (call_run_seen kept) ≤ still_make size ls run) (sym is)
+        (subst (λ (x : Option Standing). of made + still_make size cs x ≤ still_make size (c ∷ cs) run) (sym seen) (omega (arith, used, begun)))
 
   -- of a call's run that is kept, which may have begun with this turn
   pub call-room : {B : Type 0} (did : List Taken → B → Type 0) (bench : B) (m : Machine) (given : Given) (p : Place) (c : Call) (run : Option Standing) (kept kept' : Option Running) (turn : RunTurn) → p.machine ≡ m
@@ -155,12 +160,17 @@ answered-room n (stages.Answered r) is = refl
 answered-room n stages.Trying is = absurd is
 answered-room n (stages.Undoing name at) is = absurd is
 
-pub exit-room : (size : Option ℕ → ℕ) (lines : List Call) (run run' : Option Running) (s : Step) (reply : Option Reply) → run_seen run' ≡ line_then s reply (run_seen run) → IsAnswered run' → still_make size lines (run_seen run') ≤ still_make size lines (run_seen run)
-exit-room size [] run run' s reply seen answered = omega arith
-exit-room size (c ∷ cs) run None s None seen answered = rw (sym seen) (omega arith)
-exit-room size (c ∷ cs) None None s (Some x) seen answered = omega arith
-exit-room size (c ∷ cs) (Some r) None s (Some x) seen answered = cc
-exit-room size (c ∷ cs) run (Some r') s reply seen answered = (let none = answered-room (size (call_makes c)) r'.run.stage answered in omega (arith, none))
+exit-none : (size : Option ℕ → ℕ) (lines : List Call) (run run' : Option Running) (s : Step) (reply : Option Reply) → run_seen run' ≡ line_then s reply (run_seen run) → IsAnswered run' → still_make size lines (run_seen run') ≤ still_make size lines (run_seen run)
+exit-none size [] run run' s reply seen answered = omega arith
+exit-none size (c ∷ cs) run None s None seen answered = rw (sym seen) (omega arith)
+exit-none size (c ∷ cs) None None s (Some x) seen answered = omega arith
+exit-none size (c ∷ cs) (Some r) None s (Some x) seen answered = cc
+exit-none size (c ∷ cs) run (Some r') s reply seen answered = (let none = answered-room (size (call_makes c)) r'.run.stage answered in omega (arith, none))
+
+pub exit-room : (size : Option ℕ → ℕ) (lines : List Call) (host : Option HostRun) (run run' : Option Running) (s : Step) (reply : Option Reply) → is_none host ≡ true → run_seen run' ≡ line_then s reply (run_seen run) → IsAnswered run'
+    → still_make size lines (seen_by host_standing host run') ≤ still_make size lines (seen_by host_standing host run)
+exit-room size lines None run run' s reply alone seen answered = exit-none size lines run run' s reply seen answered
+exit-room size lines (Some h) run run' s reply alone seen answered = cc
 
 -- a leaf that makes none has made none with a turn
 pub step-made : {B : Type 0} (did : List Taken → B → Type 0) (bench : B) (m : Machine) (e : Ends) (s : Standing) (kept kept' : Option Running) (turn : RunTurn) → e.makes ≡ None → IsKept m e s kept → HasTurned did m kept bench kept' turn → [] ≡ made_in_run kept' turn.event

@@ -20,8 +20,7 @@ use Rattle.leaf_dispatch.specs.Answers.{beside_by, guest_by}
 use Rattle.leaf_dispatch.specs.Bounds.{stage_left, run_left, events_left}
 use Rattle.leaf_table.specs.Given.{Given}
 use Rattle.leaf_table.specs.Table.{task_of, place_table}
-use Rattle.leaf_dispatch.specs.Running.{LeafTurned, RunTurned}
-use Rattle.leaf_dispatch.specs.declared.running.Running.{Running}
+use Rattle.leaf_dispatch.specs.Running.{LeafTurned}
 use Rattle.guest_turns.specs.declared.runs.LeafTurn.{LeafTurn}
 use Rattle.leaf_dispatch.proofs.Lowering.{Gives, turn-gives}
 
@@ -38,10 +37,10 @@ pub record LineMoved {B : Type 0} (did : List Taken → B → Type 0) (bench : B
 abbrev pub after_line : Call → List Call → Option WordGuest → List Reply → Beside → Standing → LeafTurn → List Made → WordLp
 after_line c cs g rs b s t made = after_turn c cs (guest_by (call_answer c) t.act g) rs (beside_by (call_answer c) made t.act b) s t.reply
 
-pub line-moves : TurnsInPieces → {B : Type 0} (did : List Taken → B → Type 0) (bench : B) (given : Given) (p : Place) (c : Call) (cs : List Call) (run : Option Standing) (g : Option WordGuest) (rs : List Reply) (b : Beside) (kept : Option Running) (q : WordLp) (result : LeafTurn) (made : List Made)
-    → (t : RunTurned did p.machine (call_ends p.machine c) (running (task_of given p c) run) bench kept result made) → q ≡ after_line c cs g rs b t.stands result made
+pub line-moves : TurnsInPieces → {B : Type 0} (did : List Taken → B → Type 0) (bench : B) (given : Given) (p : Place) (c : Call) (cs : List Call) (run : Option Standing) (g : Option WordGuest) (rs : List Reply) (b : Beside) {kept : Option Standing} {Keeps : Type 0} (q : WordLp) (result : LeafTurn) (made : List Made)
+    → (t : LeafTurned did p.machine (call_ends p.machine c) (running (task_of given p c) run) bench kept Keeps result made) → q ≡ after_line c cs g rs b t.stands result made
     → LineMoved did bench given p c cs run g rs b q result
-line-moves law did bench given p c cs run g rs b kept q result made t after =
+line-moves law did bench given p c cs run g rs b q result made t after =
     let s = running (task_of given p c) run in
     let told = law.told p.machine s t.stands t.turned.0 (turn_of result) t.turned.2 in
     let gives : Gives (call_ends p.machine c) s t.stands result.event = line-gives did bench p.machine (call_ends p.machine c) s result made t in

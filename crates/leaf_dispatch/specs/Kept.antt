@@ -2,7 +2,6 @@
 use Rattle.std.specs.Prelude.{ℕ, ◌-◌, List, [], ◌∷◌, Option, Some, None}
 use Rattle.std.proofs.Props.{props}
 use Rattle.td_words.specs.declared.machines.Machine.{Machine}
-use Rattle.td_words.specs.declared.calls.Call.{Call}
 use Rattle.flat_core.specs.World.{Made}
 use Rattle.leaf_engine.specs.declared.events.HeldLock.{HeldLock}
 use Rattle.leaf_engine.specs.declared.events.Stage.{Stage}
@@ -10,9 +9,9 @@ use Rattle.leaf_engine.specs.declared.events.Stage.TheVariants as stage
 use Rattle.leaf_engine.specs.Trees.{Answer, Tree, Lock, Load, Test, End, Since}
 use Rattle.word_rules.specs.Views.{look}
 use Rattle.leaf_engine.specs.Turns.{Standing, AreIn, IsStageIn}
-use Rattle.leaf_table.specs.Ends.{Ends, MakesOne, EndsBy, EndsAs, BeginsUnderOther, call_ends}
+use Rattle.leaf_table.specs.Ends.{Ends, MakesOne, EndsBy, EndsAs, BeginsUnderOther}
 use Rattle.leaf_dispatch.specs.Answers.{FitsStage, OldestIsOther}
-use Rattle.leaf_dispatch.specs.Running.{IsUnderWay, IsRunOf, IsRunAt, IsAnsweredBy, IsAnswered}
+use Rattle.leaf_dispatch.specs.Running.{IsUnderWay, IsRunOf, IsAnsweredBy, IsAnswered}
 use Rattle.leaf_dispatch.specs.declared.running.Running.{Running}
 
 AreIn-prop : (m : Machine) (hs : List HeldLock) → IsProp (AreIn m hs)
@@ -71,7 +70,3 @@ IsAnsweredBy-prop (stage.Answered reply) = hlevel
 pub IsAnswered-prop : (run : Option Running) → IsProp (IsAnswered run)
 IsAnswered-prop None = hlevel
 IsAnswered-prop (Some r) = IsAnsweredBy-prop r.run.stage
-
-pub IsRunAt-prop : (m : Machine) (cs : List Call) (run : Option Running) → IsProp (IsRunAt m cs run)
-IsRunAt-prop m [] run = hlevel
-IsRunAt-prop m (c ∷ cs) run = IsRunOf-prop m (call_ends m c) run

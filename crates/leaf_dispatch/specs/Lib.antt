@@ -3,7 +3,9 @@ pub mod Bounds
 pub mod Held
 pub mod Running
 pub mod Kept
+pub mod ShortRuns
 pub mod StepRuns
+pub mod CallRuns
 pub mod Guests
 pub mod Inside
 pub mod States

@@ -1,7 +1,6 @@
 -- What contracts see of the run of a leaf, and what it keeps between its turns.
-use Rattle.std.specs.Prelude.{◌≡◌, ℕ, Bool, false, List, [], ◌∷◌, Option, Some, None}
+use Rattle.std.specs.Prelude.{◌≡◌, ℕ, Bool, false, List, [], Option, Some, None}
 use Rattle.td_words.specs.declared.machines.Machine.{Machine}
-use Rattle.td_words.specs.declared.calls.Call.{Call}
 use Rattle.td_words.specs.declared.replies.Reply.{Reply}
 use Rattle.flat_core.specs.World.{Made}
 use Rattle.step_core.specs.declared.items.Taken.{Taken}
@@ -13,7 +12,7 @@ use Rattle.leaf_engine.specs.Besides.{bundles_made}
 use Rattle.leaf_engine.specs.Turns.{Standing, standing, CanRun, Turned, has_ended}
 use Rattle.leaf_table.specs.Leaves.{leaf_seen}
 use Rattle.leaf_table.specs.PageRooms.{is_spare, leaf_room}
-use Rattle.leaf_table.specs.Ends.{Ends, call_ends}
+use Rattle.leaf_table.specs.Ends.{Ends}
 use Rattle.leaf_dispatch.specs.Answers.{FewTries, FitsStage, OldestIsOther}
 use Rattle.leaf_dispatch.specs.declared.running.Running.{Running}
 use Rattle.guest_turns.specs.declared.runs.LeafTurn.{LeafTurn}
@@ -40,11 +39,6 @@ pub record IsUnderWay (m : Machine) (e : Ends) (r : Running) : Type 0 where
 abbrev pub IsRunOf : Machine → Ends → Option Running → Type 0
 IsRunOf m e None = Unit {0}
 IsRunOf m e (Some r) = IsUnderWay m e r
-
--- the run of the first of these lines, if there is one
-abbrev pub IsRunAt : Machine → List Call → Option Running → Type 0
-IsRunAt m [] run = Unit {0}
-IsRunAt m (c ∷ cs) run = IsRunOf m (call_ends m c) run
 
 -- the run that is kept stands there
 abbrev pub IsKept : Machine → Ends → Standing → Option Running → Type 0

@@ -8,14 +8,14 @@ use Rattle.leaf_dispatch.specs.Guests.{note_seen}
 use Rattle.leaf_dispatch.specs.Inside.{guest_in}
 use Rattle.leaf_table.specs.Given.{given_in}
 use Rattle.leaf_table.specs.Table.{code_in, place_table}
-use Rattle.leaf_dispatch.specs.Running.{run_seen}
+use Rattle.leaf_dispatch.specs.CallRuns.{call_run_seen}
 use Rattle.leaf_dispatch.specs.declared.states.LpState.{LpState}
 
 -- where it is in its calls and in its guest
 abbrev pub seen_of : LpState → WordLp
 seen_of s = record {
   lines = s.lines.now;
-  run = run_seen s.run;
+  run = call_run_seen s.run;
   guest = guest_in s.guest s.step_run;
   replies = s.replies.items;
   beside = record { cached = s.cached; notes = map note_seen s.notes.items; told = s.told.items; bundles = s.bundles.made };

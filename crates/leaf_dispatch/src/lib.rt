@@ -1,8 +1,9 @@
 //! Logical processors with their calls: their turns over words.
 //!
-//! Stands on `leaf_engine`, whose runs it makes turn by turn, on `guest_turns` for the steps of guests
-//! that need no run, and on `leaf_table`, which has the leaf of each call, by what the run is given:
-//! secret words, and the bundles that come in. A layer above may use that `LpState` is a `Processor`.
+//! Stands on `leaf_engine`, whose runs it makes turn by turn, on `guest_turns` and `host_turns` for the steps
+//! of guests and the host accesses that need no run, and on `leaf_table`, which has the leaf of each call, by
+//! what the run is given: secret words, and the bundles that come in. A layer above may use that `LpState` is
+//! a `Processor`.
 //! From its calls on (`first` of `new`) each turn is the next event of its present call's leaf, or in a
 //! guest that of the guest's next step, told in pieces; the reply comes in with the call's last event. A
 //! turn takes no memory. What guests note and tell stands in `notes` and `told`, and the bundles that
@@ -11,6 +12,8 @@
 #![tactic(auto)]
 
 mod answers;
+mod call_runs;
+mod call_turns;
 mod first_lists;
 mod guests;
 mod laws;

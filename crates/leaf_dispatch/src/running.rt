@@ -59,7 +59,7 @@ impl<'a> Drop for Running<'a> {
 /// It is apart from its caller, and its rare steps are apart from it, since a function clears the
 /// places of its large values where it begins.
 #[inline(never)]
-pub fn turn_call<'a, B: Bench>(
+pub fn turn_call_run<'a, B: Bench>(
     kept: &mut Option<Running<'a>>,
     spare: &mut Option<PageWords>,
     bundles: &mut Bundles,

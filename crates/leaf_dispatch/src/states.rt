@@ -2,17 +2,17 @@
 
 ghost use Rattle.std.specs.Prelude.{◌≡◌, ◌+◌, ◌<◌, ◌≤◌, ◌^◌, true, length, vec_capacity};
 ghost use Rattle.td_words.specs.Limits.{IsMachine};
-ghost use Rattle.leaf_dispatch.specs.Running.{run_seen, holds_room, IsRunAt};
-ghost use Rattle.leaf_dispatch.specs.Kept.{IsRunAt-prop};
+ghost use Rattle.leaf_dispatch.specs.Running.{holds_room};
+ghost use Rattle.leaf_dispatch.specs.CallRuns.{call_run_seen, IsCallRunAt, IsCallRunAt-prop};
 ghost use Rattle.leaf_dispatch.specs.Inside.{guest_in, AreOperations, AreOperations-prop, KeepsGuest, KeepsGuest-prop};
 ghost use Rattle.leaf_dispatch.specs.NoteRooms.{longest_in, room_of};
 ghost use Rattle.leaf_dispatch.specs.BundleRooms.{count_of, words_of, still_make};
 ghost use Rattle.leaf_dispatch.specs.FirstLists.{AreFirstLists, AreFirstLists-prop};
 
+use crate::call_runs::{CallRun, call_held_of};
 use crate::first_lists::FirstLists;
 use crate::guests::{GuestAt, InGuest, next_step};
 use crate::rooms::{add_note, add_word, lines_bundles, lines_payloads, lines_room, longest};
-use crate::running::{Running, held_of};
 use crate::step_runs::{StepRun, forget_step, step_held_of};
 use crate::turns::{GuestTurn, answer_exit, is_acting, leave_where, turn_guest, turn_line};
 use bundles::Bundles;
@@ -36,7 +36,7 @@ pub struct LpState<'a> {
     codes: &'a [Code],
     given: Given<'a>,
     first_lists: &'a FirstLists,
-    run: Option<Running<'a>>,
+    run: CallRun<'a>,
     spare: Option<PageWords>,
     guest: Option<GuestAt<'a>>,
     step_run: StepRun<'a>,
@@ -49,14 +49,14 @@ pub struct LpState<'a> {
     ghost limits: { AreOperations codes.now } by { AreOperations-prop codes.now },
     ghost lists_are: { AreFirstLists codes.now first_lists.now } by { AreFirstLists-prop codes.now first_lists.now },
     ghost few: { length replies.items + length lines.now < 2 ^ 32 },
-    ghost under_way: { IsRunAt place.machine lines.now run } by { IsRunAt-prop place.machine lines.now run },
-    ghost inside: { KeepsGuest place.machine codes.now cached (length replies.items + 1) guest run step_run } by { KeepsGuest-prop place.machine codes.now cached (length replies.items + 1) guest run step_run },
+    ghost under_way: { IsCallRunAt place.machine lines.now run } by { IsCallRunAt-prop place.machine lines.now run },
+    ghost inside: { KeepsGuest place.machine codes.now cached (length replies.items + 1) guest run.other step_run } by { KeepsGuest-prop place.machine codes.now cached (length replies.items + 1) guest run.other step_run },
     ghost room: { length replies.items + length lines.now ≤ vec_capacity replies },
-    ghost note_room: { length notes.items + room_of (longest_in codes.now) lines.now (run_seen run) (guest_in guest step_run) ≤ vec_capacity notes },
-    ghost word_room: { length told.items + room_of (longest_in codes.now) lines.now (run_seen run) (guest_in guest step_run) ≤ vec_capacity told },
-    ghost bundle_room: { still_make count_of lines.now (run_seen run) ≤ bundles.room },
-    ghost payload_room: { still_make words_of lines.now (run_seen run) ≤ bundles.word_room },
-    ghost page_room: { holds_room spare run ≡ true },
+    ghost note_room: { length notes.items + room_of (longest_in codes.now) lines.now (call_run_seen run) (guest_in guest step_run) ≤ vec_capacity notes },
+    ghost word_room: { length told.items + room_of (longest_in codes.now) lines.now (call_run_seen run) (guest_in guest step_run) ≤ vec_capacity told },
+    ghost bundle_room: { still_make count_of lines.now (call_run_seen run) ≤ bundles.room },
+    ghost payload_room: { still_make words_of lines.now (call_run_seen run) ≤ bundles.word_room },
+    ghost page_room: { holds_room spare run.other ≡ true },
 }
 
 impl<'a> LpState<'a> {
@@ -124,7 +124,10 @@ impl<'a> LpState<'a> {
             codes,
             given,
             first_lists,
-            run: None,
+            run: CallRun {
+                host: None,
+                other: None,
+            },
             spare: Some(page_words),
             guest: None,
             step_run: StepRun {
@@ -197,7 +200,7 @@ impl<'a> LpState<'a> {
     pub fn call_held(&self) -> &[HeldLock]
         ensures { result.now ≡ held_by (seen_of self.now).run }
     {
-        held_of(&self.run)
+        call_held_of(&self.run)
     }
 
     /// The locks that the run of its guest's step holds, the oldest first.
@@ -226,7 +229,7 @@ impl<'a> LpState<'a> {
         ensures moved { HasMoved (B.did bench.old) self.old bench.new self.new result }
         ensures same { B.machine bench.new ≡ B.machine bench.old }
     {
-        if is_acting(&self.guest, &self.run) {
+        if is_acting(&self.guest, &self.run.other) {
             self.guest_event(bench)
         } else {
             self.line_event(call, further, bench)
@@ -237,7 +240,7 @@ impl<'a> LpState<'a> {
     fn line_event<B: Bench>(&mut self, call: &'a Call, further: &'a [Call], bench: &mut B) -> Event
         requires machine { self.old.place.machine ≡ B.machine bench.old }
         requires lines { self.old.lines.now ≡ call.now ∷ further.now }
-        requires own { is_some (acting self.old.guest self.old.run) ≡ false }
+        requires own { is_some (acting self.old.guest self.old.run.other) ≡ false }
         ensures moved { HasMoved (B.did bench.old) self.old bench.new self.new result }
         ensures same { B.machine bench.new ≡ B.machine bench.old }
     {
@@ -273,7 +276,7 @@ impl<'a> LpState<'a> {
     fn guest_event<B: Bench>(&mut self, bench: &mut B) -> Event
         requires machine { self.old.place.machine ≡ B.machine bench.old }
         requires lines { 0 < length self.old.lines.now }
-        requires acts { is_some (acting self.old.guest self.old.run) ≡ true }
+        requires acts { is_some (acting self.old.guest self.old.run.other) ≡ true }
         ensures moved { HasMoved (B.did bench.old) self.old bench.new self.new result }
         ensures same { B.machine bench.new ≡ B.machine bench.old }
     {
@@ -299,7 +302,7 @@ impl<'a> LpState<'a> {
         );
         add_note(&mut self.notes, note);
         add_word(&mut self.told, word);
-        answer_exit(&mut self.run, step, turn.reply);
+        answer_exit(&mut self.run.other, step, turn.reply);
         leave_where(&mut self.guest, left);
         turn.event
     }

@@ -18,14 +18,17 @@ ghost use Rattle.leaf_dispatch.specs.NoteRooms.{run_room};
 ghost use Rattle.leaf_dispatch.specs.BundleRooms.{count_of, words_of, HasAdded};
 ghost use Rattle.leaf_dispatch.specs.FirstLists.{AreFirstLists};
 ghost use Rattle.leaf_dispatch.specs.StepRuns.{step_run_seen, IsStepRunOf, StepTurned};
-ghost use Rattle.leaf_dispatch.specs.Running.{run_seen, holds_room, IsRunOf, IsAnswered, RunTurned};
+ghost use Rattle.leaf_dispatch.specs.CallRuns.{call_run_seen, IsCallRunOf, CallTurned};
+ghost use Rattle.leaf_dispatch.specs.Running.{run_seen, holds_room, IsRunOf, IsAnswered};
 ghost use Rattle.leaf_table.specs.Given.{given_in};
 ghost use Rattle.leaf_table.specs.Table.{code_in, task_of, step_task};
 
 use crate::answers::{cache_walk, drop_stale, entered, noted, told};
+use crate::call_runs::CallRun;
+use crate::call_turns::turn_call;
 use crate::first_lists::FirstLists;
 use crate::guests::{GuestAt, next_step, step_on};
-use crate::running::{Running, answer_kept, turn_call};
+use crate::running::{Running, answer_kept};
 use crate::step_runs::StepRun;
 use crate::step_turns::turn_step;
 use bundles::Bundles;
@@ -53,7 +56,7 @@ pub struct GuestTurn {
 /// has it, which gives it back with its reply. The guest that its act enters is the guest from then on.
 #[inline(never)]
 pub fn turn_line<'a, B: Bench>(
-    kept: &mut Option<Running<'a>>,
+    kept: &mut CallRun<'a>,
     spare: &mut Option<PageWords>,
     bundles: &mut Bundles,
     cached: &mut Tlb,
@@ -68,14 +71,15 @@ pub fn turn_line<'a, B: Bench>(
     requires machine { IsMachine place.machine }
     requires first_lists { AreFirstLists codes.now first_lists.now }
     requires at { place.machine ≡ B.machine bench.old }
-    requires under_way { IsRunOf place.machine (call_ends place.machine call.now) kept.old }
-    requires room { run_room (count_of (call_makes call.now)) (run_seen kept.old) ≤ bundles.old.room }
-    requires word_room { run_room (words_of (call_makes call.now)) (run_seen kept.old) ≤ bundles.old.word_room }
-    requires page_room { holds_room spare.old kept.old ≡ true }
-    ensures turned { (made : List Made) × HasAdded bundles.old made bundles.new × RunTurned (B.did bench.old) place.machine (call_ends place.machine call.now) (running (task_of (given_in given.entry) place call.now) (run_seen kept.old)) bench.new kept.new result made }
+    requires under_way { IsCallRunOf place.machine (call_ends place.machine call.now) kept.old }
+    requires room { run_room (count_of (call_makes call.now)) (call_run_seen kept.old) ≤ bundles.old.room }
+    requires word_room { run_room (words_of (call_makes call.now)) (call_run_seen kept.old) ≤ bundles.old.word_room }
+    requires page_room { holds_room spare.old kept.old.other ≡ true }
+    ensures turned { (made : List Made) × HasAdded bundles.old made bundles.new × CallTurned (B.did bench.old) place.machine (call_ends place.machine call.now) (running (task_of (given_in given.entry) place call.now) (call_run_seen kept.old)) bench.new kept.new result made }
     ensures cached { cached.new ≡ cached_by (call_answer call.now) result.act cached.old }
     ensures entered { HasEntered place.machine codes.now (guest_by (call_answer call.now) result.act None) guest.old guest.new }
-    ensures page_room { holds_room spare.new kept.new ≡ true }
+    ensures page_room { holds_room spare.new kept.new.other ≡ true }
+    ensures stays { is_some kept.old.other ≡ true → is_none kept.new.host ≡ true }
     ensures machine { B.machine bench.new ≡ B.machine bench.old }
 {
     let turn = turn_call(kept, spare, bundles, place, call, given, bench);

@@ -1,21 +1,18 @@
-use Rattle.std.proofs.Common.{refl, subst}
-use Rattle.td_words.specs.declared.machines.Machine.{Machine}
-use Rattle.guest_turns.specs.SharedTurns.{IsRunIn}
+use Rattle.guest_turns.specs.SharedTurns.{standing_of, IsIn}
 use Rattle.leaf_table.specs.Ends.{step_ends}
 use Rattle.leaf_table.specs.Given.{given_in}
 use Rattle.leaf_table.specs.Steps.{step_seen}
 use Rattle.leaf_table.specs.Table.{step_task}
-use Rattle.leaf_dispatch.proofs.AtOnce.{is-in, shared-on}
+use Rattle.leaf_dispatch.proofs.ShortRuns.{is-in, short-on}
 use Rattle.leaf_dispatch.proofs.step_turns.turn_step.Goals as goal
 
 pub turn_shared-requires : goal.turn_shared-requires
 turn_shared-requires g c =
-    let k = c.args.kept.now in
-    subst (λ (m : Machine). IsRunIn m k.shared) c.requires.at (is-in c.args.place.machine (step_ends c.args.tdr c.args.line (step_seen c.args.step)) k.shared k.other _ c.in-Some.is c.requires.under_way)
+    let k = c.args.kept.now in is-in standing_of IsIn c.args.place.machine _ (step_ends c.args.tdr c.args.line (step_seen c.args.step)) k.shared k.other _ c.requires.at c.in-Some.is c.requires.under_way
 
 pub returns-in-Some-clause-turned : goal.returns-in-Some-clause-turned
 returns-in-Some-clause-turned g c =
     let s = step_seen c.args.step in
     let k = c.args.kept.now in
-    shared-on (g.B.Bench.did c.args.bench.now) c.args.place.machine _ (step_ends c.args.tdr c.args.line s) (step_task (given_in c.args.given) c.args.place c.args.tdr c.args.vp c.args.line s) k.shared k.other c.turn_shared.new.bench c.turn_shared.new.kept c.turn_shared.result
-    c.requires.at refl c.requires.under_way c.turn_shared.ensures.turned
+    short-on standing_of IsIn (g.B.Bench.did c.args.bench.now) c.args.place.machine _ (step_ends c.args.tdr c.args.line s) (step_task (given_in c.args.given) c.args.place c.args.tdr c.args.vp c.args.line s) k.shared k.other c.turn_shared.new.bench c.turn_shared.new.kept c.turn_shared.result
+    c.requires.at c.requires.under_way c.turn_shared.ensures.turned

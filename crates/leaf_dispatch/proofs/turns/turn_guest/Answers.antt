@@ -6,7 +6,7 @@ use Rattle.leaf_table.specs.Steps.{step_seen}
 use Rattle.leaf_dispatch.specs.StepRuns.{step_run_seen, IsStepRunOf}
 use Rattle.leaf_table.specs.Given.{given_in}
 use Rattle.leaf_table.specs.Table.{step_task}
-use Rattle.leaf_dispatch.proofs.LineEvents.{none-is}
+use Rattle.leaf_dispatch.proofs.ShortRuns.{none-is}
 use Rattle.leaf_dispatch.proofs.Replying.{act-fits, reply-fits, first-trying}
 use Rattle.leaf_dispatch.proofs.turns.turn_guest.Goals as goal
 

@@ -13,6 +13,7 @@ use Rattle.leaf_table.specs.Given.{given_in}
 use Rattle.leaf_dispatch.proofs.Rooming.{notes-few, tells-few}
 use Rattle.leaf_dispatch.proofs.GuestEvents.{acts-as, stays-kept, kept-of, answered-of, notes-none, tells-none, no-notes, no-tells}
 use Rattle.leaf_dispatch.proofs.Exiting.{still-at}
+use Rattle.leaf_dispatch.proofs.CallTurns.{acting-alone}
 use Rattle.leaf_dispatch.proofs.StateEvents.{StepsAt, guest-steps, guest-room}
 use Rattle.leaf_dispatch.proofs.states.LpState.guest_event.Goals as goal
 
@@ -20,7 +21,7 @@ pub turn_guest-step-requires-clause-under_way : goal.turn_guest-step-requires-cl
 turn_guest-step-requires-clause-under_way g c =
     let l = c.args.self.now in
     let at = ap (λ (rs : List Reply). length rs + 1) c.replies.ensures in
-    let inside = kept-of l.place.machine l.codes.now l.cached (length l.replies.items + 1) l.guest l.run c.in-Some.guest l.step_run (acts-as l.guest l.run c.in-Some.guest c.in-Some.is c.requires.acts) l.inside in
+    let inside = kept-of l.place.machine l.codes.now l.cached (length l.replies.items + 1) l.guest l.run.other c.in-Some.guest l.step_run (acts-as l.guest l.run.other c.in-Some.guest c.in-Some.is c.requires.acts) l.inside in
     subst (λ (n : ℕ). IsStepRunOf l.place.machine (step_ends c.in-Some.guest.tdr n (next_in l.cached c.in-Some.guest None)) l.step_run) (sym at) inside.under_way
 
 pub add_note-requires : goal.add_note-requires
@@ -30,7 +31,7 @@ add_note-requires g c =
     let s = step_seen c.turn_guest-step.result.step in
     let steps : StepsAt l.place (given_in l.given) l.codes.now l.replies.items l.told.items (map note_seen l.notes.items) l.cached l.bundles.made (g.B.Bench.did c.args.bench.now) c.turn_guest-step.new.bench c.turn_guest-step.new.kept c.turn_guest-step.result.turn c.turn_guest-step.new.cached s c.in-Some.guest (unless c.turn_guest-step.result.left c.turn_guest-step.new.guest) l.step_run (length c.replies.result.now + 1) = record { counts = c.turn_guest-step.ensures.counts; low = c.turn_guest-step.ensures.within; is = sym (c.turn_guest-step.ensures.step None); turned = c.turn_guest-step.ensures.turned; cached = c.turn_guest-step.ensures.cached; next = c.turn_guest-step.ensures.next } in
     let made : ℕ = length (notes_by (step_answer c.in-Some.guest.tdr (length c.replies.result.now + 1) s) c.turn_guest-step.result.turn.act) in
-    let room = guest-room l.place (given_in l.given) l.codes.now l.replies.items l.told.items (map note_seen l.notes.items) l.cached l.bundles.made (g.B.Bench.did c.args.bench.now) c.turn_guest-step.new.bench c.turn_guest-step.new.kept c.turn_guest-step.result.turn c.turn_guest-step.new.cached s c.in-Some.guest (unless c.turn_guest-step.result.left c.turn_guest-step.new.guest) l.step_run l.lines.now l.guest l.run (length c.replies.result.now + 1) at steps c.requires.lines (acts-as l.guest l.run c.in-Some.guest c.in-Some.is c.requires.acts) l.inside made (notes-few c.in-Some.guest.tdr (length c.replies.result.now + 1) s c.turn_guest-step.result.turn.act) (no-notes c.in-Some.guest.tdr (length c.replies.result.now + 1) s c.turn_guest-step.result.turn.act) (notes-none c.in-Some.guest.tdr (length c.replies.result.now + 1) s c.turn_guest-step.result.turn.act) in
+    let room = guest-room l.place (given_in l.given) l.codes.now l.replies.items l.told.items (map note_seen l.notes.items) l.cached l.bundles.made (g.B.Bench.did c.args.bench.now) c.turn_guest-step.new.bench c.turn_guest-step.new.kept c.turn_guest-step.result.turn c.turn_guest-step.new.cached s c.in-Some.guest (unless c.turn_guest-step.result.left c.turn_guest-step.new.guest) l.step_run l.lines.now l.guest l.run.host l.run.other (acting-alone l.place.machine l.lines.now l.run l.guest c.in-Some.guest c.requires.lines l.under_way (acts-as l.guest l.run.other c.in-Some.guest c.in-Some.is c.requires.acts)) (length c.replies.result.now + 1) at steps c.requires.lines (acts-as l.guest l.run.other c.in-Some.guest c.in-Some.is c.requires.acts) l.inside made (notes-few c.in-Some.guest.tdr (length c.replies.result.now + 1) s c.turn_guest-step.result.turn.act) (no-notes c.in-Some.guest.tdr (length c.replies.result.now + 1) s c.turn_guest-step.result.turn.act) (notes-none c.in-Some.guest.tdr (length c.replies.result.now + 1) s c.turn_guest-step.result.turn.act) in
     let had = l.note_room in
     let same = ap length c.turn_guest-step.ensures.notes in
     omega (arith, room, had, same)
@@ -42,7 +43,7 @@ add_word-requires g c =
     let s = step_seen c.turn_guest-step.result.step in
     let steps : StepsAt l.place (given_in l.given) l.codes.now l.replies.items l.told.items (map note_seen l.notes.items) l.cached l.bundles.made (g.B.Bench.did c.args.bench.now) c.turn_guest-step.new.bench c.turn_guest-step.new.kept c.turn_guest-step.result.turn c.turn_guest-step.new.cached s c.in-Some.guest (unless c.turn_guest-step.result.left c.turn_guest-step.new.guest) l.step_run (length c.replies.result.now + 1) = record { counts = c.turn_guest-step.ensures.counts; low = c.turn_guest-step.ensures.within; is = sym (c.turn_guest-step.ensures.step None); turned = c.turn_guest-step.ensures.turned; cached = c.turn_guest-step.ensures.cached; next = c.turn_guest-step.ensures.next } in
     let made : ℕ = length (tells_by (step_answer c.in-Some.guest.tdr (length c.replies.result.now + 1) s) c.turn_guest-step.result.turn.act) in
-    let room = guest-room l.place (given_in l.given) l.codes.now l.replies.items l.told.items (map note_seen l.notes.items) l.cached l.bundles.made (g.B.Bench.did c.args.bench.now) c.turn_guest-step.new.bench c.turn_guest-step.new.kept c.turn_guest-step.result.turn c.turn_guest-step.new.cached s c.in-Some.guest (unless c.turn_guest-step.result.left c.turn_guest-step.new.guest) l.step_run l.lines.now l.guest l.run (length c.replies.result.now + 1) at steps c.requires.lines (acts-as l.guest l.run c.in-Some.guest c.in-Some.is c.requires.acts) l.inside made (tells-few c.in-Some.guest.tdr (length c.replies.result.now + 1) s c.turn_guest-step.result.turn.act) (no-tells c.in-Some.guest.tdr (length c.replies.result.now + 1) s c.turn_guest-step.result.turn.act) (tells-none c.in-Some.guest.tdr (length c.replies.result.now + 1) s c.turn_guest-step.result.turn.act) in
+    let room = guest-room l.place (given_in l.given) l.codes.now l.replies.items l.told.items (map note_seen l.notes.items) l.cached l.bundles.made (g.B.Bench.did c.args.bench.now) c.turn_guest-step.new.bench c.turn_guest-step.new.kept c.turn_guest-step.result.turn c.turn_guest-step.new.cached s c.in-Some.guest (unless c.turn_guest-step.result.left c.turn_guest-step.new.guest) l.step_run l.lines.now l.guest l.run.host l.run.other (acting-alone l.place.machine l.lines.now l.run l.guest c.in-Some.guest c.requires.lines l.under_way (acts-as l.guest l.run.other c.in-Some.guest c.in-Some.is c.requires.acts)) (length c.replies.result.now + 1) at steps c.requires.lines (acts-as l.guest l.run.other c.in-Some.guest c.in-Some.is c.requires.acts) l.inside made (tells-few c.in-Some.guest.tdr (length c.replies.result.now + 1) s c.turn_guest-step.result.turn.act) (no-tells c.in-Some.guest.tdr (length c.replies.result.now + 1) s c.turn_guest-step.result.turn.act) (tells-none c.in-Some.guest.tdr (length c.replies.result.now + 1) s c.turn_guest-step.result.turn.act) in
     let had = l.word_room in
     let same = ap length c.turn_guest-step.ensures.words in
     omega (arith, room, had, same)
@@ -50,8 +51,8 @@ add_word-requires g c =
 pub invariant_of-self-clause-under_way : goal.invariant_of-self-clause-under_way
 invariant_of-self-clause-under_way g c =
     let l = c.args.self.now in
-    let answered = answered-of l.place.machine l.codes.now l.cached (length l.replies.items + 1) l.guest l.run c.in-Some.guest l.step_run (acts-as l.guest l.run c.in-Some.guest c.in-Some.is c.requires.acts) l.inside in
-    still-at l.place.machine l.lines.now l.run c.answer_exit.new.kept (λ d is. c.answer_exit.ensures.under_way l.place.machine d is answered c.turn_guest-step.ensures.fits) l.under_way
+    let answered = answered-of l.place.machine l.codes.now l.cached (length l.replies.items + 1) l.guest l.run.other c.in-Some.guest l.step_run (acts-as l.guest l.run.other c.in-Some.guest c.in-Some.is c.requires.acts) l.inside in
+    still-at l.place.machine l.lines.now l.run (record l.run { other = c.answer_exit.new.kept }) (acting-alone l.place.machine l.lines.now l.run l.guest c.in-Some.guest c.requires.lines l.under_way (acts-as l.guest l.run.other c.in-Some.guest c.in-Some.is c.requires.acts)) refl (λ d is. c.answer_exit.ensures.under_way l.place.machine d is answered c.turn_guest-step.ensures.fits) l.under_way
 
 pub invariant_of-self-clause-inside : goal.invariant_of-self-clause-inside
 invariant_of-self-clause-inside g c =
@@ -59,9 +60,9 @@ invariant_of-self-clause-inside g c =
     let at = ap (λ (rs : List Reply). length rs + 1) c.replies.ensures in
     let s = step_seen c.turn_guest-step.result.step in
     let steps : StepsAt l.place (given_in l.given) l.codes.now l.replies.items l.told.items (map note_seen l.notes.items) l.cached l.bundles.made (g.B.Bench.did c.args.bench.now) c.turn_guest-step.new.bench c.turn_guest-step.new.kept c.turn_guest-step.result.turn c.turn_guest-step.new.cached s c.in-Some.guest c.leave_where.new.guest l.step_run (length c.replies.result.now + 1) = record { counts = c.turn_guest-step.ensures.counts; low = c.turn_guest-step.ensures.within; is = sym (c.turn_guest-step.ensures.step None); turned = c.turn_guest-step.ensures.turned; cached = c.turn_guest-step.ensures.cached; next = subst (λ (h : Option GuestAt). IsNextGuest c.in-Some.guest s c.turn_guest-step.result.turn.reply h) (sym c.leave_where.ensures) c.turn_guest-step.ensures.next } in
-    let answered = answered-of l.place.machine l.codes.now l.cached (length l.replies.items + 1) l.guest l.run c.in-Some.guest l.step_run (acts-as l.guest l.run c.in-Some.guest c.in-Some.is c.requires.acts) l.inside in
+    let answered = answered-of l.place.machine l.codes.now l.cached (length l.replies.items + 1) l.guest l.run.other c.in-Some.guest l.step_run (acts-as l.guest l.run.other c.in-Some.guest c.in-Some.is c.requires.acts) l.inside in
     let done = guest-steps l.place (given_in l.given) l.codes.now l.replies.items l.told.items (map note_seen l.notes.items) l.cached l.bundles.made (g.B.Bench.did c.args.bench.now) c.turn_guest-step.new.bench c.turn_guest-step.new.kept c.turn_guest-step.result.turn c.turn_guest-step.new.cached s c.in-Some.guest c.leave_where.new.guest l.step_run c.answer_exit.new.kept (map note_seen c.add_note.new.notes.items) c.add_word.new.told.items (length c.replies.result.now + 1) at steps (c.add_note.ensures.added ∙ ap (added (map note_seen l.notes.items)) c.turn_guest-step.ensures.notes) (c.add_word.ensures.added ∙ ap (added l.told.items) c.turn_guest-step.ensures.words)
-    (c.answer_exit.ensures.answered answered) (subst (λ (h : Option GuestAt). IfSome h (λ y. IsLow y.walk × (y.list.now ≡ c.in-Some.guest.list.now))) (sym c.leave_where.ensures) (stays-kept c.turn_guest-step.result.left c.turn_guest-step.new.guest c.in-Some.guest.list.now c.turn_guest-step.ensures.kept)) c.turns_in_pieces.ensures l.lines.now l.guest l.run c.requires.lines (acts-as l.guest l.run c.in-Some.guest c.in-Some.is c.requires.acts) l.inside c.answer_exit.ensures.seen in
+    (c.answer_exit.ensures.answered answered) (subst (λ (h : Option GuestAt). IfSome h (λ y. IsLow y.walk × (y.list.now ≡ c.in-Some.guest.list.now))) (sym c.leave_where.ensures) (stays-kept c.turn_guest-step.result.left c.turn_guest-step.new.guest c.in-Some.guest.list.now c.turn_guest-step.ensures.kept)) c.turns_in_pieces.ensures l.lines.now l.guest l.run.host l.run.other (acting-alone l.place.machine l.lines.now l.run l.guest c.in-Some.guest c.requires.lines l.under_way (acts-as l.guest l.run.other c.in-Some.guest c.in-Some.is c.requires.acts)) c.requires.lines (acts-as l.guest l.run.other c.in-Some.guest c.in-Some.is c.requires.acts) l.inside c.answer_exit.ensures.seen in
     done.keeps
 
 pub invariant_of-self-clause-note_room : goal.invariant_of-self-clause-note_room
@@ -70,9 +71,9 @@ invariant_of-self-clause-note_room g c =
     let at = ap (λ (rs : List Reply). length rs + 1) c.replies.ensures in
     let s = step_seen c.turn_guest-step.result.step in
     let steps : StepsAt l.place (given_in l.given) l.codes.now l.replies.items l.told.items (map note_seen l.notes.items) l.cached l.bundles.made (g.B.Bench.did c.args.bench.now) c.turn_guest-step.new.bench c.turn_guest-step.new.kept c.turn_guest-step.result.turn c.turn_guest-step.new.cached s c.in-Some.guest c.leave_where.new.guest l.step_run (length c.replies.result.now + 1) = record { counts = c.turn_guest-step.ensures.counts; low = c.turn_guest-step.ensures.within; is = sym (c.turn_guest-step.ensures.step None); turned = c.turn_guest-step.ensures.turned; cached = c.turn_guest-step.ensures.cached; next = subst (λ (h : Option GuestAt). IsNextGuest c.in-Some.guest s c.turn_guest-step.result.turn.reply h) (sym c.leave_where.ensures) c.turn_guest-step.ensures.next } in
-    let answered = answered-of l.place.machine l.codes.now l.cached (length l.replies.items + 1) l.guest l.run c.in-Some.guest l.step_run (acts-as l.guest l.run c.in-Some.guest c.in-Some.is c.requires.acts) l.inside in
+    let answered = answered-of l.place.machine l.codes.now l.cached (length l.replies.items + 1) l.guest l.run.other c.in-Some.guest l.step_run (acts-as l.guest l.run.other c.in-Some.guest c.in-Some.is c.requires.acts) l.inside in
     let done = guest-steps l.place (given_in l.given) l.codes.now l.replies.items l.told.items (map note_seen l.notes.items) l.cached l.bundles.made (g.B.Bench.did c.args.bench.now) c.turn_guest-step.new.bench c.turn_guest-step.new.kept c.turn_guest-step.result.turn c.turn_guest-step.new.cached s c.in-Some.guest c.leave_where.new.guest l.step_run c.answer_exit.new.kept (map note_seen c.add_note.new.notes.items) c.add_word.new.told.items (length c.replies.result.now + 1) at steps (c.add_note.ensures.added ∙ ap (added (map note_seen l.notes.items)) c.turn_guest-step.ensures.notes) (c.add_word.ensures.added ∙ ap (added l.told.items) c.turn_guest-step.ensures.words)
-    (c.answer_exit.ensures.answered answered) (subst (λ (h : Option GuestAt). IfSome h (λ y. IsLow y.walk × (y.list.now ≡ c.in-Some.guest.list.now))) (sym c.leave_where.ensures) (stays-kept c.turn_guest-step.result.left c.turn_guest-step.new.guest c.in-Some.guest.list.now c.turn_guest-step.ensures.kept)) c.turns_in_pieces.ensures l.lines.now l.guest l.run c.requires.lines (acts-as l.guest l.run c.in-Some.guest c.in-Some.is c.requires.acts) l.inside c.answer_exit.ensures.seen in
+    (c.answer_exit.ensures.answered answered) (subst (λ (h : Option GuestAt). IfSome h (λ y. IsLow y.walk × (y.list.now ≡ c.in-Some.guest.list.now))) (sym c.leave_where.ensures) (stays-kept c.turn_guest-step.result.left c.turn_guest-step.new.guest c.in-Some.guest.list.now c.turn_guest-step.ensures.kept)) c.turns_in_pieces.ensures l.lines.now l.guest l.run.host l.run.other (acting-alone l.place.machine l.lines.now l.run l.guest c.in-Some.guest c.requires.lines l.under_way (acts-as l.guest l.run.other c.in-Some.guest c.in-Some.is c.requires.acts)) c.requires.lines (acts-as l.guest l.run.other c.in-Some.guest c.in-Some.is c.requires.acts) l.inside c.answer_exit.ensures.seen in
     let made : ℕ = length (notes_by (step_answer c.in-Some.guest.tdr (length c.replies.result.now + 1) s) c.turn_guest-step.result.turn.act) in
     let room = done.room made (notes-few c.in-Some.guest.tdr (length c.replies.result.now + 1) s c.turn_guest-step.result.turn.act) (no-notes c.in-Some.guest.tdr (length c.replies.result.now + 1) s c.turn_guest-step.result.turn.act) (notes-none c.in-Some.guest.tdr (length c.replies.result.now + 1) s c.turn_guest-step.result.turn.act) in
     let had = l.note_room in
@@ -87,9 +88,9 @@ invariant_of-self-clause-word_room g c =
     let at = ap (λ (rs : List Reply). length rs + 1) c.replies.ensures in
     let s = step_seen c.turn_guest-step.result.step in
     let steps : StepsAt l.place (given_in l.given) l.codes.now l.replies.items l.told.items (map note_seen l.notes.items) l.cached l.bundles.made (g.B.Bench.did c.args.bench.now) c.turn_guest-step.new.bench c.turn_guest-step.new.kept c.turn_guest-step.result.turn c.turn_guest-step.new.cached s c.in-Some.guest c.leave_where.new.guest l.step_run (length c.replies.result.now + 1) = record { counts = c.turn_guest-step.ensures.counts; low = c.turn_guest-step.ensures.within; is = sym (c.turn_guest-step.ensures.step None); turned = c.turn_guest-step.ensures.turned; cached = c.turn_guest-step.ensures.cached; next = subst (λ (h : Option GuestAt). IsNextGuest c.in-Some.guest s c.turn_guest-step.result.turn.reply h) (sym c.leave_where.ensures) c.turn_guest-step.ensures.next } in
-    let answered = answered-of l.place.machine l.codes.now l.cached (length l.replies.items + 1) l.guest l.run c.in-Some.guest l.step_run (acts-as l.guest l.run c.in-Some.guest c.in-Some.is c.requires.acts) l.inside in
+    let answered = answered-of l.place.machine l.codes.now l.cached (length l.replies.items + 1) l.guest l.run.other c.in-Some.guest l.step_run (acts-as l.guest l.run.other c.in-Some.guest c.in-Some.is c.requires.acts) l.inside in
     let done = guest-steps l.place (given_in l.given) l.codes.now l.replies.items l.told.items (map note_seen l.notes.items) l.cached l.bundles.made (g.B.Bench.did c.args.bench.now) c.turn_guest-step.new.bench c.turn_guest-step.new.kept c.turn_guest-step.result.turn c.turn_guest-step.new.cached s c.in-Some.guest c.leave_where.new.guest l.step_run c.answer_exit.new.kept (map note_seen c.add_note.new.notes.items) c.add_word.new.told.items (length c.replies.result.now + 1) at steps (c.add_note.ensures.added ∙ ap (added (map note_seen l.notes.items)) c.turn_guest-step.ensures.notes) (c.add_word.ensures.added ∙ ap (added l.told.items) c.turn_guest-step.ensures.words)
-    (c.answer_exit.ensures.answered answered) (subst (λ (h : Option GuestAt). IfSome h (λ y. IsLow y.walk × (y.list.now ≡ c.in-Some.guest.list.now))) (sym c.leave_where.ensures) (stays-kept c.turn_guest-step.result.left c.turn_guest-step.new.guest c.in-Some.guest.list.now c.turn_guest-step.ensures.kept)) c.turns_in_pieces.ensures l.lines.now l.guest l.run c.requires.lines (acts-as l.guest l.run c.in-Some.guest c.in-Some.is c.requires.acts) l.inside c.answer_exit.ensures.seen in
+    (c.answer_exit.ensures.answered answered) (subst (λ (h : Option GuestAt). IfSome h (λ y. IsLow y.walk × (y.list.now ≡ c.in-Some.guest.list.now))) (sym c.leave_where.ensures) (stays-kept c.turn_guest-step.result.left c.turn_guest-step.new.guest c.in-Some.guest.list.now c.turn_guest-step.ensures.kept)) c.turns_in_pieces.ensures l.lines.now l.guest l.run.host l.run.other (acting-alone l.place.machine l.lines.now l.run l.guest c.in-Some.guest c.requires.lines l.under_way (acts-as l.guest l.run.other c.in-Some.guest c.in-Some.is c.requires.acts)) c.requires.lines (acts-as l.guest l.run.other c.in-Some.guest c.in-Some.is c.requires.acts) l.inside c.answer_exit.ensures.seen in
     let made : ℕ = length (tells_by (step_answer c.in-Some.guest.tdr (length c.replies.result.now + 1) s) c.turn_guest-step.result.turn.act) in
     let room = done.room made (tells-few c.in-Some.guest.tdr (length c.replies.result.now + 1) s c.turn_guest-step.result.turn.act) (no-tells c.in-Some.guest.tdr (length c.replies.result.now + 1) s c.turn_guest-step.result.turn.act) (tells-none c.in-Some.guest.tdr (length c.replies.result.now + 1) s c.turn_guest-step.result.turn.act) in
     let had = l.word_room in
@@ -104,23 +105,23 @@ returns-clause-moved g c =
     let at = ap (λ (rs : List Reply). length rs + 1) c.replies.ensures in
     let s = step_seen c.turn_guest-step.result.step in
     let steps : StepsAt l.place (given_in l.given) l.codes.now l.replies.items l.told.items (map note_seen l.notes.items) l.cached l.bundles.made (g.B.Bench.did c.args.bench.now) c.turn_guest-step.new.bench c.turn_guest-step.new.kept c.turn_guest-step.result.turn c.turn_guest-step.new.cached s c.in-Some.guest c.leave_where.new.guest l.step_run (length c.replies.result.now + 1) = record { counts = c.turn_guest-step.ensures.counts; low = c.turn_guest-step.ensures.within; is = sym (c.turn_guest-step.ensures.step None); turned = c.turn_guest-step.ensures.turned; cached = c.turn_guest-step.ensures.cached; next = subst (λ (h : Option GuestAt). IsNextGuest c.in-Some.guest s c.turn_guest-step.result.turn.reply h) (sym c.leave_where.ensures) c.turn_guest-step.ensures.next } in
-    let answered = answered-of l.place.machine l.codes.now l.cached (length l.replies.items + 1) l.guest l.run c.in-Some.guest l.step_run (acts-as l.guest l.run c.in-Some.guest c.in-Some.is c.requires.acts) l.inside in
+    let answered = answered-of l.place.machine l.codes.now l.cached (length l.replies.items + 1) l.guest l.run.other c.in-Some.guest l.step_run (acts-as l.guest l.run.other c.in-Some.guest c.in-Some.is c.requires.acts) l.inside in
     let done = guest-steps l.place (given_in l.given) l.codes.now l.replies.items l.told.items (map note_seen l.notes.items) l.cached l.bundles.made (g.B.Bench.did c.args.bench.now) c.turn_guest-step.new.bench c.turn_guest-step.new.kept c.turn_guest-step.result.turn c.turn_guest-step.new.cached s c.in-Some.guest c.leave_where.new.guest l.step_run c.answer_exit.new.kept (map note_seen c.add_note.new.notes.items) c.add_word.new.told.items (length c.replies.result.now + 1) at steps (c.add_note.ensures.added ∙ ap (added (map note_seen l.notes.items)) c.turn_guest-step.ensures.notes) (c.add_word.ensures.added ∙ ap (added l.told.items) c.turn_guest-step.ensures.words)
-    (c.answer_exit.ensures.answered answered) (subst (λ (h : Option GuestAt). IfSome h (λ y. IsLow y.walk × (y.list.now ≡ c.in-Some.guest.list.now))) (sym c.leave_where.ensures) (stays-kept c.turn_guest-step.result.left c.turn_guest-step.new.guest c.in-Some.guest.list.now c.turn_guest-step.ensures.kept)) c.turns_in_pieces.ensures l.lines.now l.guest l.run c.requires.lines (acts-as l.guest l.run c.in-Some.guest c.in-Some.is c.requires.acts) l.inside c.answer_exit.ensures.seen in
+    (c.answer_exit.ensures.answered answered) (subst (λ (h : Option GuestAt). IfSome h (λ y. IsLow y.walk × (y.list.now ≡ c.in-Some.guest.list.now))) (sym c.leave_where.ensures) (stays-kept c.turn_guest-step.result.left c.turn_guest-step.new.guest c.in-Some.guest.list.now c.turn_guest-step.ensures.kept)) c.turns_in_pieces.ensures l.lines.now l.guest l.run.host l.run.other (acting-alone l.place.machine l.lines.now l.run l.guest c.in-Some.guest c.requires.lines l.under_way (acts-as l.guest l.run.other c.in-Some.guest c.in-Some.is c.requires.acts)) c.requires.lines (acts-as l.guest l.run.other c.in-Some.guest c.in-Some.is c.requires.acts) l.inside c.answer_exit.ensures.seen in
     ((done.moved.pieces, done.moved.did_them, (refl, refl, refl, done.moved.turn)), done.moved.fewer)
 
 pub invariant_of-self-clause-bundle_room : goal.invariant_of-self-clause-bundle_room
 invariant_of-self-clause-bundle_room g c =
     let l = c.args.self.now in
-    let answered = answered-of l.place.machine l.codes.now l.cached (length l.replies.items + 1) l.guest l.run c.in-Some.guest l.step_run (acts-as l.guest l.run c.in-Some.guest c.in-Some.is c.requires.acts) l.inside in
-    let same = exit-room count_of l.lines.now l.run c.answer_exit.new.kept (step_seen c.turn_guest-step.result.step) c.turn_guest-step.result.turn.reply c.answer_exit.ensures.seen (c.answer_exit.ensures.answered answered) in
+    let answered = answered-of l.place.machine l.codes.now l.cached (length l.replies.items + 1) l.guest l.run.other c.in-Some.guest l.step_run (acts-as l.guest l.run.other c.in-Some.guest c.in-Some.is c.requires.acts) l.inside in
+    let same = exit-room count_of l.lines.now l.run.host l.run.other c.answer_exit.new.kept (step_seen c.turn_guest-step.result.step) c.turn_guest-step.result.turn.reply (acting-alone l.place.machine l.lines.now l.run l.guest c.in-Some.guest c.requires.lines l.under_way (acts-as l.guest l.run.other c.in-Some.guest c.in-Some.is c.requires.acts)) c.answer_exit.ensures.seen (c.answer_exit.ensures.answered answered) in
     let had = l.bundle_room in
     omega (arith, same, had)
 
 pub invariant_of-self-clause-payload_room : goal.invariant_of-self-clause-payload_room
 invariant_of-self-clause-payload_room g c =
     let l = c.args.self.now in
-    let answered = answered-of l.place.machine l.codes.now l.cached (length l.replies.items + 1) l.guest l.run c.in-Some.guest l.step_run (acts-as l.guest l.run c.in-Some.guest c.in-Some.is c.requires.acts) l.inside in
-    let same = exit-room words_of l.lines.now l.run c.answer_exit.new.kept (step_seen c.turn_guest-step.result.step) c.turn_guest-step.result.turn.reply c.answer_exit.ensures.seen (c.answer_exit.ensures.answered answered) in
+    let answered = answered-of l.place.machine l.codes.now l.cached (length l.replies.items + 1) l.guest l.run.other c.in-Some.guest l.step_run (acts-as l.guest l.run.other c.in-Some.guest c.in-Some.is c.requires.acts) l.inside in
+    let same = exit-room words_of l.lines.now l.run.host l.run.other c.answer_exit.new.kept (step_seen c.turn_guest-step.result.step) c.turn_guest-step.result.turn.reply (acting-alone l.place.machine l.lines.now l.run l.guest c.in-Some.guest c.requires.lines l.under_way (acts-as l.guest l.run.other c.in-Some.guest c.in-Some.is c.requires.acts)) c.answer_exit.ensures.seen (c.answer_exit.ensures.answered answered) in
     let had = l.payload_room in
     omega (arith, same, had)

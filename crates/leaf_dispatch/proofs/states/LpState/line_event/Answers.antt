@@ -1,12 +1,13 @@
-use Rattle.std.proofs.Common.{map, length, refl, arith}
+use Rattle.std.proofs.Common.{map, length, refl, ap, arith}
 use Rattle.leaf_dispatch.specs.Guests.{note_seen}
 use Rattle.leaf_dispatch.specs.NoteRooms.{longest_in}
 use Rattle.leaf_dispatch.specs.BundleRooms.{count_of, words_of, payload_words}
-use Rattle.leaf_dispatch.specs.Running.{run_seen}
+use Rattle.leaf_dispatch.specs.CallRuns.{call_run_seen}
 use Rattle.leaf_table.specs.Given.{given_in}
 use Rattle.leaf_dispatch.proofs.Making.{counts_bundles, counts_words, first-room, line-room, ended-room}
 use Rattle.leaf_dispatch.specs.Inside.{acting}
 use Rattle.leaf_dispatch.proofs.GuestEvents.{none-acts}
+use Rattle.leaf_dispatch.proofs.CallTurns.{host-alone}
 use Rattle.leaf_dispatch.proofs.StateEvents.{line-goes-on, line-has-ended}
 use Rattle.leaf_dispatch.proofs.states.LpState.line_event.Goals as goal
 
@@ -14,51 +15,51 @@ pub invariant_of-self-clause-inside : goal.invariant_of-self-clause-inside
 invariant_of-self-clause-inside g c =
     let l = c.args.self.now in
     let done = line-goes-on l.place (given_in l.given) l.codes.now c.args.call.now c.args.further.now l.cached c.turn_line-turn.new.cached l.replies.items (map note_seen l.notes.items) l.told.items l.bundles.made c.turn_line-turn.new.bundles.made (g.B.Bench.did c.args.bench.now) c.turn_line-turn.new.bench c.turn_line-turn.new.kept c.turn_line-turn.result c.turn_line-turn.ensures.turned.0 c.turns_in_pieces.ensures
-    c.turn_line-turn.ensures.entered.0 l.lines.now l.guest l.run l.step_run c.requires.lines (none-acts (acting l.guest l.run) c.requires.own) l.inside c.turn_line-turn.ensures.turned.2 c.turn_line-turn.ensures.cached c.turn_line-turn.ensures.turned.1.made c.turn_line-turn.ensures.entered.2 c.turn_line-turn.ensures.entered.3 c.turn_line-turn.new.guest c.turn_line-turn.ensures.entered.1 c.in-None.is in
+    c.turn_line-turn.ensures.entered.0 l.lines.now l.guest l.run.host l.run.other l.step_run c.requires.lines (none-acts (acting l.guest l.run.other) c.requires.own) l.inside (host-alone l.place.machine l.lines.now l.run (let n = ap length c.requires.lines in omega (arith, n)) l.under_way) c.turn_line-turn.ensures.stays c.turn_line-turn.ensures.turned.2 c.turn_line-turn.ensures.cached c.turn_line-turn.ensures.turned.1.made c.turn_line-turn.ensures.entered.2 c.turn_line-turn.ensures.entered.3 c.turn_line-turn.new.guest c.turn_line-turn.ensures.entered.1 c.in-None.is in
     done.keeps
 
 pub invariant_of-self-clause-note_room : goal.invariant_of-self-clause-note_room
 invariant_of-self-clause-note_room g c =
     let l = c.args.self.now in
     let done = line-goes-on l.place (given_in l.given) l.codes.now c.args.call.now c.args.further.now l.cached c.turn_line-turn.new.cached l.replies.items (map note_seen l.notes.items) l.told.items l.bundles.made c.turn_line-turn.new.bundles.made (g.B.Bench.did c.args.bench.now) c.turn_line-turn.new.bench c.turn_line-turn.new.kept c.turn_line-turn.result c.turn_line-turn.ensures.turned.0 c.turns_in_pieces.ensures
-    c.turn_line-turn.ensures.entered.0 l.lines.now l.guest l.run l.step_run c.requires.lines (none-acts (acting l.guest l.run) c.requires.own) l.inside c.turn_line-turn.ensures.turned.2 c.turn_line-turn.ensures.cached c.turn_line-turn.ensures.turned.1.made c.turn_line-turn.ensures.entered.2 c.turn_line-turn.ensures.entered.3 c.turn_line-turn.new.guest c.turn_line-turn.ensures.entered.1 c.in-None.is in
+    c.turn_line-turn.ensures.entered.0 l.lines.now l.guest l.run.host l.run.other l.step_run c.requires.lines (none-acts (acting l.guest l.run.other) c.requires.own) l.inside (host-alone l.place.machine l.lines.now l.run (let n = ap length c.requires.lines in omega (arith, n)) l.under_way) c.turn_line-turn.ensures.stays c.turn_line-turn.ensures.turned.2 c.turn_line-turn.ensures.cached c.turn_line-turn.ensures.turned.1.made c.turn_line-turn.ensures.entered.2 c.turn_line-turn.ensures.entered.3 c.turn_line-turn.new.guest c.turn_line-turn.ensures.entered.1 c.in-None.is in
     let room = done.room (longest_in l.codes.now) in let had = l.note_room in omega (arith, room, had)
 
 pub invariant_of-self-clause-word_room : goal.invariant_of-self-clause-word_room
 invariant_of-self-clause-word_room g c =
     let l = c.args.self.now in
     let done = line-goes-on l.place (given_in l.given) l.codes.now c.args.call.now c.args.further.now l.cached c.turn_line-turn.new.cached l.replies.items (map note_seen l.notes.items) l.told.items l.bundles.made c.turn_line-turn.new.bundles.made (g.B.Bench.did c.args.bench.now) c.turn_line-turn.new.bench c.turn_line-turn.new.kept c.turn_line-turn.result c.turn_line-turn.ensures.turned.0 c.turns_in_pieces.ensures
-    c.turn_line-turn.ensures.entered.0 l.lines.now l.guest l.run l.step_run c.requires.lines (none-acts (acting l.guest l.run) c.requires.own) l.inside c.turn_line-turn.ensures.turned.2 c.turn_line-turn.ensures.cached c.turn_line-turn.ensures.turned.1.made c.turn_line-turn.ensures.entered.2 c.turn_line-turn.ensures.entered.3 c.turn_line-turn.new.guest c.turn_line-turn.ensures.entered.1 c.in-None.is in
+    c.turn_line-turn.ensures.entered.0 l.lines.now l.guest l.run.host l.run.other l.step_run c.requires.lines (none-acts (acting l.guest l.run.other) c.requires.own) l.inside (host-alone l.place.machine l.lines.now l.run (let n = ap length c.requires.lines in omega (arith, n)) l.under_way) c.turn_line-turn.ensures.stays c.turn_line-turn.ensures.turned.2 c.turn_line-turn.ensures.cached c.turn_line-turn.ensures.turned.1.made c.turn_line-turn.ensures.entered.2 c.turn_line-turn.ensures.entered.3 c.turn_line-turn.new.guest c.turn_line-turn.ensures.entered.1 c.in-None.is in
     let room = done.room (longest_in l.codes.now) in let had = l.word_room in omega (arith, room, had)
 
 pub returns-in-None-clause-moved : goal.returns-in-None-clause-moved
 returns-in-None-clause-moved g c =
     let l = c.args.self.now in
     let done = line-goes-on l.place (given_in l.given) l.codes.now c.args.call.now c.args.further.now l.cached c.turn_line-turn.new.cached l.replies.items (map note_seen l.notes.items) l.told.items l.bundles.made c.turn_line-turn.new.bundles.made (g.B.Bench.did c.args.bench.now) c.turn_line-turn.new.bench c.turn_line-turn.new.kept c.turn_line-turn.result c.turn_line-turn.ensures.turned.0 c.turns_in_pieces.ensures
-    c.turn_line-turn.ensures.entered.0 l.lines.now l.guest l.run l.step_run c.requires.lines (none-acts (acting l.guest l.run) c.requires.own) l.inside c.turn_line-turn.ensures.turned.2 c.turn_line-turn.ensures.cached c.turn_line-turn.ensures.turned.1.made c.turn_line-turn.ensures.entered.2 c.turn_line-turn.ensures.entered.3 c.turn_line-turn.new.guest c.turn_line-turn.ensures.entered.1 c.in-None.is in
+    c.turn_line-turn.ensures.entered.0 l.lines.now l.guest l.run.host l.run.other l.step_run c.requires.lines (none-acts (acting l.guest l.run.other) c.requires.own) l.inside (host-alone l.place.machine l.lines.now l.run (let n = ap length c.requires.lines in omega (arith, n)) l.under_way) c.turn_line-turn.ensures.stays c.turn_line-turn.ensures.turned.2 c.turn_line-turn.ensures.cached c.turn_line-turn.ensures.turned.1.made c.turn_line-turn.ensures.entered.2 c.turn_line-turn.ensures.entered.3 c.turn_line-turn.new.guest c.turn_line-turn.ensures.entered.1 c.in-None.is in
     ((done.moved.pieces, done.moved.did_them, (refl, refl, refl, done.moved.turn)), done.moved.fewer)
 
 pub returns-in-Ok-clause-moved : goal.returns-in-Ok-clause-moved
 returns-in-Ok-clause-moved g c =
     let l = c.args.self.now in
     let done = line-has-ended l.place (given_in l.given) l.codes.now c.args.call.now c.args.further.now l.cached c.turn_line-turn.new.cached l.replies.items (map note_seen l.notes.items) l.told.items l.bundles.made c.turn_line-turn.new.bundles.made (g.B.Bench.did c.args.bench.now) c.turn_line-turn.new.bench c.turn_line-turn.new.kept c.turn_line-turn.result c.turn_line-turn.ensures.turned.0 c.turns_in_pieces.ensures
-    c.turn_line-turn.ensures.entered.0 l.lines.now l.guest l.run l.step_run c.requires.lines (none-acts (acting l.guest l.run) c.requires.own) l.inside c.turn_line-turn.ensures.turned.2 c.turn_line-turn.ensures.cached c.turn_line-turn.ensures.turned.1.made c.turn_line-turn.ensures.entered.2 c.turn_line-turn.ensures.entered.3 c.in-Some.reply c.push.new.self.items c.in-Some.is c.in-Ok.ensures.items in
+    c.turn_line-turn.ensures.entered.0 l.lines.now l.guest l.run.host l.run.other l.step_run c.requires.lines (none-acts (acting l.guest l.run.other) c.requires.own) l.inside (host-alone l.place.machine l.lines.now l.run (let n = ap length c.requires.lines in omega (arith, n)) l.under_way) c.turn_line-turn.ensures.stays c.turn_line-turn.ensures.turned.2 c.turn_line-turn.ensures.cached c.turn_line-turn.ensures.turned.1.made c.turn_line-turn.ensures.entered.2 c.turn_line-turn.ensures.entered.3 c.in-Some.reply c.push.new.self.items c.in-Some.is c.in-Ok.ensures.items in
     ((done.moved.pieces, done.moved.did_them, (refl, refl, refl, done.moved.turn)), done.moved.fewer)
 
 -- the room for bundles
 
 pub turn_line-turn-requires-clause-room : goal.turn_line-turn-requires-clause-room
 turn_line-turn-requires-clause-room g c =
-    let l = c.args.self.now in first-room count_of c.args.call.now c.args.further.now l.lines.now (run_seen l.run) l.bundles.room c.requires.lines l.bundle_room
+    let l = c.args.self.now in first-room count_of c.args.call.now c.args.further.now l.lines.now (call_run_seen l.run) l.bundles.room c.requires.lines l.bundle_room
 
 pub turn_line-turn-requires-clause-word_room : goal.turn_line-turn-requires-clause-word_room
 turn_line-turn-requires-clause-word_room g c =
-    let l = c.args.self.now in first-room words_of c.args.call.now c.args.further.now l.lines.now (run_seen l.run) l.bundles.word_room c.requires.lines l.payload_room
+    let l = c.args.self.now in first-room words_of c.args.call.now c.args.further.now l.lines.now (call_run_seen l.run) l.bundles.word_room c.requires.lines l.payload_room
 
 pub invariant_of-self-clause-bundle_room : goal.invariant_of-self-clause-bundle_room
 invariant_of-self-clause-bundle_room g c =
     let l = c.args.self.now in
-    let used = line-room count_of length counts_bundles (g.B.Bench.did c.args.bench.now) c.turn_line-turn.new.bench (given_in l.given) l.place c.args.call.now c.args.further.now l.lines.now l.run c.turn_line-turn.new.kept c.turn_line-turn.result c.turn_line-turn.ensures.turned.0 c.requires.lines c.turn_line-turn.ensures.turned.2 c.in-None.is in
+    let used = line-room count_of length counts_bundles (g.B.Bench.did c.args.bench.now) c.turn_line-turn.new.bench (given_in l.given) l.place c.args.call.now c.args.further.now l.lines.now (call_run_seen l.run) c.turn_line-turn.new.kept c.turn_line-turn.result c.turn_line-turn.ensures.turned.0 c.requires.lines c.turn_line-turn.ensures.turned.2 c.in-None.is in
     let had = l.bundle_room in
     let more = c.turn_line-turn.ensures.turned.1.room in
     omega (arith, used, had, more)
@@ -66,7 +67,7 @@ invariant_of-self-clause-bundle_room g c =
 pub invariant_of-self-in-Some-clause-bundle_room : goal.invariant_of-self-in-Some-clause-bundle_room
 invariant_of-self-in-Some-clause-bundle_room g c =
     let l = c.args.self.now in
-    let used = ended-room count_of length counts_bundles (g.B.Bench.did c.args.bench.now) c.turn_line-turn.new.bench (given_in l.given) l.place c.args.call.now c.args.further.now l.lines.now l.run c.turn_line-turn.new.kept c.turn_line-turn.result c.turn_line-turn.ensures.turned.0 c.requires.lines c.turn_line-turn.ensures.turned.2 c.in-Some.reply c.in-Some.is in
+    let used = ended-room count_of length counts_bundles (g.B.Bench.did c.args.bench.now) c.turn_line-turn.new.bench (given_in l.given) l.place c.args.call.now c.args.further.now l.lines.now (call_run_seen l.run) c.turn_line-turn.new.kept c.turn_line-turn.result c.turn_line-turn.ensures.turned.0 c.requires.lines c.turn_line-turn.ensures.turned.2 c.in-Some.reply c.in-Some.is in
     let had = l.bundle_room in
     let more = c.turn_line-turn.ensures.turned.1.room in
     omega (arith, used, had, more)
@@ -74,7 +75,7 @@ invariant_of-self-in-Some-clause-bundle_room g c =
 pub invariant_of-self-clause-payload_room : goal.invariant_of-self-clause-payload_room
 invariant_of-self-clause-payload_room g c =
     let l = c.args.self.now in
-    let used = line-room words_of payload_words counts_words (g.B.Bench.did c.args.bench.now) c.turn_line-turn.new.bench (given_in l.given) l.place c.args.call.now c.args.further.now l.lines.now l.run c.turn_line-turn.new.kept c.turn_line-turn.result c.turn_line-turn.ensures.turned.0 c.requires.lines c.turn_line-turn.ensures.turned.2 c.in-None.is in
+    let used = line-room words_of payload_words counts_words (g.B.Bench.did c.args.bench.now) c.turn_line-turn.new.bench (given_in l.given) l.place c.args.call.now c.args.further.now l.lines.now (call_run_seen l.run) c.turn_line-turn.new.kept c.turn_line-turn.result c.turn_line-turn.ensures.turned.0 c.requires.lines c.turn_line-turn.ensures.turned.2 c.in-None.is in
     let had = l.payload_room in
     let more = c.turn_line-turn.ensures.turned.1.word_room in
     omega (arith, used, had, more)
@@ -82,7 +83,7 @@ invariant_of-self-clause-payload_room g c =
 pub invariant_of-self-in-Some-clause-payload_room : goal.invariant_of-self-in-Some-clause-payload_room
 invariant_of-self-in-Some-clause-payload_room g c =
     let l = c.args.self.now in
-    let used = ended-room words_of payload_words counts_words (g.B.Bench.did c.args.bench.now) c.turn_line-turn.new.bench (given_in l.given) l.place c.args.call.now c.args.further.now l.lines.now l.run c.turn_line-turn.new.kept c.turn_line-turn.result c.turn_line-turn.ensures.turned.0 c.requires.lines c.turn_line-turn.ensures.turned.2 c.in-Some.reply c.in-Some.is in
+    let used = ended-room words_of payload_words counts_words (g.B.Bench.did c.args.bench.now) c.turn_line-turn.new.bench (given_in l.given) l.place c.args.call.now c.args.further.now l.lines.now (call_run_seen l.run) c.turn_line-turn.new.kept c.turn_line-turn.result c.turn_line-turn.ensures.turned.0 c.requires.lines c.turn_line-turn.ensures.turned.2 c.in-Some.reply c.in-Some.is in
     let had = l.payload_room in
     let more = c.turn_line-turn.ensures.turned.1.word_room in
     omega (arith, used, had, more)

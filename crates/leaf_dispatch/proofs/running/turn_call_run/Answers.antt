@@ -11,7 +11,7 @@ use Rattle.leaf_table.specs.Table.{task_of}
 use Rattle.leaf_dispatch.proofs.Keeping.{can-turn-at, run-turned}
 use Rattle.leaf_dispatch.proofs.Making.{counts_bundles, counts_words, call-room}
 use Rattle.leaf_dispatch.proofs.PageRooms.{turned-room}
-use Rattle.leaf_dispatch.proofs.running.turn_call.Goals as goal
+use Rattle.leaf_dispatch.proofs.running.turn_call_run.Goals as goal
 
 pub turn_kept-turn-requires : goal.turn_kept-turn-requires
 turn_kept-turn-requires g c = can-turn-at _ _ (call_ends c.args.place.machine c.args.call.now) (running (task_of (given_in c.args.given) c.args.place c.args.call.now) (run_seen c.args.kept.now)) c.begin_where_none.new.kept c.requires.at c.begin_where_none.ensures.kept
