@@ -1,5 +1,5 @@
 -- The room of calls, one call after another.
-use Rattle.std.proofs.Common.{◌≡◌, ◌∙◌, ℕ, suc, ◌+◌, ◌<◌, List, [], ◌∷◌, ◌++◌, length, take, ap, arith}
+use Rattle.std.proofs.Common.{◌≡◌, ◌∙◌, ℕ, zero, suc, ◌+◌, ◌<◌, ◌≤◌, List, [], ◌∷◌, ◌++◌, length, take, ap, arith}
 use Rattle.std.proofs.Math.Seq.{take-suc}
 use Rattle.std.proofs.Common.{get_or}
 use Rattle.td_words.specs.declared.calls.Call.{Call}
@@ -15,3 +15,9 @@ room-more longest i room more cs d inside before is =
     let same : lines_room longest (take (i + 1) cs) ≡ lines_room longest (take i cs) + call_room longest (get_or cs i d) =
     ap (λ (k : ℕ). lines_room longest (take k cs)) next ∙ (ap (lines_room longest) (take-suc cs i d inside) ∙ room-behind longest (take i cs) (get_or cs i d)) in
     omega (arith, before, is, same)
+
+-- that of the first of them is no more than that of all
+pub room-first : (longest n : ℕ) (cs : List Call) → lines_room longest (take n cs) ≤ lines_room longest cs
+room-first longest zero cs = omega arith
+room-first longest (suc n) [] = omega arith
+room-first longest (suc n) (x ∷ cs) = (let rest = room-first longest n cs in omega (arith, rest))

@@ -1,6 +1,6 @@
 //! Room for what guests note and tell, and for the bundles that calls make.
 
-ghost use Rattle.std.specs.Prelude.{◌≡◌, ◌+◌, ◌≤◌, length, map, vec_capacity, IfSome};
+ghost use Rattle.std.specs.Prelude.{◌≡◌, ◌+◌, ◌≤◌, ◌<◌, ◌^◌, length, map, vec_capacity, IfSome, MatchOption};
 ghost use Rattle.bundles.specs.Made.{made_in};
 ghost use Rattle.leaf_engine.specs.Trees.{added};
 ghost use Rattle.leaf_dispatch.specs.Guests.{note_seen, notes_in, words_in};
@@ -27,9 +27,9 @@ pub fn longest(codes: &[Code]) -> usize
 }
 
 /// How many notes the guests of these calls can make at most, where no list is longer than that; none
-/// where no number is so large.
+/// where that is 2^64 or more.
 pub fn lines_room(longest: usize, calls: &[Call]) -> Option<usize>
-    ensures { IfSome result (λ n. n ≡ lines_room longest calls.now) }
+    ensures { MatchOption result (2 ^ 64 ≤ lines_room longest calls.now) (λ n. n ≡ lines_room longest calls.now) }
 {
     let mut room: usize = 0;
     for i in 0..calls.len() {
@@ -84,36 +84,33 @@ pub fn add_word(told: &mut Vec<u64>, word: Option<u64>)
     }
 }
 
-/// How many bundles these calls make at most; none where no number is so large.
-pub fn lines_bundles(calls: &[Call]) -> Option<usize>
-    ensures { IfSome result (λ n. n ≡ lines_make count_of calls.now) }
+/// How many bundles these calls make at most.
+pub fn lines_bundles(calls: &[Call]) -> usize
+    requires { length calls.now < 2 ^ 32 }
+    ensures { result ≡ lines_make count_of calls.now }
 {
-    let mut room: usize = 0;
+    let mut room = 0;
     for i in 0..calls.len() {
-        let Some(more) = room.checked_add(call_bundles(&calls[i])) else {
-            return None;
-        };
-        room = more;
+        room += call_bundles(&calls[i]);
     }
-    Some(room)
+    room
 }
 
-/// How many payload words those have at most; none where no number is so large.
-pub fn lines_payloads(calls: &[Call]) -> Option<usize>
-    ensures { IfSome result (λ n. n ≡ lines_make words_of calls.now) }
+/// How many payload words those have at most.
+pub fn lines_payloads(calls: &[Call]) -> usize
+    requires { length calls.now < 2 ^ 32 }
+    ensures { result ≡ lines_make words_of calls.now }
 {
-    let mut room: usize = 0;
+    let mut room = 0;
     for i in 0..calls.len() {
-        let Some(more) = room.checked_add(call_payload(&calls[i])) else {
-            return None;
-        };
-        room = more;
+        room += call_payload(&calls[i]);
     }
-    Some(room)
+    room
 }
 
 fn call_bundles(call: &Call) -> usize
-    ensures { result ≡ count_of (call_makes call.now) }
+    ensures count { result ≡ count_of (call_makes call.now) }
+    ensures few { result ≤ 1 }
 {
     match call_makes(call) {
         Some(_) => 1,
@@ -122,7 +119,8 @@ fn call_bundles(call: &Call) -> usize
 }
 
 fn call_payload(call: &Call) -> usize
-    ensures { result ≡ words_of (call_makes call.now) }
+    ensures count { result ≡ words_of (call_makes call.now) }
+    ensures few { result ≤ 512 }
 {
     match call_makes(call) {
         Some(most) => most,
@@ -132,7 +130,8 @@ fn call_payload(call: &Call) -> usize
 
 // Of how many payload words at most the bundle is that a call makes, if it makes one.
 fn call_makes(call: &Call) -> Option<usize>
-    ensures { result ≡ call_makes call.now }
+    ensures made { result ≡ call_makes call.now }
+    ensures few { IfSome result (λ n. n ≤ 512) }
 {
     match *call {
         Call::ExportStateImmutable { .. } => Some(6),

@@ -106,12 +106,8 @@ impl<'a> LpState<'a> {
         let Ok(told) = Vec::with_capacity(alloc, room) else {
             return Err(OutOfMemory);
         };
-        let Some(count) = lines_bundles(calls) else {
-            return Err(OutOfMemory);
-        };
-        let Some(words) = lines_payloads(calls) else {
-            return Err(OutOfMemory);
-        };
+        let count = lines_bundles(calls);
+        let words = lines_payloads(calls);
         let Ok(bundles) = Bundles::new(alloc, count, words) else {
             return Err(OutOfMemory);
         };

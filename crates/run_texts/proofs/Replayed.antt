@@ -1,5 +1,5 @@
 -- What is left of a run, turn by turn, and what is printed at its end.
-use Rattle.std.proofs.Common.{◌≡◌, ◌≢◌, ◌⊎◌, inl, inr, refl, sym, ◌∙◌, ap, subst, ℕ, zero, suc, ◌+◌, ◌<◌, ◌≤◌, List, [], ◌∷◌, ◌++◌, length, get_or, set, take, drop, map, Option, None, Some, Bool, Result, Ok, Err, IfOk, IfSome, All, AllPairs, true, false, not, ◌==◌, arith, append-nil, append_assoc, add-one}
+use Rattle.std.proofs.Common.{◌≡◌, ◌≢◌, ◌⊎◌, inl, inr, refl, sym, ◌∙◌, ap, subst, ℕ, zero, suc, ◌+◌, ◌<◌, ◌≤◌, List, [], ◌∷◌, ◌++◌, length, get_or, set, take, drop, map, Option, None, Some, Bool, Result, Ok, Err, IfOk, All, AllPairs, true, false, not, ◌==◌, arith, append-nil, append_assoc, add-one}
 use Rattle.std.proofs.Math.Seq.{drop-cons}
 use Rattle.std.proofs.lemmas.Bool.Decides.{eqb_tells}
 use Rattle.std.proofs.lemmas.List.{set-get_or, length-map, length-take-le, take_more, map_push}
@@ -52,7 +52,7 @@ use Rattle.script_text.specs.Seen.{ScriptSeen}
 use Rattle.script_text.specs.Laws.{IsInForm}
 use Rattle.run_texts.specs.Openings.{opening_of}
 use Rattle.run_texts.specs.Sealing.{bundles_seen}
-use Rattle.run_texts.specs.Replaying.{AreNumbered, AreFirst, IsMidway, LeadsToEnd, only_bench, IsAtBench, StandsAt, HaveEnded, TurnsAreEvents, seen_at, lines_seen, notes_seen, TellAll}
+use Rattle.run_texts.specs.Replaying.{AreNumbered, AreFirst, IsMidway, LeadsToEnd, only_bench, IsAtBench, StandsAt, HaveEnded, TurnsAreEvents, seen_at, lines_seen, notes_seen, where_named, TellAll}
 use Rattle.run_texts.specs.Looking.{IsNext, Looked, GoesOn, Goes}
 use Rattle.run_texts.specs.declared.replay.Texts.{Texts}
 use Rattle.run_texts.proofs.Codes.{codes-of}
@@ -418,8 +418,8 @@ pub tells : {E : Type 0} (r : Result Texts E) (out_bundles guest_out : Option (L
     → IfOk r (λ t. TellAll out_bundles guest_out all made told t)
 tells (Ok t) out_bundles guest_out lines all container made notes told h e c f = (
   h.0 ∙ e,
-  subst (λ (x : List ℕ). IfSome out_bundles (λ n. t.container.items ≡ x)) c h.1,
-  subst (λ (x : List ℕ). IfSome guest_out (λ n. t.guest.items ≡ x)) f h.2,
+  h.1 ∙ ap (where_named out_bundles) c,
+  h.2 ∙ ap (where_named guest_out) f,
 )
 tells (Err x) out_bundles guest_out lines all container made notes told h e c f = tt
 

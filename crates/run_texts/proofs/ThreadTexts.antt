@@ -1,5 +1,5 @@
 -- What processors did in threads, as texts.
-use Rattle.std.proofs.Common.{◌≡◌, ◌≢◌, ◌⊎◌, inl, inr, refl, sym, ◌∙◌, ap, subst, ℕ, zero, suc, ◌+◌, ◌<◌, ◌≤◌, ◌==◌, true, false, List, [], ◌∷◌, ◌++◌, length, get_or, take, drop, slice_index_or, Option, None, Result, Ok, Err, IfOk, IfSome, arith}
+use Rattle.std.proofs.Common.{◌≡◌, ◌≢◌, ◌⊎◌, inl, inr, refl, sym, ◌∙◌, ap, subst, ℕ, zero, suc, ◌+◌, ◌<◌, ◌≤◌, ◌==◌, true, false, List, [], ◌∷◌, ◌++◌, length, get_or, take, drop, slice_index_or, Option, None, Result, Ok, Err, IfOk, arith}
 use Rattle.std.specs.List.{All, concat}
 use Rattle.std.proofs.lemmas.Bool.{cases_lt, ne_eqb, eq-eqb}
 use Rattle.std.proofs.lemmas.Bool.Decides.{eqb_tells}
@@ -40,7 +40,7 @@ use Rattle.thread_runs.specs.Threads.{RanInThread, RanInThreads, IsOneRun, Threa
 use Rattle.run_texts.specs.Openings.{opening_of}
 use Rattle.run_texts.specs.Sealing.{bundles_seen, bundles_text}
 use Rattle.run_texts.specs.declared.replay.Texts.{Texts}
-use Rattle.run_texts.specs.Replaying.{AreFirst, TurnsAreEvents, seen_at, lines_seen, notes_seen, TellAll}
+use Rattle.run_texts.specs.Replaying.{AreFirst, TurnsAreEvents, seen_at, lines_seen, notes_seen, where_named, TellAll}
 use Rattle.run_texts.specs.Lanes.{processors_of, benches_of, has_out, IsOther, with_all}
 use Rattle.run_texts.specs.Threaded.{AreOfThreads}
 use Rattle.run_texts.proofs.Making.{fit-run, fits-there, seals-there}
@@ -255,8 +255,8 @@ module _ (ls : TurnsAreEvents) (threads : ThreadsAreRuns) (o : Opening) (op : Is
     tells-run schedule there =
         let p = printed schedule there in (
           told.0 ∙ p.0,
-          subst (λ (x : List ℕ). IfSome out_bundles (λ name. t.container.items ≡ x)) (sealed schedule there forward backward) told.1,
-          subst (λ (x : List ℕ). IfSome guest_out (λ name. t.guest.items ≡ x)) p.1 told.2,
+          told.1 ∙ ap (where_named out_bundles) (sealed schedule there forward backward),
+          told.2 ∙ ap (where_named guest_out) p.1,
         )
 
     pub of-threads : AreOfThreads o forward backward out_bundles guest_out t

@@ -1,5 +1,5 @@
 -- Where the logical processors of a script are, over words, while its run is replayed.
-use Rattle.std.specs.Prelude.{◌≡◌, ℕ, zero, suc, ◌+◌, ◌<◌, ◌≤◌, true, List, [], ◌∷◌, ◌++◌, length, map, Option, None, IfSome, slice_index}
+use Rattle.std.specs.Prelude.{◌≡◌, ℕ, zero, suc, ◌+◌, ◌<◌, ◌≤◌, true, List, [], ◌∷◌, ◌++◌, length, map, Option, Some, None, slice_index}
 use Rattle.std.specs.List.{concat}
 use Rattle.std.specs.List.Sorted.{IsPermutation}
 use Rattle.td_words.specs.Seen.{CodeSeen}
@@ -78,10 +78,15 @@ pub record AreAtEnd (o : Opening) (schedule : List ℕ) (lps : List LpState) : T
   pub fit : FitContainer (bundles_in (run o schedule))
   pub told : AreMerged (λ p. (seen_at lps p).beside.told) (told_in (run o schedule))
 
--- texts tell these lines, these bytes of the container where it is named, and these lines of the guest file where that is
+-- what a file's text comes to: itself where the file is named, and else nothing
+abbrev pub where_named : Option (List ℕ) → (text : List ℕ) → List ℕ
+where_named None text = []
+where_named (Some name) text = text
+
+-- texts tell these lines; these bytes of the container, where it is named; and these lines of the guest file, where that is
 abbrev pub TellAll : (out_bundles guest_out : Option (List ℕ)) → (replies container notes : List ℕ) → Texts → Type 0
 TellAll out_bundles guest_out replies container notes t =
-    (t.replies.items ≡ replies) × IfSome out_bundles (λ name. t.container.items ≡ container) × IfSome guest_out (λ name. t.guest.items ≡ notes)
+    (t.replies.items ≡ replies) × (t.container.items ≡ where_named out_bundles container) × (t.guest.items ≡ where_named guest_out notes)
 
 -- So far the turns that the processors made, which lead to this table, are a merge; and what is sought holds of the state where
 -- its events lead, with the items that are left and those up to the end.

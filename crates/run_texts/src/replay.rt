@@ -1,6 +1,6 @@
 //! A script's run over words: its processors under its schedule, and then each to its end.
 
-ghost use Rattle.std.specs.Prelude.{◌≡◌, ◌≤◌, ◌<◌, ◌^◌, length, map, option_map, IfOk, IfSome};
+ghost use Rattle.std.specs.Prelude.{◌≡◌, ◌≤◌, ◌<◌, ◌^◌, length, map, option_map, IfOk};
 ghost use Rattle.std.specs.List.{All, concat};
 ghost use Rattle.td_words.specs.Limits.{IsMachine};
 ghost use Rattle.flat_core.specs.GuestText.{guest_text};
@@ -12,7 +12,7 @@ ghost use Rattle.leaf_dispatch.specs.FirstLists.{AreFirstLists};
 ghost use Rattle.leaf_table.specs.Given.{given_in};
 ghost use Rattle.run_texts.specs.Openings.{opening_of};
 ghost use Rattle.run_texts.specs.Sealing.{bundles_seen, bundles_text};
-ghost use Rattle.run_texts.specs.Replaying.{AreFirst, AreAtEnd, TurnsAreEvents, lines_seen, notes_seen, TellAll};
+ghost use Rattle.run_texts.specs.Replaying.{AreFirst, AreAtEnd, TurnsAreEvents, lines_seen, notes_seen, where_named, TellAll};
 
 use crate::key_pairs::KeyPair;
 use crate::noted::noted_lines;
@@ -115,7 +115,7 @@ fn guest_notes(
     lps: &[LpState<'_>],
 ) -> Result<Vec<u8>, OutOfMemory>
     requires { length lps.now ≤ 8 }
-    ensures { IfOk result (λ v. IfSome (option_map (λ name. name.now) guest_out.entry) (λ name. v.items ≡ concat (notes_seen 0 lps.now))) }
+    ensures { IfOk result (λ v. v.items ≡ where_named (option_map (λ name. name.now) guest_out.entry) (concat (notes_seen 0 lps.now))) }
 {
     match guest_out {
         None => Ok(Vec::new(alloc)),

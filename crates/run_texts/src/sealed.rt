@@ -1,8 +1,9 @@
 //! The bundles of all processors, sealed, in one container.
 
-ghost use Rattle.std.specs.Prelude.{◌≡◌, ◌++◌, option_map, IfOk, IfSome, OnOk};
+ghost use Rattle.std.specs.Prelude.{◌≡◌, ◌++◌, option_map, IfOk, OnOk};
 ghost use Rattle.bundle_texts.specs.Ordered.{FitContainer, container_text};
 ghost use Rattle.run_texts.specs.Sealing.{bundles_seen};
+ghost use Rattle.run_texts.specs.Replaying.{where_named};
 
 use crate::key_pairs::KeyPair;
 use aes_block::Aes256;
@@ -74,7 +75,7 @@ pub fn sealed_bundles(
     lps: &[LpState<'_>],
 ) -> Result<Vec<u8>, OutOfMemory>
     requires { FitContainer (bundles_seen lps.now) }
-    ensures { IfOk result (λ v. IfSome (option_map (λ name. name.now) out_bundles.entry) (λ name. v.items ≡ container_text keys.now.forward keys.now.backward (bundles_seen lps.now))) }
+    ensures { IfOk result (λ v. v.items ≡ where_named (option_map (λ name. name.now) out_bundles.entry) (container_text keys.now.forward keys.now.backward (bundles_seen lps.now))) }
 {
     match out_bundles {
         None => Ok(Vec::new(alloc)),

@@ -1,5 +1,5 @@
 -- A run's texts are those that its ending puts and saves.
-use Rattle.std.proofs.Common.{◌≡◌, refl, ap, subst, ℕ, List, ◌++◌, map, Option, Some, None, IfSome, slice_index}
+use Rattle.std.proofs.Common.{◌≡◌, refl, ap, subst, ℕ, List, ◌++◌, map, Option, Some, None, slice_index}
 use Rattle.td_words.specs.Seen.{BundleSeen}
 use Rattle.flat_core.specs.HostText.{host_text}
 use Rattle.flat_core.specs.GuestText.{guest_text}
@@ -11,7 +11,7 @@ use Rattle.leaf_table.specs.Given.{Given, secrets_in}
 use Rattle.leaf_engine.specs.Merges.{order}
 use Rattle.run_texts.specs.Openings.{opening_of}
 use Rattle.run_texts.specs.Sealing.{bundles_text}
-use Rattle.run_texts.specs.Replaying.{TellAll}
+use Rattle.run_texts.specs.Replaying.{where_named, TellAll}
 use Rattle.run_texts.specs.Threaded.{AreOfThreads}
 use Rattle.run_texts.specs.declared.replay.Texts.{Texts}
 use Rattle.script_runner.specs.Ending.{HandedOut, opening_by, file_named, both_files, run_end}
@@ -19,7 +19,7 @@ use Rattle.script_runner.specs.Threads.{texts_end}
 use Rattle.script_runner.specs.Commanded.{EndsRun}
 
 -- the bytes of a file count where it is named
-same-file : (name : Option (List ℕ)) (bytes told : List ℕ) → IfSome name (λ n. bytes ≡ told) → file_named name bytes ≡ file_named name told
+same-file : (name : Option (List ℕ)) (bytes told : List ℕ) → bytes ≡ where_named name told → file_named name bytes ≡ file_named name told
 same-file None bytes told h = refl
 same-file (Some n) bytes told h = ap (file_named (Some n)) h
 

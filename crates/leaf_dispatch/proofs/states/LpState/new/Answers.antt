@@ -8,14 +8,14 @@ use Rattle.leaf_dispatch.proofs.states.LpState.new.Goals as goal
 pub invariant_of-result-clause-bundle_room : goal.invariant_of-result-clause-bundle_room
 invariant_of-result-clause-bundle_room c =
     let begun = makes-begun count_of c.args.calls.now in
-    let is = c.in-Some-lines_bundles.ensures in
+    let is = c.lines_bundles-count.ensures in
     let room = c.in-Ok-new.ensures.room in
     omega (arith, begun, is, room)
 
 pub invariant_of-result-clause-payload_room : goal.invariant_of-result-clause-payload_room
 invariant_of-result-clause-payload_room c =
     let begun = makes-begun words_of c.args.calls.now in
-    let is = c.in-Some-lines_payloads.ensures in
+    let is = c.lines_payloads-words.ensures in
     let room = c.in-Ok-new.ensures.word_room in
     omega (arith, begun, is, room)
 
