@@ -1,4 +1,4 @@
-use Rattle.std.proofs.Common.{◌≡◌, ◌++◌, ◌∷◌, [], List, length, ap, sym, ◌∙◌, append_assoc, arith}
+use Rattle.std.proofs.Common.{rules, ◌≡◌, ◌++◌, ◌∷◌, [], List, length, ap, sym, ◌∙◌, append_assoc, arith}
 use Rattle.std.specs.Vec.Iter.{into_iter_items}
 use Rattle.std.proofs.lemmas.List.{map_push}
 use Rattle.trace_table.specs.Benches.{BenchSeen, bench_of, has_taken_in}
@@ -43,3 +43,7 @@ join-requires-clause-other c =
     let x = c.in-Some.lane in
     let left = ap (λ (zs : List (Lane LpState)). at.yielded ++ zs) (sym c.in-Some.ensures.steps.0) ∙ (at.invariant.left ∙ c.into_iter-lane-iterator.ensures.into_iter_gives.0) in
     (bench-here (IsOther (bench_of c.args.first.now)) at.yielded (into_iter_items c.next.new.self) c.args.lanes.items x left c.requires.others).1
+
+-- one field is told apart, so that each of the others is sought by itself
+pub invariant_of-t-32-clause-machine : goal.invariant_of-t-32-clause-machine
+invariant_of-t-32-clause-machine c = search rules
