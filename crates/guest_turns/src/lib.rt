@@ -4,6 +4,8 @@
 //!
 //! Each is the turn of its leaf's run, by the leaf's tree (`MadeAtOnce`, `SharedTurned`), and makes the word
 //! steps of that turn alone. What is kept of a shared access between two events is a small record.
+//! `host_turns` shares what any short way has that tries a page's lock alone: `load` and `try_page`, and that
+//! its first event and its last one are turns (`ShortTurned`).
 #![tactic(auto)]
 
 mod acts;
