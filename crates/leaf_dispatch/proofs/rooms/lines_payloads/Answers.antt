@@ -6,8 +6,7 @@ use Rattle.leaf_dispatch.proofs.rooms.lines_payloads.Goals as goal
 pub loop-i-preserved : goal.loop-i-preserved
 loop-i-preserved c =
     let few = c.call_payload-room.ensures.few in
-    let before = c.loop-i.invariant.1 in
-    (
+    let before = c.loop-i.invariant.1 in (
       make-more words_of c.loop-i.i c.loop-i.room _ c.args.calls.now _ c.loop-i-test.true c.loop-i.invariant.0 (ap (λ (n : ℕ). c.loop-i.room + n) c.call_payload-room.ensures.count),
       omega (arith, few, before),
     )
