@@ -1,5 +1,5 @@
 -- The lines of a trace: for reading, and as JSON.
-use Rattle.std.specs.Prelude.{ℕ, ◌-◌, ◌/◌, ◌%◌, true, false, List, [], ◌∷◌, ◌++◌, length, map, replicate, Option, Some, None, codes}
+use Rattle.std.specs.Prelude.{ℕ, ◌-◌, ◌/◌, ◌%◌, true, false, List, [], ◌∷◌, ◌++◌, length, map, max, replicate, Option, Some, None, codes}
 use Rattle.std.specs.List.{concat}
 use Rattle.std.specs.Fmt.{decimal}
 use Rattle.td_words.specs.declared.names.Mode.{Mode}
@@ -63,9 +63,9 @@ abbrev pub reply_member : Option Reply → List ℕ
 reply_member None = []
 reply_member (Some r) = codes ", \"reply\": \"" ++ (reply_text r ++ codes "\"")
 
--- a text, with spaces behind it up to a width
+-- a text, with spaces behind it up to a width, and one at least
 abbrev pub column : ℕ → List ℕ → List ℕ
-column width text = text ++ replicate (width - length text) 32
+column width text = text ++ replicate (max (width - length text) 1) 32
 
 -- The event's number; the processor, a dot, and the number of its call; the line of the call in the script, and the call's name;
 -- and what the event was, with the reply.

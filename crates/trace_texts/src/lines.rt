@@ -17,12 +17,12 @@ pub enum Form {
     Json,
 }
 
-// A text, with spaces behind it up to a width.
+// A text, with spaces behind it up to a width, and one at least.
 fn push_column(text: &mut Vec<u8>, part: &[u8], width: usize) -> Result<(), AllocError>
     ensures { OnOk result (text.new.items ≡ text.old.items ++ column width part.now) }
 {
     text.extend_from_slice(part)?;
-    let spaces = width.saturating_sub(part.len());
+    let spaces = width.saturating_sub(part.len()).max(1);
     for _space in 0..spaces {
         text.push(b' ')?;
     }
