@@ -23,3 +23,4 @@ pub mod Making
 pub mod Grasp
 pub mod Doers
 pub mod Followed
+pub mod Newest

@@ -177,10 +177,9 @@ fn give_back<B: Bench>(held: &mut ArrayVec<HeldLock, LOCKS>, bench: &mut B) -> E
 fn gives_epoch_back(held: &[HeldLock]) -> bool
     ensures { result ≡ gives_epoch_back held.now }
 {
-    match held {
-        [] => false,
-        [newest] => is_epoch(newest.name),
-        [_, newer @ ..] => gives_epoch_back(newer),
+    match held.last() {
+        Some(newest) => is_epoch(newest.name),
+        None => false,
     }
 }
 
