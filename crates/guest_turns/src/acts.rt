@@ -7,10 +7,10 @@ ghost use Rattle.guest_turns.specs.declared.runs.SharedStage.TheVariants.{Locked
 ghost use Rattle.guest_turns.specs.Turns.{act_of, HasMoved};
 ghost use Rattle.guest_turns.specs.SharedTurns.{held_by, standing_at, IsIn, source, target};
 
-use crate::runs::{SharedRun, SharedStage};
+use crate::runs::{LeafTurn, SharedRun, SharedStage};
 use crate::words::{Moved, load, move_word};
 use access_core::{register_address, word_of_gpa};
-use leaf_engine::HeldLock;
+use leaf_engine::{Event, HeldLock};
 use leaf_parts::says_host;
 use step_core::Bench;
 use td_words::{Access, Outcome, Reply, Value, pamt_address, word_address};
@@ -46,14 +46,18 @@ pub fn act<B: Bench>(bench: &mut B, run: &SharedRun) -> SharedStage
     }
 }
 
-/// The reply that an access has come to, where it has made its act.
-pub fn reply_at(run: &SharedRun, stage: SharedStage) -> Option<Reply>
-    ensures { result ≡ act_of Act (standing_at run.now stage).stage }
+/// Writes the act's turn, with the reply that the access has come to, where it has made its act.
+pub fn write_act(run: &SharedRun, stage: SharedStage, turn: &mut LeafTurn)
+    ensures { turn.new ≡ record { event = Act; act = act_of Act (standing_at run.now stage).stage; reply = None } }
 {
+    turn.event = Event::Act;
+    turn.reply = None;
     match stage {
-        SharedStage::Completed { position: _, word } => Some(Reply::Done(Value::Number(word))),
-        SharedStage::Violated => Some(violation(run.access, run.gpa)),
-        _ => None,
+        SharedStage::Completed { position: _, word } => {
+            turn.act = Some(Reply::Done(Value::Number(word)));
+        }
+        SharedStage::Violated => turn.act = Some(violation(run.access, run.gpa)),
+        _ => turn.act = None,
     }
 }
 

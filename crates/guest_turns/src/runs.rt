@@ -36,10 +36,27 @@ pub struct SharedRun {
 }
 
 /// A turn's event, the reply that its act comes to, where it is the act, and the reply at the last
-/// event.
+/// event. Whatever makes a turn writes it into its place: handed back, it would be moved wherever two ways
+/// meet.
 #[derive(Clone, Copy)]
 pub struct LeafTurn {
     pub event: Event,
     pub act: Option<Reply>,
     pub reply: Option<Reply>,
+}
+
+impl LeafTurn {
+    ghost use Rattle.std.specs.Prelude.{◌≡◌, None};
+    ghost use Rattle.leaf_engine.specs.declared.events.Event.TheVariants.{Act};
+
+    /// A place for a turn, before it is made.
+    pub fn unmade() -> LeafTurn
+        ensures { result ≡ record { event = Act; act = None; reply = None } }
+    {
+        LeafTurn {
+            event: Event::Act,
+            act: None,
+            reply: None,
+        }
+    }
 }

@@ -7,7 +7,7 @@ ghost use Rattle.leaf_engine.specs.Turns.{standing, TriedOnce};
 ghost use Rattle.leaf_engine.specs.declared.events.Stage.TheVariants.{Trying};
 ghost use Rattle.guest_turns.specs.SharedTurns.{access_tree, stage_behind, IsRunIn, SharedTurned, KeptTurned};
 
-use crate::acts::{act, reply_at, violation};
+use crate::acts::{act, violation, write_act};
 use crate::runs::{LeafTurn, SharedRun, SharedStage};
 use access_core::shared_page;
 use leaf_engine::{Event, HeldLock};
@@ -25,11 +25,12 @@ pub fn begin_shared<B: Bench>(
     line: usize,
     register: u8,
     gpa: u64,
-) -> LeafTurn
+    turn: &mut LeafTurn,
+)
     requires pages { pages ≡ (B.machine bench.old).pages }
     requires inside { vp < pages }
     requires few { register < 8 }
-    ensures turned { SharedTurned (B.did bench.old) (B.machine bench.old) (standing (settle (access_tree (B.machine bench.old) access vp line register gpa)) Trying [] None) bench.new kept.new result }
+    ensures turned { SharedTurned (B.did bench.old) (B.machine bench.old) (standing (settle (access_tree (B.machine bench.old) access vp line register gpa)) Trying [] None) bench.new kept.new turn.new }
     ensures machine { B.machine bench.new ≡ B.machine bench.old }
 {
     let named = shared_page(gpa);
@@ -51,7 +52,7 @@ pub fn begin_shared<B: Bench>(
                 mode: Mode::Shared,
             }],
         });
-        LeafTurn {
+        *turn = LeafTurn {
             event: Event::Try {
                 lock: LockName::Page(page),
                 mode: Mode::Shared,
@@ -59,22 +60,22 @@ pub fn begin_shared<B: Bench>(
             },
             act: None,
             reply: None,
-        }
+        };
     } else {
         *kept = None;
         let reply = violation(access, gpa);
-        LeafTurn {
+        *turn = LeafTurn {
             event: Event::Act,
             act: Some(reply),
             reply: Some(reply),
-        }
+        };
     }
 }
 
 /// The next event of the access that is kept, which is kept until its reply comes.
-pub fn turn_shared<B: Bench>(kept: &mut Option<SharedRun>, bench: &mut B) -> LeafTurn
+pub fn turn_shared<B: Bench>(kept: &mut Option<SharedRun>, bench: &mut B, turn: &mut LeafTurn)
     requires { IsRunIn (B.machine bench.old) kept.old }
-    ensures turned { KeptTurned (B.did bench.old) (B.machine bench.old) kept.old bench.new kept.new result }
+    ensures turned { KeptTurned (B.did bench.old) (B.machine bench.old) kept.old bench.new kept.new turn.new }
     ensures machine { B.machine bench.new ≡ B.machine bench.old }
 {
     let Some(run) = kept else { unreachable!() };
@@ -83,44 +84,37 @@ pub fn turn_shared<B: Bench>(kept: &mut Option<SharedRun>, bench: &mut B) -> Lea
     match run.stage {
         SharedStage::Denied => {
             undo(bench, at);
-            end(
-                kept,
-                Event::Undo(name),
-                Reply::Refused(Status::OperandBusy(name)),
-            )
+            end(kept, Event::Undo(name), turn);
+            turn.reply = Some(Reply::Refused(Status::OperandBusy(name)));
         }
         SharedStage::Locked => {
             let stage = act(bench, run);
             run.stage = stage;
-            LeafTurn {
-                event: Event::Act,
-                act: reply_at(run, stage),
-                reply: None,
-            }
+            write_act(run, stage, turn);
         }
         SharedStage::Violated => {
-            let reply = violation(run.access, run.gpa);
+            let (access, gpa) = (run.access, run.gpa);
             free(bench, at, Mode::Shared);
-            end(kept, Event::Free(name), reply)
+            end(kept, Event::Free(name), turn);
+            turn.reply = Some(violation(access, gpa));
         }
         SharedStage::Completed { position: _, word } => {
             free(bench, at, Mode::Shared);
-            end(kept, Event::Free(name), Reply::Done(Value::Number(word)))
+            end(kept, Event::Free(name), turn);
+            turn.reply = Some(Reply::Done(Value::Number(word)));
         }
     }
 }
 
-// The last event of an access, which is kept no more.
-fn end(kept: &mut Option<SharedRun>, event: Event, reply: Reply) -> LeafTurn
+// The last event of an access, which is kept no more, and whose reply is still to be written.
+fn end(kept: &mut Option<SharedRun>, event: Event, turn: &mut LeafTurn)
     ensures kept { kept.new ≡ None }
-    ensures turn { result ≡ record { event = event; act = None; reply = Some reply } }
+    ensures event { turn.new.event ≡ event }
+    ensures act { turn.new.act ≡ None }
 {
     *kept = None;
-    LeafTurn {
-        event,
-        act: None,
-        reply: Some(reply),
-    }
+    turn.event = event;
+    turn.act = None;
 }
 
 // Whether it is a page of the machine, and not the processor's own.

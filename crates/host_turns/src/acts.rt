@@ -1,6 +1,6 @@
 //! The act of a host access, the reply that it comes to, and the lock that it holds.
 
-ghost use Rattle.std.specs.Prelude.{◌≡◌, ◌+◌, ◌<◌, None};
+ghost use Rattle.std.specs.Prelude.{◌≡◌, ◌+◌, ◌<◌, Some, None};
 ghost use Rattle.td_words.specs.Address.{word_at};
 ghost use Rattle.leaf_engine.specs.Turns.{Turned};
 ghost use Rattle.leaf_engine.specs.declared.events.Event.TheVariants.{Act};
@@ -41,14 +41,14 @@ pub fn act<B: Bench>(bench: &mut B, run: &HostRun) -> HostEnd
     }
 }
 
-/// The reply of an access that came to this.
-pub fn reply_of(came: HostEnd) -> Reply
-    ensures { result ≡ reply_of came }
+/// Writes the reply of an access that came to this into its place.
+pub fn write_reply(came: HostEnd, place: &mut Option<Reply>)
+    ensures { place.new ≡ Some (reply_of came) }
 {
     match came {
-        HostEnd::Loaded { word } => Reply::Done(Value::Number(word)),
-        HostEnd::Stored => Reply::Done(Value::Nothing),
-        HostEnd::NotHost => Reply::Refused(Status::NotHost),
+        HostEnd::Loaded { word } => *place = Some(Reply::Done(Value::Number(word))),
+        HostEnd::Stored => *place = Some(Reply::Done(Value::Nothing)),
+        HostEnd::NotHost => *place = Some(Reply::Refused(Status::NotHost)),
     }
 }
 

@@ -8,7 +8,7 @@ ghost use Rattle.leaf_engine.specs.declared.events.Event.TheVariants.{Act};
 ghost use Rattle.leaf_engine.specs.declared.events.Stage.TheVariants.{Trying};
 ghost use Rattle.host_turns.specs.HostTurns.{access_tree, stage_behind, IsRunIn, HostTurned, KeptTurned};
 
-use crate::acts::{act, reply_of};
+use crate::acts::{act, write_reply};
 use crate::runs::{HostAccess, HostRun, HostStage};
 use guest_turns::{LeafTurn, try_page};
 use leaf_engine::{Event, HeldLock};
@@ -25,9 +25,10 @@ pub fn begin_host<B: Bench>(
     access: HostAccess,
     page: u64,
     word: u64,
-) -> LeafTurn
+    turn: &mut LeafTurn,
+)
     requires pages { pages ≡ (B.machine bench.old).pages }
-    ensures turned { HostTurned (B.did bench.old) (B.machine bench.old) (standing (settle (access_tree (B.machine bench.old) access page word)) Trying [] None) bench.new kept.new result }
+    ensures turned { HostTurned (B.did bench.old) (B.machine bench.old) (standing (settle (access_tree (B.machine bench.old) access page word)) Trying [] None) bench.new kept.new turn.new }
     ensures machine { B.machine bench.new ≡ B.machine bench.old }
 {
     if is_page(page, pages) {
@@ -46,7 +47,7 @@ pub fn begin_host<B: Bench>(
                     mode: Mode::Shared,
                 }],
             });
-            LeafTurn {
+            *turn = LeafTurn {
                 event: Event::Try {
                     lock: LockName::Page(named),
                     mode: Mode::Shared,
@@ -54,19 +55,19 @@ pub fn begin_host<B: Bench>(
                 },
                 act: None,
                 reply: None,
-            }
+            };
         } else {
-            refuse(kept, Status::OperandInvalid(2))
+            refuse(kept, Status::OperandInvalid(2), turn);
         }
     } else {
-        refuse(kept, Status::OperandInvalid(1))
+        refuse(kept, Status::OperandInvalid(1), turn);
     }
 }
 
 /// The next event of the access that is kept, which is kept until its reply comes.
-pub fn turn_host<B: Bench>(kept: &mut Option<HostRun>, bench: &mut B) -> LeafTurn
+pub fn turn_host<B: Bench>(kept: &mut Option<HostRun>, bench: &mut B, turn: &mut LeafTurn)
     requires { IsRunIn (B.machine bench.old) kept.old }
-    ensures turned { KeptTurned (B.did bench.old) (B.machine bench.old) kept.old bench.new kept.new result }
+    ensures turned { KeptTurned (B.did bench.old) (B.machine bench.old) kept.old bench.new kept.new turn.new }
     ensures machine { B.machine bench.new ≡ B.machine bench.old }
 {
     let Some(run) = kept else { unreachable!() };
@@ -75,53 +76,42 @@ pub fn turn_host<B: Bench>(kept: &mut Option<HostRun>, bench: &mut B) -> LeafTur
     match run.stage {
         HostStage::Denied => {
             undo(bench, at);
-            end(
-                kept,
-                Event::Undo(name),
-                Reply::Refused(Status::OperandBusy(name)),
-            )
+            *kept = None;
+            *turn = LeafTurn {
+                event: Event::Undo(name),
+                act: None,
+                reply: Some(Reply::Refused(Status::OperandBusy(name))),
+            };
         }
         HostStage::Locked => {
             let came = act(bench, run);
             run.stage = HostStage::Ended(came);
-            LeafTurn {
-                event: Event::Act,
-                act: Some(reply_of(came)),
-                reply: None,
-            }
+            turn.event = Event::Act;
+            turn.reply = None;
+            write_reply(came, &mut turn.act);
         }
         HostStage::Ended(came) => {
             free(bench, at, Mode::Shared);
-            end(kept, Event::Free(name), reply_of(came))
+            *kept = None;
+            turn.event = Event::Free(name);
+            turn.act = None;
+            write_reply(came, &mut turn.reply);
         }
-    }
-}
-
-// The last event of an access, which is kept no more.
-fn end(kept: &mut Option<HostRun>, event: Event, reply: Reply) -> LeafTurn
-    ensures kept { kept.new ≡ None }
-    ensures turn { result ≡ record { event = event; act = None; reply = Some reply } }
-{
-    *kept = None;
-    LeafTurn {
-        event,
-        act: None,
-        reply: Some(reply),
     }
 }
 
 // An access that is refused before a lock is tried.
-fn refuse(kept: &mut Option<HostRun>, status: Status) -> LeafTurn
+fn refuse(kept: &mut Option<HostRun>, status: Status, turn: &mut LeafTurn)
     ensures kept { kept.new ≡ None }
-    ensures turn { result ≡ record { event = Act; act = Some (Refused status); reply = Some (Refused status) } }
+    ensures turn { turn.new ≡ record { event = Act; act = Some (Refused status); reply = Some (Refused status) } }
 {
     *kept = None;
     let reply = Reply::Refused(status);
-    LeafTurn {
+    *turn = LeafTurn {
         event: Event::Act,
         act: Some(reply),
         reply: Some(reply),
-    }
+    };
 }
 
 fn is_page(page: u64, pages: u16) -> bool

@@ -34,23 +34,24 @@ pub fn turn_call<'a, B: Bench>(
     call: &Call,
     given: Given<'a>,
     bench: &mut B,
-) -> LeafTurn
+    turn: &mut LeafTurn,
+)
     requires machine { IsMachine place.machine }
     requires at { place.machine ≡ B.machine bench.old }
     requires under_way { IsCallRunOf place.machine (call_ends place.machine call.now) kept.old }
     requires room { run_room (count_of (call_makes call.now)) (call_run_seen kept.old) ≤ bundles.old.room }
     requires word_room { run_room (words_of (call_makes call.now)) (call_run_seen kept.old) ≤ bundles.old.word_room }
     requires page_room { holds_room spare.old kept.old.other ≡ true }
-    ensures turned { (made : List Made) × HasAdded bundles.old made bundles.new × CallTurned (B.did bench.old) place.machine (call_ends place.machine call.now) (running (task_of (given_in given.entry) place call.now) (call_run_seen kept.old)) bench.new kept.new result made }
+    ensures turned { (made : List Made) × HasAdded bundles.old made bundles.new × CallTurned (B.did bench.old) place.machine (call_ends place.machine call.now) (running (task_of (given_in given.entry) place call.now) (call_run_seen kept.old)) bench.new kept.new turn.new made }
     ensures page_room { holds_room spare.new kept.new.other ≡ true }
     ensures stays { is_some kept.old.other ≡ true → is_none kept.new.host ≡ true }
     ensures machine { B.machine bench.new ≡ B.machine bench.old }
 {
     match kept.host {
-        Some(_) => turn_host(&mut kept.host, bench),
+        Some(_) => turn_host(&mut kept.host, bench, turn),
         None => match kept.other {
-            Some(_) => turn_other_call(kept, spare, bundles, place, call, given, bench),
-            None => turn_new_call(kept, spare, bundles, place, call, given, bench),
+            Some(_) => turn_other_call(kept, spare, bundles, place, call, given, bench, turn),
+            None => turn_new_call(kept, spare, bundles, place, call, given, bench, turn),
         },
     }
 }
@@ -64,7 +65,8 @@ fn turn_other_call<'a, B: Bench>(
     call: &Call,
     given: Given<'a>,
     bench: &mut B,
-) -> LeafTurn
+    turn: &mut LeafTurn,
+)
     requires machine { IsMachine place.machine }
     requires at { place.machine ≡ B.machine bench.old }
     requires alone { kept.old.host ≡ None }
@@ -72,12 +74,21 @@ fn turn_other_call<'a, B: Bench>(
     requires room { run_room (count_of (call_makes call.now)) (call_run_seen kept.old) ≤ bundles.old.room }
     requires word_room { run_room (words_of (call_makes call.now)) (call_run_seen kept.old) ≤ bundles.old.word_room }
     requires page_room { holds_room spare.old kept.old.other ≡ true }
-    ensures turned { (made : List Made) × HasAdded bundles.old made bundles.new × CallTurned (B.did bench.old) place.machine (call_ends place.machine call.now) (running (task_of (given_in given.entry) place call.now) (call_run_seen kept.old)) bench.new kept.new result made }
+    ensures turned { (made : List Made) × HasAdded bundles.old made bundles.new × CallTurned (B.did bench.old) place.machine (call_ends place.machine call.now) (running (task_of (given_in given.entry) place call.now) (call_run_seen kept.old)) bench.new kept.new turn.new made }
     ensures page_room { holds_room spare.new kept.new.other ≡ true }
     ensures alone { kept.new.host ≡ None }
     ensures machine { B.machine bench.new ≡ B.machine bench.old }
 {
-    turn_call_run(&mut kept.other, spare, bundles, place, call, given, bench)
+    turn_call_run(
+        &mut kept.other,
+        spare,
+        bundles,
+        place,
+        call,
+        given,
+        bench,
+        turn,
+    );
 }
 
 // The first turn of a call.
@@ -89,26 +100,35 @@ fn turn_new_call<'a, B: Bench>(
     call: &Call,
     given: Given<'a>,
     bench: &mut B,
-) -> LeafTurn
+    turn: &mut LeafTurn,
+)
     requires machine { IsMachine place.machine }
     requires at { place.machine ≡ B.machine bench.old }
     requires none { (kept.old.host ≡ None) × (kept.old.other ≡ None) }
     requires room { run_room (count_of (call_makes call.now)) (call_run_seen kept.old) ≤ bundles.old.room }
     requires word_room { run_room (words_of (call_makes call.now)) (call_run_seen kept.old) ≤ bundles.old.word_room }
     requires page_room { holds_room spare.old kept.old.other ≡ true }
-    ensures turned { (made : List Made) × HasAdded bundles.old made bundles.new × CallTurned (B.did bench.old) place.machine (call_ends place.machine call.now) (running (task_of (given_in given.entry) place call.now) (call_run_seen kept.old)) bench.new kept.new result made }
+    ensures turned { (made : List Made) × HasAdded bundles.old made bundles.new × CallTurned (B.did bench.old) place.machine (call_ends place.machine call.now) (running (task_of (given_in given.entry) place call.now) (call_run_seen kept.old)) bench.new kept.new turn.new made }
     ensures page_room { holds_room spare.new kept.new.other ≡ true }
     ensures machine { B.machine bench.new ≡ B.machine bench.old }
 {
     let pages = place.machine.pages;
     match *call {
         Call::HostRead { page, word } => {
-            begin_host(&mut kept.host, bench, pages, HostAccess::Read, page, word)
+            begin_host(
+                &mut kept.host,
+                bench,
+                pages,
+                HostAccess::Read,
+                page,
+                word,
+                turn,
+            )
         }
         Call::HostWrite { page, word, value } => {
             let access = HostAccess::Write { value };
-            begin_host(&mut kept.host, bench, pages, access, page, word)
+            begin_host(&mut kept.host, bench, pages, access, page, word, turn)
         }
-        _ => turn_other_call(kept, spare, bundles, place, call, given, bench),
+        _ => turn_other_call(kept, spare, bundles, place, call, given, bench, turn),
     }
 }

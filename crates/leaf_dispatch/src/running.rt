@@ -67,21 +67,22 @@ pub fn turn_call_run<'a, B: Bench>(
     call: &Call,
     given: Given<'a>,
     bench: &mut B,
-) -> LeafTurn
+    turn: &mut LeafTurn,
+)
     requires machine { IsMachine place.machine }
     requires at { place.machine ≡ B.machine bench.old }
     requires under_way { IsRunOf place.machine (call_ends place.machine call.now) kept.old }
     requires room { run_room (count_of (call_makes call.now)) (run_seen kept.old) ≤ bundles.old.room }
     requires word_room { run_room (words_of (call_makes call.now)) (run_seen kept.old) ≤ bundles.old.word_room }
     requires page_room { holds_room spare.old kept.old ≡ true }
-    ensures turned { (made : List Made) × HasAdded bundles.old made bundles.new × RunTurned (B.did bench.old) place.machine (call_ends place.machine call.now) (running (task_of (given_in given.entry) place call.now) (run_seen kept.old)) bench.new kept.new result made }
+    ensures turned { (made : List Made) × HasAdded bundles.old made bundles.new × RunTurned (B.did bench.old) place.machine (call_ends place.machine call.now) (running (task_of (given_in given.entry) place call.now) (run_seen kept.old)) bench.new kept.new turn.new made }
     ensures page_room { holds_room spare.new kept.new ≡ true }
     ensures machine { B.machine bench.new ≡ B.machine bench.old }
 {
     begin_where_none(kept, spare, place, call, given);
-    let turn = turn_kept(kept, bench);
-    add_made(kept, turn.event, bundles);
-    leave_call(kept, spare, turn)
+    let made = turn_kept(kept, bench);
+    add_made(kept, made.event, bundles);
+    leave_call(kept, spare, &made, turn);
 }
 
 /// The next turn of the run of a guest's step, which is kept until its reply comes, and begins where
@@ -96,18 +97,19 @@ pub fn turn_step_run<'a, B: Bench>(
     line: usize,
     step: Step,
     bench: &mut B,
-) -> LeafTurn
+    turn: &mut LeafTurn,
+)
     requires machine { IsMachine place.machine }
     requires inside { (tdr < place.machine.pages) × (vp < place.machine.pages) }
     requires limits { IsStepOf (step_seen step) }
     requires at { place.machine ≡ B.machine bench.old }
     requires under_way { IsRunOf place.machine (step_ends tdr line (step_seen step)) kept.old }
-    ensures turned { RunTurned (B.did bench.old) place.machine (step_ends tdr line (step_seen step)) (running (step_task (given_in given.entry) place tdr vp line (step_seen step)) (run_seen kept.old)) bench.new kept.new result [] }
+    ensures turned { RunTurned (B.did bench.old) place.machine (step_ends tdr line (step_seen step)) (running (step_task (given_in given.entry) place tdr vp line (step_seen step)) (run_seen kept.old)) bench.new kept.new turn.new [] }
     ensures machine { B.machine bench.new ≡ B.machine bench.old }
 {
     begin_step_where_none(kept, place, given, tdr, vp, line, step);
-    let step_turn = turn_kept(kept, bench);
-    leave_step(kept, step_turn)
+    let step_made = turn_kept(kept, bench);
+    leave_step(kept, &step_made, turn);
 }
 
 // What a turn of a call's run comes to. It is kept no more once its reply has come, and gives back the
@@ -115,45 +117,44 @@ pub fn turn_step_run<'a, B: Bench>(
 fn leave_call(
     kept: &mut Option<Running<'_>>,
     spare: &mut Option<PageWords>,
-    turn: RunTurn,
-) -> LeafTurn
+    made: &RunTurn,
+    turn: &mut LeafTurn,
+)
     requires page_room { holds_room spare.old kept.old ≡ true }
-    ensures turn { turn_of result ≡ turn }
-    ensures act { result.act ≡ act_in kept.old turn.event }
-    ensures kept { kept.new ≡ kept_until turn.reply kept.old }
+    ensures turn { turn_of turn.new ≡ made.now }
+    ensures act { turn.new.act ≡ act_in kept.old made.now.event }
+    ensures kept { kept.new ≡ kept_until made.now.reply kept.old }
     ensures page_room { holds_room spare.new kept.new ≡ true }
 {
-    let left = with_act(kept, turn);
-    if let Some(_) = turn.reply {
+    note_act(kept, made, turn);
+    if let Some(_) = made.reply {
         give_up(kept, spare);
     }
-    left
 }
 
 // That of a step's run, which has no room.
-fn leave_step(kept: &mut Option<Running<'_>>, turn: RunTurn) -> LeafTurn
-    ensures turn { turn_of result ≡ turn }
-    ensures act { result.act ≡ act_in kept.old turn.event }
-    ensures kept { kept.new ≡ kept_until turn.reply kept.old }
+fn leave_step(kept: &mut Option<Running<'_>>, made: &RunTurn, turn: &mut LeafTurn)
+    ensures turn { turn_of turn.new ≡ made.now }
+    ensures act { turn.new.act ≡ act_in kept.old made.now.event }
+    ensures kept { kept.new ≡ kept_until made.now.reply kept.old }
 {
-    let left = with_act(kept, turn);
-    match turn.reply {
+    note_act(kept, made, turn);
+    match made.reply {
         Some(_) => forget(kept),
         None => (),
     }
-    left
 }
 
 // A turn, with the reply that its act has come to.
-fn with_act(kept: &Option<Running<'_>>, turn: RunTurn) -> LeafTurn
-    ensures turn { turn_of result ≡ turn }
-    ensures act { result.act ≡ act_in kept.now turn.event }
+fn note_act(kept: &Option<Running<'_>>, made: &RunTurn, turn: &mut LeafTurn)
+    ensures turn { turn_of turn.new ≡ made.now }
+    ensures act { turn.new.act ≡ act_in kept.now made.now.event }
 {
-    LeafTurn {
-        event: turn.event,
-        act: act_in(kept, turn.event),
-        reply: turn.reply,
-    }
+    *turn = LeafTurn {
+        event: made.event,
+        act: act_in(kept, made.event),
+        reply: made.reply,
+    };
 }
 
 /// What a kept run that was answered answers from now on, as VP.ENTER does once its guest is left.

@@ -12,11 +12,14 @@ ghost use Rattle.leaf_dispatch.specs.FirstLists.{AreFirstLists, AreFirstLists-pr
 use crate::call_runs::{CallRun, call_held_of};
 use crate::first_lists::FirstLists;
 use crate::guests::{GuestAt, InGuest, next_step};
-use crate::rooms::{add_note, add_word, lines_bundles, lines_payloads, lines_room, longest};
+use crate::rooms::{lines_bundles, lines_payloads, lines_room, longest};
 use crate::step_runs::{StepRun, forget_step, step_held_of};
-use crate::turns::{GuestTurn, answer_exit, is_acting, leave_where, turn_guest, turn_line};
+use crate::turns::{
+    GuestTurn, answer_exit, is_acting, leave_where, note_by, tell_by, turn_guest, turn_line,
+};
 use bundles::Bundles;
 use export_pages::PageWords;
+use guest_turns::LeafTurn;
 use leaf_engine::{Event, HeldLock, Place, Processor, Turn, turns_in_pieces};
 use leaf_table::{Given, Step};
 use report_text::GuestNote;
@@ -28,7 +31,8 @@ use tlb_epochs::Tlb;
 /// A logical processor: its calls from the present one on, and the run of that call once its first
 /// event is made; the guest that it is in, and the run of what the guest does; its cached translations;
 /// its replies, one for each call that is done, what its guests noted and told, and the bundles that its
-/// calls made. The room for a page's words is spare, but while a run of EXPORT.MEM has it.
+/// calls made; and a place, into which its turns are written. The room for a page's words is spare, but
+/// while a run of EXPORT.MEM has it.
 #[derive(Drop)]
 pub struct LpState<'a> {
     place: Place,
@@ -45,6 +49,7 @@ pub struct LpState<'a> {
     notes: Vec<GuestNote>,
     told: Vec<u64>,
     bundles: Bundles,
+    turn: LeafTurn,
     ghost machine: { IsMachine place.machine },
     ghost limits: { AreOperations codes.now } by { AreOperations-prop codes.now },
     ghost lists_are: { AreFirstLists codes.now first_lists.now } by { AreFirstLists-prop codes.now first_lists.now },
@@ -135,6 +140,7 @@ impl<'a> LpState<'a> {
             notes,
             told,
             bundles,
+            turn: LeafTurn::unmade(),
         })
     }
 
@@ -241,7 +247,7 @@ impl<'a> LpState<'a> {
         ensures same { B.machine bench.new ≡ B.machine bench.old }
     {
         turns_in_pieces();
-        let turn = turn_line(
+        turn_line(
             &mut self.run,
             &mut self.spare,
             &mut self.bundles,
@@ -253,9 +259,10 @@ impl<'a> LpState<'a> {
             self.first_lists,
             call,
             bench,
+            &mut self.turn,
         );
-        match turn.reply {
-            None => (),
+        match self.turn.reply {
+            None => self.turn.event,
             Some(reply) => {
                 let Ok(()) = self.replies.push(reply) else {
                     unreachable!()
@@ -263,9 +270,9 @@ impl<'a> LpState<'a> {
                 self.lines = further;
                 self.guest = None;
                 forget_step(&mut self.step_run);
+                self.turn.event
             }
         }
-        turn.event
     }
 
     // The next event of the guest.
@@ -281,13 +288,7 @@ impl<'a> LpState<'a> {
         let Some(guest) = &mut self.guest else {
             unreachable!()
         };
-        let GuestTurn {
-            step,
-            turn,
-            note,
-            word,
-            left,
-        } = turn_guest(
+        let GuestTurn { step, left } = turn_guest(
             &mut self.step_run,
             &mut self.cached,
             guest,
@@ -295,12 +296,13 @@ impl<'a> LpState<'a> {
             self.given,
             line,
             bench,
+            &mut self.turn,
         );
-        add_note(&mut self.notes, note);
-        add_word(&mut self.told, word);
-        answer_exit(&mut self.run.other, step, turn.reply);
+        note_by(&mut self.notes, line, step, &self.turn.act);
+        tell_by(&mut self.told, step, &self.turn.act);
+        answer_exit(&mut self.run.other, step, &self.turn.reply);
         leave_where(&mut self.guest, left);
-        turn.event
+        self.turn.event
     }
 }
 

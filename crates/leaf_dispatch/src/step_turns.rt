@@ -2,6 +2,8 @@
 
 ghost use Rattle.std.specs.Prelude.{◌≡◌, ℕ, ◌<◌, Some, None};
 ghost use Rattle.td_words.specs.Limits.{IsMachine};
+ghost use Rattle.td_words.specs.declared.replies.Reply.TheVariants.{Done};
+ghost use Rattle.td_words.specs.declared.replies.Value.TheVariants.{Nothing, Number};
 ghost use Rattle.leaf_engine.specs.declared.events.Event.TheVariants as event;
 ghost use Rattle.leaf_engine.specs.Guests.{Operates};
 ghost use Rattle.leaf_engine.specs.OwnLists.{running};
@@ -24,7 +26,7 @@ use leaf_engine::{Event, Place};
 use leaf_parts::page_told;
 use leaf_table::{Given, Step};
 use step_core::Bench;
-use td_words::{Access, GuestOp, Reply};
+use td_words::{Access, GuestOp, Reply, Value};
 
 /// The next turn of the run of a guest's step, which is kept until its reply comes, and begins where
 /// none is kept. A step that has a short way takes it.
@@ -37,20 +39,21 @@ pub fn turn_step<'a, B: Bench>(
     line: usize,
     step: Step,
     bench: &mut B,
-) -> LeafTurn
+    turn: &mut LeafTurn,
+)
     requires machine { IsMachine place.machine }
     requires inside { (tdr < place.machine.pages) × (vp < place.machine.pages) }
     requires limits { IsStepOf (step_seen step) }
     requires at { place.machine ≡ B.machine bench.old }
     requires under_way { IsStepRunOf place.machine (step_ends tdr line (step_seen step)) kept.old }
-    ensures turned { StepTurned (B.did bench.old) place.machine (step_ends tdr line (step_seen step)) (running (step_task (given_in given.entry) place tdr vp line (step_seen step)) (step_run_seen kept.old)) bench.new kept.new result }
+    ensures turned { StepTurned (B.did bench.old) place.machine (step_ends tdr line (step_seen step)) (running (step_task (given_in given.entry) place tdr vp line (step_seen step)) (step_run_seen kept.old)) bench.new kept.new turn.new }
     ensures machine { B.machine bench.new ≡ B.machine bench.old }
 {
     match kept.shared {
-        Some(_) => turn_shared(&mut kept.shared, bench),
+        Some(_) => turn_shared(&mut kept.shared, bench, turn),
         None => match kept.other {
-            Some(_) => turn_other_step(kept, place, given, tdr, vp, line, step, bench),
-            None => turn_new_step(kept, place, given, tdr, vp, line, step, bench),
+            Some(_) => turn_other_step(kept, place, given, tdr, vp, line, step, bench, turn),
+            None => turn_new_step(kept, place, given, tdr, vp, line, step, bench, turn),
         },
     }
 }
@@ -65,17 +68,28 @@ fn turn_other_step<'a, B: Bench>(
     line: usize,
     step: Step,
     bench: &mut B,
-) -> LeafTurn
+    turn: &mut LeafTurn,
+)
     requires machine { IsMachine place.machine }
     requires inside { (tdr < place.machine.pages) × (vp < place.machine.pages) }
     requires limits { IsStepOf (step_seen step) }
     requires at { place.machine ≡ B.machine bench.old }
     requires alone { kept.old.shared ≡ None }
     requires under_way { IsStepRunOf place.machine (step_ends tdr line (step_seen step)) kept.old }
-    ensures turned { StepTurned (B.did bench.old) place.machine (step_ends tdr line (step_seen step)) (running (step_task (given_in given.entry) place tdr vp line (step_seen step)) (step_run_seen kept.old)) bench.new kept.new result }
+    ensures turned { StepTurned (B.did bench.old) place.machine (step_ends tdr line (step_seen step)) (running (step_task (given_in given.entry) place tdr vp line (step_seen step)) (step_run_seen kept.old)) bench.new kept.new turn.new }
     ensures machine { B.machine bench.new ≡ B.machine bench.old }
 {
-    turn_step_run(&mut kept.other, place, given, tdr, vp, line, step, bench)
+    turn_step_run(
+        &mut kept.other,
+        place,
+        given,
+        tdr,
+        vp,
+        line,
+        step,
+        bench,
+        turn,
+    );
 }
 
 // The first turn of a step.
@@ -88,13 +102,14 @@ fn turn_new_step<'a, B: Bench>(
     line: usize,
     step: Step,
     bench: &mut B,
-) -> LeafTurn
+    turn: &mut LeafTurn,
+)
     requires machine { IsMachine place.machine }
     requires inside { (tdr < place.machine.pages) × (vp < place.machine.pages) }
     requires limits { IsStepOf (step_seen step) }
     requires at { place.machine ≡ B.machine bench.old }
     requires none { (kept.old.shared ≡ None) × (kept.old.other ≡ None) }
-    ensures turned { StepTurned (B.did bench.old) place.machine (step_ends tdr line (step_seen step)) (running (step_task (given_in given.entry) place tdr vp line (step_seen step)) None) bench.new kept.new result }
+    ensures turned { StepTurned (B.did bench.old) place.machine (step_ends tdr line (step_seen step)) (running (step_task (given_in given.entry) place tdr vp line (step_seen step)) None) bench.new kept.new turn.new }
     ensures machine { B.machine bench.new ≡ B.machine bench.old }
 {
     match step {
@@ -103,11 +118,14 @@ fn turn_new_step<'a, B: Bench>(
             register,
             gpa,
             page,
-        } => at_once(access_private(place, vp, access, register, gpa, page, bench)),
-        Step::Operates(operation) => {
-            turn_new_operation(kept, place, given, tdr, vp, line, operation, bench)
+        } => {
+            let word = access_private(place, vp, access, register, gpa, page, bench);
+            moved_at_once(word, turn);
         }
-        _ => turn_other_step(kept, place, given, tdr, vp, line, step, bench),
+        Step::Operates(operation) => {
+            turn_new_operation(kept, place, given, tdr, vp, line, operation, bench, turn)
+        }
+        _ => turn_other_step(kept, place, given, tdr, vp, line, step, bench, turn),
     }
 }
 
@@ -121,22 +139,30 @@ fn turn_new_operation<'a, B: Bench>(
     line: usize,
     operation: GuestOp,
     bench: &mut B,
-) -> LeafTurn
+    turn: &mut LeafTurn,
+)
     requires machine { IsMachine place.machine }
     requires inside { (tdr < place.machine.pages) × (vp < place.machine.pages) }
     requires limits { IsOperation operation }
     requires at { place.machine ≡ B.machine bench.old }
     requires none { (kept.old.shared ≡ None) × (kept.old.other ≡ None) }
-    ensures turned { StepTurned (B.did bench.old) place.machine (step_ends tdr line (Operates operation)) (running (step_task (given_in given.entry) place tdr vp line (Operates operation)) None) bench.new kept.new result }
+    ensures turned { StepTurned (B.did bench.old) place.machine (step_ends tdr line (Operates operation)) (running (step_task (given_in given.entry) place tdr vp line (Operates operation)) None) bench.new kept.new turn.new }
     ensures machine { B.machine bench.new ≡ B.machine bench.old }
 {
     let pages = place.machine.pages;
     match operation {
-        GuestOp::Set { register, value } => at_once(set_register(bench, vp, register, value)),
-        GuestOp::Secret { register, number } => {
-            at_once(set_register(bench, vp, register, given.secrets[usize::from(number)]))
+        GuestOp::Set { register, value } => {
+            set_register(bench, vp, register, value);
+            done_at_once(turn);
         }
-        GuestOp::Add { register, other } => at_once(add_registers(bench, vp, register, other)),
+        GuestOp::Secret { register, number } => {
+            set_register(bench, vp, register, given.secrets[usize::from(number)]);
+            done_at_once(turn);
+        }
+        GuestOp::Add { register, other } => {
+            add_registers(bench, vp, register, other);
+            done_at_once(turn);
+        }
         GuestOp::Load { register, gpa } => {
             begin_shared(
                 &mut kept.shared,
@@ -147,6 +173,7 @@ fn turn_new_operation<'a, B: Bench>(
                 line,
                 register,
                 gpa,
+                turn,
             )
         }
         GuestOp::Store { register, gpa } => {
@@ -159,6 +186,7 @@ fn turn_new_operation<'a, B: Bench>(
                 line,
                 register,
                 gpa,
+                turn,
             )
         }
         _ => turn_other_step(
@@ -170,11 +198,13 @@ fn turn_new_operation<'a, B: Bench>(
             line,
             Step::Operates(operation),
             bench,
+            turn,
         ),
     }
 }
 
-// An access to a private word of a page, which is the machine's; any other is read as page 0.
+// An access to a private word of a page, which is the machine's; any other is read as page 0. It answers the
+// word that it moved.
 fn access_private<B: Bench>(
     place: Place,
     vp: u16,
@@ -183,12 +213,12 @@ fn access_private<B: Bench>(
     gpa: u64,
     page: u16,
     bench: &mut B,
-) -> Reply
+) -> u64
     requires machine { IsMachine place.machine }
     requires at { place.machine ≡ B.machine bench.old }
     requires inside { vp < place.machine.pages }
     requires few { register < 8 }
-    ensures made { (line : ℕ) → MadeAtOnce (B.did bench.old) place.machine (access_tree vp line access register gpa (page_told place.machine.pages page)) bench.new result }
+    ensures made { (line : ℕ) → MadeAtOnce (B.did bench.old) place.machine (access_tree vp line access register gpa (page_told place.machine.pages page)) bench.new (Done (Number result)) }
     ensures machine { B.machine bench.new ≡ B.machine bench.old }
 {
     let page = page_told(place.machine.pages, u64::from(page));
@@ -198,13 +228,20 @@ fn access_private<B: Bench>(
     }
 }
 
-// The turn of a step that is one event, with this reply.
-fn at_once(reply: Reply) -> LeafTurn
-    ensures { result ≡ record { event = event.Act; act = Some reply; reply = Some reply } }
+// The turn of a step that is one event and has moved that word.
+fn moved_at_once(word: u64, turn: &mut LeafTurn)
+    ensures { turn.new ≡ record { event = event.Act; act = Some (Done (Number word)); reply = Some (Done (Number word)) } }
 {
-    LeafTurn {
-        event: Event::Act,
-        act: Some(reply),
-        reply: Some(reply),
-    }
+    turn.event = Event::Act;
+    turn.act = Some(Reply::Done(Value::Number(word)));
+    turn.reply = Some(Reply::Done(Value::Number(word)));
+}
+
+// That of one that answers nothing.
+fn done_at_once(turn: &mut LeafTurn)
+    ensures { turn.new ≡ record { event = event.Act; act = Some (Done Nothing); reply = Some (Done Nothing) } }
+{
+    turn.event = Event::Act;
+    turn.act = Some(Reply::Done(Value::Nothing));
+    turn.reply = Some(Reply::Done(Value::Nothing));
 }

@@ -1,18 +1,19 @@
 //! A turn of a call line, and a turn in a guest.
 
-ghost use Rattle.std.specs.Prelude.{◌≡◌, ℕ, ◌<◌, ◌≤◌, true, length, List, [], Option, IfSome, None, is_none, is_some, if◌then◌else◌, option_map};
+ghost use Rattle.std.specs.Prelude.{◌≡◌, ℕ, ◌+◌, ◌<◌, ◌≤◌, true, length, map, vec_capacity, List, [], Option, IfSome, None, is_none, is_some, if◌then◌else◌, option_map};
 ghost use Rattle.std.specs.List.{All};
 ghost use Rattle.td_words.specs.declared.machines.Machine.{Machine};
 ghost use Rattle.td_words.specs.declared.calls.Call.{Call};
 ghost use Rattle.td_words.specs.Limits.{IsMachine};
 ghost use Rattle.flat_core.specs.World.{Made};
+ghost use Rattle.leaf_engine.specs.Trees.{added};
 ghost use Rattle.leaf_engine.specs.Turns.{Standing};
 ghost use Rattle.leaf_engine.specs.OwnLists.{running};
 ghost use Rattle.leaf_engine.specs.Merges.{IsOperation, IsStepOf};
 ghost use Rattle.leaf_table.specs.Ends.{call_answer, call_makes, call_ends, call_fits, step_answer, step_ends, step_fits, step_tries};
 ghost use Rattle.leaf_dispatch.specs.Answers.{guest_by, cached_by, notes_by, tells_by};
 ghost use Rattle.leaf_table.specs.Steps.{step_seen};
-ghost use Rattle.leaf_dispatch.specs.Guests.{guest_seen, next_in, notes_in, words_in, IsLow, CanCount, IsReplyOf, unless, IsNextGuest};
+ghost use Rattle.leaf_dispatch.specs.Guests.{guest_seen, next_in, note_seen, IsLow, CanCount, IsReplyOf, unless, IsNextGuest};
 ghost use Rattle.leaf_dispatch.specs.Inside.{acting, line_then, HasEntered};
 ghost use Rattle.leaf_dispatch.specs.NoteRooms.{run_room};
 ghost use Rattle.leaf_dispatch.specs.BundleRooms.{count_of, words_of, HasAdded};
@@ -28,6 +29,7 @@ use crate::call_runs::CallRun;
 use crate::call_turns::turn_call;
 use crate::first_lists::FirstLists;
 use crate::guests::{GuestAt, next_step, step_on};
+use crate::rooms::{add_note, add_word};
 use crate::running::{Running, answer_kept};
 use crate::step_runs::StepRun;
 use crate::step_turns::turn_step;
@@ -41,13 +43,10 @@ use step_core::Bench;
 use td_words::{Call, Code, Machine, Reply};
 use tlb_epochs::Tlb;
 
-/// A turn in a guest: its step and that step's turn, what the guest noted and told with its act, and
-/// whether it was left.
+/// The step of a turn in a guest, and whether the guest was left.
+#[derive(Clone, Copy)]
 pub struct GuestTurn {
     pub step: Step,
-    pub turn: LeafTurn,
-    pub note: Option<GuestNote>,
-    pub word: Option<u64>,
     pub left: bool,
 }
 
@@ -67,7 +66,8 @@ pub fn turn_line<'a, B: Bench>(
     first_lists: &FirstLists,
     call: &Call,
     bench: &mut B,
-) -> LeafTurn
+    turn: &mut LeafTurn,
+)
     requires machine { IsMachine place.machine }
     requires first_lists { AreFirstLists codes.now first_lists.now }
     requires at { place.machine ≡ B.machine bench.old }
@@ -75,25 +75,24 @@ pub fn turn_line<'a, B: Bench>(
     requires room { run_room (count_of (call_makes call.now)) (call_run_seen kept.old) ≤ bundles.old.room }
     requires word_room { run_room (words_of (call_makes call.now)) (call_run_seen kept.old) ≤ bundles.old.word_room }
     requires page_room { holds_room spare.old kept.old.other ≡ true }
-    ensures turned { (made : List Made) × HasAdded bundles.old made bundles.new × CallTurned (B.did bench.old) place.machine (call_ends place.machine call.now) (running (task_of (given_in given.entry) place call.now) (call_run_seen kept.old)) bench.new kept.new result made }
-    ensures cached { cached.new ≡ cached_by (call_answer call.now) result.act cached.old }
-    ensures entered { HasEntered place.machine codes.now (guest_by (call_answer call.now) result.act None) guest.old guest.new }
+    ensures turned { (made : List Made) × HasAdded bundles.old made bundles.new × CallTurned (B.did bench.old) place.machine (call_ends place.machine call.now) (running (task_of (given_in given.entry) place call.now) (call_run_seen kept.old)) bench.new kept.new turn.new made }
+    ensures cached { cached.new ≡ cached_by (call_answer call.now) turn.new.act cached.old }
+    ensures entered { HasEntered place.machine codes.now (guest_by (call_answer call.now) turn.new.act None) guest.old guest.new }
     ensures page_room { holds_room spare.new kept.new.other ≡ true }
     ensures stays { is_some kept.old.other ≡ true → is_none kept.new.host ≡ true }
     ensures machine { B.machine bench.new ≡ B.machine bench.old }
 {
-    let turn = turn_call(kept, spare, bundles, place, call, given, bench);
-    drop_by(place.machine, cached, call, turn.act);
-    enter_by(place.machine, codes, first_lists, guest, call, turn.act);
-    turn
+    turn_call(kept, spare, bundles, place, call, given, bench, turn);
+    drop_by(place.machine, cached, call, &turn.act);
+    enter_by(place.machine, codes, first_lists, guest, call, &turn.act);
 }
 
-fn drop_by(machine: Machine, cached: &mut Tlb, call: &Call, act: Option<Reply>)
-    requires { IfSome act (λ r. call_fits machine call.now r ≡ true) }
-    ensures { cached.new ≡ cached_by (call_answer call.now) act cached.old }
+fn drop_by(machine: Machine, cached: &mut Tlb, call: &Call, act: &Option<Reply>)
+    requires { IfSome act.now (λ r. call_fits machine call.now r ≡ true) }
+    ensures { cached.new ≡ cached_by (call_answer call.now) act.now cached.old }
 {
     if let Some(reply) = act {
-        drop_stale(machine, cached, call, reply);
+        drop_stale(machine, cached, call, *reply);
     }
 }
 
@@ -103,14 +102,14 @@ fn enter_by<'a>(
     first_lists: &FirstLists,
     guest: &mut Option<GuestAt<'a>>,
     call: &Call,
-    act: Option<Reply>,
+    act: &Option<Reply>,
 )
-    requires fits { IfSome act (λ r. call_fits machine call.now r ≡ true) }
+    requires fits { IfSome act.now (λ r. call_fits machine call.now r ≡ true) }
     requires first_lists { AreFirstLists codes.now first_lists.now }
-    ensures { HasEntered machine codes.now (guest_by (call_answer call.now) act None) guest.old guest.new }
+    ensures { HasEntered machine codes.now (guest_by (call_answer call.now) act.now None) guest.old guest.new }
 {
     if let Some(reply) = act {
-        if let Some(entered) = entered(machine, codes, first_lists, call, reply) {
+        if let Some(entered) = entered(machine, codes, first_lists, call, *reply) {
             *guest = Some(entered);
         }
     }
@@ -126,6 +125,7 @@ pub fn turn_guest<'a, B: Bench>(
     given: Given<'a>,
     line: u32,
     bench: &mut B,
+    turn: &mut LeafTurn,
 ) -> GuestTurn
     requires machine { IsMachine place.machine }
     requires at { place.machine ≡ B.machine bench.old }
@@ -137,17 +137,15 @@ pub fn turn_guest<'a, B: Bench>(
     ensures step { (run : Option Standing) → step_seen result.step ≡ next_in cached.old guest.old run }
     ensures counts { CanCount guest.old (step_seen result.step) }
     ensures within { IsStepOf (step_seen result.step) }
-    ensures turned { StepTurned (B.did bench.old) place.machine (step_ends guest.old.tdr line (step_seen result.step)) (running (step_task (given_in given.entry) place guest.old.tdr guest.old.vp line (step_seen result.step)) (step_run_seen kept.old)) bench.new kept.new result.turn }
-    ensures fits { IfSome result.turn.reply (λ r. IsReplyOf (step_seen result.step) r) }
-    ensures cached { cached.new ≡ cached_by (step_answer guest.old.tdr line (step_seen result.step)) result.turn.act cached.old }
-    ensures notes { notes_in result.note ≡ notes_by (step_answer guest.old.tdr line (step_seen result.step)) result.turn.act }
-    ensures words { words_in result.word ≡ tells_by (step_answer guest.old.tdr line (step_seen result.step)) result.turn.act }
-    ensures next { IsNextGuest guest.old (step_seen result.step) result.turn.reply (unless result.left guest.new) }
+    ensures turned { StepTurned (B.did bench.old) place.machine (step_ends guest.old.tdr line (step_seen result.step)) (running (step_task (given_in given.entry) place guest.old.tdr guest.old.vp line (step_seen result.step)) (step_run_seen kept.old)) bench.new kept.new turn.new }
+    ensures fits { IfSome turn.new.reply (λ r. IsReplyOf (step_seen result.step) r) }
+    ensures cached { cached.new ≡ cached_by (step_answer guest.old.tdr line (step_seen result.step)) turn.new.act cached.old }
+    ensures next { IsNextGuest guest.old (step_seen result.step) turn.new.reply (unless result.left guest.new) }
     ensures kept { IsLow guest.new.walk × (guest.new.list.now ≡ guest.old.list.now) }
     ensures machine { B.machine bench.new ≡ B.machine bench.old }
 {
     let step = next_step(guest, cached);
-    let turn = turn_step(
+    turn_step(
         kept,
         place,
         given,
@@ -156,54 +154,58 @@ pub fn turn_guest<'a, B: Bench>(
         line as usize,
         step,
         bench,
-    );
-    cache_by(cached, guest.tdr, step, turn.act);
-    GuestTurn {
-        step,
         turn,
-        note: noted_by(line, step, turn.act),
-        word: told_by(step, turn.act),
-        left: guest_then(guest, step, turn.reply),
-    }
+    );
+    cache_by(cached, guest.tdr, step, &turn.act);
+    let left = guest_then(guest, step, &turn.reply);
+    GuestTurn { step, left }
 }
 
-fn cache_by(cached: &mut Tlb, tdr: u16, step: Step, act: Option<Reply>)
-    requires { IfSome act (λ r. step_fits (step_seen step) r ≡ true) }
-    ensures { (line : ℕ) → cached.new ≡ cached_by (step_answer tdr line (step_seen step)) act cached.old }
+fn cache_by(cached: &mut Tlb, tdr: u16, step: Step, act: &Option<Reply>)
+    requires { IfSome act.now (λ r. step_fits (step_seen step) r ≡ true) }
+    ensures { (line : ℕ) → cached.new ≡ cached_by (step_answer tdr line (step_seen step)) act.now cached.old }
 {
     if let Some(reply) = act {
-        cache_walk(cached, tdr, step, reply);
+        cache_walk(cached, tdr, step, *reply);
     }
 }
 
-fn noted_by(line: u32, step: Step, act: Option<Reply>) -> Option<GuestNote>
-    ensures { (tdr : ℕ) → notes_in result ≡ notes_by (step_answer tdr line (step_seen step)) act }
+/// Adds what a guest noted with the act of its step, at a call line, for which there is room.
+pub fn note_by(notes: &mut Vec<GuestNote>, line: u32, step: Step, act: &Option<Reply>)
+    requires room { (tdr : ℕ) → length notes.old.items + length (notes_by (step_answer tdr line (step_seen step)) act.now) ≤ vec_capacity notes.old }
+    ensures noted { (tdr : ℕ) → map note_seen notes.new.items ≡ added (map note_seen notes.old.items) (notes_by (step_answer tdr line (step_seen step)) act.now) }
+    ensures count { (tdr : ℕ) → length notes.new.items ≡ length notes.old.items + length (notes_by (step_answer tdr line (step_seen step)) act.now) }
+    ensures room { vec_capacity notes.old ≤ vec_capacity notes.new }
 {
-    match act {
-        Some(reply) => noted(line, step, reply),
-        None => None,
+    if let Some(reply) = act {
+        let note = noted(line, step, *reply);
+        add_note(notes, note);
     }
 }
 
-fn told_by(step: Step, act: Option<Reply>) -> Option<u64>
-    ensures { (tdr line : ℕ) → words_in result ≡ tells_by (step_answer tdr line (step_seen step)) act }
+/// Adds the word that a guest told with the act of its step, for which there is room.
+pub fn tell_by(words: &mut Vec<u64>, step: Step, act: &Option<Reply>)
+    requires room { (tdr line : ℕ) → length words.old.items + length (tells_by (step_answer tdr line (step_seen step)) act.now) ≤ vec_capacity words.old }
+    ensures told { (tdr line : ℕ) → words.new.items ≡ added words.old.items (tells_by (step_answer tdr line (step_seen step)) act.now) }
+    ensures count { (tdr line : ℕ) → length words.new.items ≡ length words.old.items + length (tells_by (step_answer tdr line (step_seen step)) act.now) }
+    ensures room { vec_capacity words.old ≤ vec_capacity words.new }
 {
-    match act {
-        Some(reply) => told(step, reply),
-        None => None,
+    if let Some(reply) = act {
+        let word = told(step, *reply);
+        add_word(words, word);
     }
 }
 
-fn guest_then(guest: &mut GuestAt<'_>, step: Step, reply: Option<Reply>) -> bool
+fn guest_then(guest: &mut GuestAt<'_>, step: Step, reply: &Option<Reply>) -> bool
     requires counted { CanCount guest.old (step_seen step) }
-    requires fits { IfSome reply (λ r. IsReplyOf (step_seen step) r) }
+    requires fits { IfSome reply.now (λ r. IsReplyOf (step_seen step) r) }
     requires low { IsLow guest.old.walk }
     requires level { IsStepOf (step_seen step) }
-    ensures next { IsNextGuest guest.old (step_seen step) reply (unless result guest.new) }
+    ensures next { IsNextGuest guest.old (step_seen step) reply.now (unless result guest.new) }
     ensures kept { IsLow guest.new.walk × (guest.new.list.now ≡ guest.old.list.now) }
 {
     match reply {
-        Some(reply) => step_on(guest, step, reply),
+        Some(reply) => step_on(guest, step, *reply),
         None => false,
     }
 }
@@ -232,15 +234,15 @@ pub fn leave_where(guest: &mut Option<GuestAt<'_>>, left: bool)
 }
 
 /// VP.ENTER answers what the step answered by which its guest was left.
-pub fn answer_exit(kept: &mut Option<Running<'_>>, step: Step, reply: Option<Reply>)
-    ensures seen { run_seen kept.new ≡ line_then (step_seen step) reply (run_seen kept.old) }
-    ensures under_way { (m : Machine) (c : Call) → IsRunOf m (call_ends m c) kept.old → IsAnswered kept.old → IfSome reply (λ r. IsReplyOf (step_seen step) r) → IsRunOf m (call_ends m c) kept.new }
+pub fn answer_exit(kept: &mut Option<Running<'_>>, step: Step, reply: &Option<Reply>)
+    ensures seen { run_seen kept.new ≡ line_then (step_seen step) reply.now (run_seen kept.old) }
+    ensures under_way { (m : Machine) (c : Call) → IsRunOf m (call_ends m c) kept.old → IsAnswered kept.old → IfSome reply.now (λ r. IsReplyOf (step_seen step) r) → IsRunOf m (call_ends m c) kept.new }
     ensures answered { IsAnswered kept.old → IsAnswered kept.new }
     ensures page_room { (spare : Option (List ℕ)) → holds_room spare kept.old ≡ true → holds_room spare kept.new ≡ true }
 {
     if let Step::Leaves(_) = step {
         if let Some(reply) = reply {
-            answer_kept(kept, reply);
+            answer_kept(kept, *reply);
         }
     }
 }

@@ -16,7 +16,7 @@ returns-in-Some-clause-turned g c =
     let k = c.args.kept.now in (
       [],
       adds-none c.args.bundles.now,
-      short-on standing_of IsIn (g.B.Bench.did c.args.bench.now) c.args.place.machine _ (call_ends c.args.place.machine c.args.call.now) (task_of (given_in c.args.given) c.args.place c.args.call.now) k.host k.other c.turn_host.new.bench c.turn_host.new.kept c.turn_host.result
+      short-on standing_of IsIn (g.B.Bench.did c.args.bench.now) c.args.place.machine _ (call_ends c.args.place.machine c.args.call.now) (task_of (given_in c.args.given) c.args.place c.args.call.now) k.host k.other c.turn_host.new.bench c.turn_host.new.kept c.turn_host.new.turn
           c.requires.at c.requires.under_way c.turn_host.ensures.turned,
     )
 

@@ -28,5 +28,5 @@ returns-clause-turned g c =
       turned.0,
       turned.1,
       other-turned standing_of IsIn (g.B.Bench.did c.args.bench.now) c.args.place.machine (call_ends c.args.place.machine c.args.call.now) (task_of (given_in c.args.given) c.args.place c.args.call.now) c.args.kept.now.host c.args.kept.now.other c.turn_call_run.new.kept
-          c.turn_call_run.new.bench c.turn_call_run.result turned.0 c.requires.alone turned.2,
+          c.turn_call_run.new.bench c.turn_call_run.new.turn turned.0 c.requires.alone turned.2,
     )

@@ -13,37 +13,37 @@ use Rattle.leaf_dispatch.proofs.Making.{counts_bundles, counts_words, call-room}
 use Rattle.leaf_dispatch.proofs.PageRooms.{turned-room}
 use Rattle.leaf_dispatch.proofs.running.turn_call_run.Goals as goal
 
-pub turn_kept-turn-requires : goal.turn_kept-turn-requires
-turn_kept-turn-requires g c = can-turn-at _ _ (call_ends c.args.place.machine c.args.call.now) (running (task_of (given_in c.args.given) c.args.place c.args.call.now) (run_seen c.args.kept.now)) c.begin_where_none.new.kept c.requires.at c.begin_where_none.ensures.kept
+pub turn_kept-made-requires : goal.turn_kept-made-requires
+turn_kept-made-requires g c = can-turn-at _ _ (call_ends c.args.place.machine c.args.call.now) (running (task_of (given_in c.args.given) c.args.place c.args.call.now) (run_seen c.args.kept.now)) c.begin_where_none.new.kept c.requires.at c.begin_where_none.ensures.kept
 
 pub add_made-requires-clause-room : goal.add_made-requires-clause-room
 add_made-requires-clause-room g c =
-    let few = call-room count_of length counts_bundles (g.B.Bench.did c.args.bench.now) c.turn_kept-turn.new.bench _ (given_in c.args.given) c.args.place c.args.call.now (run_seen c.args.kept.now) c.begin_where_none.new.kept c.turn_kept-turn.new.kept c.turn_kept-turn.result c.requires.at
-    c.begin_where_none.ensures.kept c.turn_kept-turn.ensures.turned in
+    let few = call-room count_of length counts_bundles (g.B.Bench.did c.args.bench.now) c.turn_kept-made.new.bench _ (given_in c.args.given) c.args.place c.args.call.now (run_seen c.args.kept.now) c.begin_where_none.new.kept c.turn_kept-made.new.kept c.turn_kept-made.result c.requires.at
+    c.begin_where_none.ensures.kept c.turn_kept-made.ensures.turned in
     let room = c.requires.room in
     omega (arith, few, room)
 
 pub add_made-requires-clause-word_room : goal.add_made-requires-clause-word_room
 add_made-requires-clause-word_room g c =
-    let few = call-room words_of payload_words counts_words (g.B.Bench.did c.args.bench.now) c.turn_kept-turn.new.bench _ (given_in c.args.given) c.args.place c.args.call.now (run_seen c.args.kept.now) c.begin_where_none.new.kept c.turn_kept-turn.new.kept c.turn_kept-turn.result c.requires.at
-    c.begin_where_none.ensures.kept c.turn_kept-turn.ensures.turned in
+    let few = call-room words_of payload_words counts_words (g.B.Bench.did c.args.bench.now) c.turn_kept-made.new.bench _ (given_in c.args.given) c.args.place c.args.call.now (run_seen c.args.kept.now) c.begin_where_none.new.kept c.turn_kept-made.new.kept c.turn_kept-made.result c.requires.at
+    c.begin_where_none.ensures.kept c.turn_kept-made.ensures.turned in
     let room = c.requires.word_room in
     omega (arith, few, room)
 
 pub leave_call-requires : goal.leave_call-requires
 leave_call-requires g c = record {
-  page_room = turned-room (g.B.Bench.did c.args.bench.now) _ c.begin_where_none.new.spare c.begin_where_none.new.kept c.turn_kept-turn.new.kept c.turn_kept-turn.new.bench c.turn_kept-turn.result c.turn_kept-turn.ensures.turned c.begin_where_none.ensures.page_room;
+  page_room = turned-room (g.B.Bench.did c.args.bench.now) _ c.begin_where_none.new.spare c.begin_where_none.new.kept c.turn_kept-made.new.kept c.turn_kept-made.new.bench c.turn_kept-made.result c.turn_kept-made.ensures.turned c.begin_where_none.ensures.page_room;
 }
 
 pub returns-clause-turned : goal.returns-clause-turned
 returns-clause-turned g c =
     let e : Ends = call_ends c.args.place.machine c.args.call.now in
     let s : Standing = running (task_of (given_in c.args.given) c.args.place c.args.call.now) (run_seen c.args.kept.now) in
-    let made : List Made = made_in_run c.turn_kept-turn.new.kept c.turn_kept-turn.result.event in
+    let made : List Made = made_in_run c.turn_kept-made.new.kept c.turn_kept-made.result.event in
     let k = subst (λ (z : Machine). IsKept z e s c.begin_where_none.new.kept) c.requires.at c.begin_where_none.ensures.kept in (
       made,
       c.add_made.ensures,
-      subst (λ (z : Machine). RunTurned (g.B.Bench.did c.args.bench.now) z e s c.turn_kept-turn.new.bench c.leave_call.new.kept c.leave_call.result made) (sym c.requires.at)
-          (run-turned (g.B.Bench.did c.args.bench.now) c.turn_kept-turn.new.bench _ e s c.begin_where_none.new.kept c.turn_kept-turn.new.kept c.leave_call.new.kept c.leave_call.result c.turn_kept-turn.result made k c.turn_kept-turn.ensures.turned c.leave_call.ensures.turn
+      subst (λ (z : Machine). RunTurned (g.B.Bench.did c.args.bench.now) z e s c.turn_kept-made.new.bench c.leave_call.new.kept c.leave_call.new.turn made) (sym c.requires.at)
+          (run-turned (g.B.Bench.did c.args.bench.now) c.turn_kept-made.new.bench _ e s c.begin_where_none.new.kept c.turn_kept-made.new.kept c.leave_call.new.kept c.leave_call.new.turn c.turn_kept-made.result made k c.turn_kept-made.ensures.turned c.leave_call.ensures.turn
           c.leave_call.ensures.act refl c.leave_call.ensures.kept),
     )

@@ -11,8 +11,8 @@ use Rattle.leaf_dispatch.proofs.Keeping.{can-turn-at, run-turned}
 use Rattle.leaf_dispatch.proofs.Making.{step-made}
 use Rattle.leaf_dispatch.proofs.running.turn_step_run.Goals as goal
 
-pub turn_kept-step_turn-requires : goal.turn_kept-step_turn-requires
-turn_kept-step_turn-requires g c =
+pub turn_kept-step_made-requires : goal.turn_kept-step_made-requires
+turn_kept-step_made-requires g c =
     can-turn-at _ _ (step_ends c.args.tdr c.args.line (step_seen c.args.step)) (running (step_task (given_in c.args.given) c.args.place c.args.tdr c.args.vp c.args.line (step_seen c.args.step)) (run_seen c.args.kept.now)) c.begin_step_where_none.new.kept c.requires.at c.begin_step_where_none.ensures
 
 pub returns-clause-turned : goal.returns-clause-turned
@@ -20,7 +20,7 @@ returns-clause-turned g c =
     let e : Ends = step_ends c.args.tdr c.args.line (step_seen c.args.step) in
     let s : Standing = running (step_task (given_in c.args.given) c.args.place c.args.tdr c.args.vp c.args.line (step_seen c.args.step)) (run_seen c.args.kept.now) in
     let k = subst (λ (z : Machine). IsKept z e s c.begin_step_where_none.new.kept) c.requires.at c.begin_step_where_none.ensures in
-    let none = step-made (g.B.Bench.did c.args.bench.now) c.turn_kept-step_turn.new.bench _ e s c.begin_step_where_none.new.kept c.turn_kept-step_turn.new.kept c.turn_kept-step_turn.result refl k c.turn_kept-step_turn.ensures.turned in
-    subst (λ (z : Machine). RunTurned (g.B.Bench.did c.args.bench.now) z e s c.turn_kept-step_turn.new.bench c.leave_step.new.kept c.leave_step.result []) (sym c.requires.at)
-    (run-turned (g.B.Bench.did c.args.bench.now) c.turn_kept-step_turn.new.bench _ e s c.begin_step_where_none.new.kept c.turn_kept-step_turn.new.kept c.leave_step.new.kept c.leave_step.result c.turn_kept-step_turn.result [] k c.turn_kept-step_turn.ensures.turned c.leave_step.ensures.turn
+    let none = step-made (g.B.Bench.did c.args.bench.now) c.turn_kept-step_made.new.bench _ e s c.begin_step_where_none.new.kept c.turn_kept-step_made.new.kept c.turn_kept-step_made.result refl k c.turn_kept-step_made.ensures.turned in
+    subst (λ (z : Machine). RunTurned (g.B.Bench.did c.args.bench.now) z e s c.turn_kept-step_made.new.bench c.leave_step.new.kept c.leave_step.new.turn []) (sym c.requires.at)
+    (run-turned (g.B.Bench.did c.args.bench.now) c.turn_kept-step_made.new.bench _ e s c.begin_step_where_none.new.kept c.turn_kept-step_made.new.kept c.leave_step.new.kept c.leave_step.new.turn c.turn_kept-step_made.result [] k c.turn_kept-step_made.ensures.turned c.leave_step.ensures.turn
     c.leave_step.ensures.act none c.leave_step.ensures.kept)

@@ -14,4 +14,4 @@ pub returns-clause-turned : goal.returns-clause-turned
 returns-clause-turned g c =
     let s = step_seen c.args.step in
     other-turned standing_of IsIn (g.B.Bench.did c.args.bench.now) c.args.place.machine (step_ends c.args.tdr c.args.line s) (step_task (given_in c.args.given) c.args.place c.args.tdr c.args.vp c.args.line s) c.args.kept.now.shared c.args.kept.now.other c.turn_step_run.new.kept
-    c.turn_step_run.new.bench c.turn_step_run.result [] c.requires.alone c.turn_step_run.ensures.turned
+    c.turn_step_run.new.bench c.turn_step_run.new.turn [] c.requires.alone c.turn_step_run.ensures.turned

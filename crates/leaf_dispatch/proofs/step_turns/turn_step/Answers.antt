@@ -14,5 +14,5 @@ pub returns-in-Some-clause-turned : goal.returns-in-Some-clause-turned
 returns-in-Some-clause-turned g c =
     let s = step_seen c.args.step in
     let k = c.args.kept.now in
-    short-on standing_of IsIn (g.B.Bench.did c.args.bench.now) c.args.place.machine _ (step_ends c.args.tdr c.args.line s) (step_task (given_in c.args.given) c.args.place c.args.tdr c.args.vp c.args.line s) k.shared k.other c.turn_shared.new.bench c.turn_shared.new.kept c.turn_shared.result
+    short-on standing_of IsIn (g.B.Bench.did c.args.bench.now) c.args.place.machine _ (step_ends c.args.tdr c.args.line s) (step_task (given_in c.args.given) c.args.place c.args.tdr c.args.vp c.args.line s) k.shared k.other c.turn_shared.new.bench c.turn_shared.new.kept c.turn_shared.new.turn
     c.requires.at c.requires.under_way c.turn_shared.ensures.turned

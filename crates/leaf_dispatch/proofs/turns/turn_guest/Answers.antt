@@ -10,34 +10,28 @@ use Rattle.leaf_dispatch.proofs.ShortRuns.{none-is}
 use Rattle.leaf_dispatch.proofs.Replying.{act-fits, reply-fits, first-trying}
 use Rattle.leaf_dispatch.proofs.turns.turn_guest.Goals as goal
 
-pub turn_step-turn-requires-clause-under_way : goal.turn_step-turn-requires-clause-under_way
-turn_step-turn-requires-clause-under_way g c = subst (λ (s : Step). IsStepRunOf c.args.place.machine (step_ends c.args.guest.now.tdr c.args.line s) c.args.kept.now) (sym (c.next_step-step.ensures.step None)) c.requires.under_way
+pub turn_step-requires-clause-under_way : goal.turn_step-requires-clause-under_way
+turn_step-requires-clause-under_way g c = subst (λ (s : Step). IsStepRunOf c.args.place.machine (step_ends c.args.guest.now.tdr c.args.line s) c.args.kept.now) (sym (c.next_step-step.ensures.step None)) c.requires.under_way
 
 pub cache_by-requires : goal.cache_by-requires
 cache_by-requires g c =
     let s = step_seen c.next_step-step.result in
-    act-fits (g.B.Bench.did c.args.bench.now) c.turn_step-turn.new.bench c.args.place.machine c.turn_step-turn.result [] (step_ends c.args.guest.now.tdr c.args.line s)
-    (running (step_task (given_in c.args.given) c.args.place c.args.guest.now.tdr c.args.guest.now.vp c.args.line s) (step_run_seen c.args.kept.now)) c.turn_step-turn.ensures.turned c.turn_step-turn.result.act refl
+    act-fits (g.B.Bench.did c.args.bench.now) c.turn_step.new.bench c.args.place.machine c.turn_step.new.turn [] (step_ends c.args.guest.now.tdr c.args.line s)
+    (running (step_task (given_in c.args.given) c.args.place c.args.guest.now.tdr c.args.guest.now.vp c.args.line s) (step_run_seen c.args.kept.now)) c.turn_step.ensures.turned c.turn_step.new.turn.act refl
 
-pub guest_then-requires-clause-fits : goal.guest_then-requires-clause-fits
-guest_then-requires-clause-fits g c =
+pub guest_then-left-requires-clause-fits : goal.guest_then-left-requires-clause-fits
+guest_then-left-requires-clause-fits g c =
     let s = step_seen c.next_step-step.result in
-    reply-fits (g.B.Bench.did c.args.bench.now) c.turn_step-turn.new.bench c.args.place.machine c.turn_step-turn.result [] c.args.guest.now.tdr c.args.line s
-    (running (step_task (given_in c.args.given) c.args.place c.args.guest.now.tdr c.args.guest.now.vp c.args.line s) (step_run_seen c.args.kept.now)) c.turn_step-turn.ensures.turned
-    (first-trying (given_in c.args.given) c.args.place c.args.guest.now.tdr c.args.guest.now.vp c.args.line s (step_run_seen c.args.kept.now) (λ z. none-is (step_run_seen c.args.kept.now) (c.requires.alone (sym (ap step_tries (c.next_step-step.ensures.step None)) ∙ z)))) c.turn_step-turn.result.reply refl
+    reply-fits (g.B.Bench.did c.args.bench.now) c.turn_step.new.bench c.args.place.machine c.turn_step.new.turn [] c.args.guest.now.tdr c.args.line s
+    (running (step_task (given_in c.args.given) c.args.place c.args.guest.now.tdr c.args.guest.now.vp c.args.line s) (step_run_seen c.args.kept.now)) c.turn_step.ensures.turned
+    (first-trying (given_in c.args.given) c.args.place c.args.guest.now.tdr c.args.guest.now.vp c.args.line s (step_run_seen c.args.kept.now) (λ z. none-is (step_run_seen c.args.kept.now) (c.requires.alone (sym (ap step_tries (c.next_step-step.ensures.step None)) ∙ z)))) c.turn_step.new.turn.reply refl
 
 pub returns-clause-fits : goal.returns-clause-fits
 returns-clause-fits g c =
     let s = step_seen c.next_step-step.result in
-    reply-fits (g.B.Bench.did c.args.bench.now) c.turn_step-turn.new.bench c.args.place.machine c.turn_step-turn.result [] c.args.guest.now.tdr c.args.line s
-    (running (step_task (given_in c.args.given) c.args.place c.args.guest.now.tdr c.args.guest.now.vp c.args.line s) (step_run_seen c.args.kept.now)) c.turn_step-turn.ensures.turned
-    (first-trying (given_in c.args.given) c.args.place c.args.guest.now.tdr c.args.guest.now.vp c.args.line s (step_run_seen c.args.kept.now) (λ z. none-is (step_run_seen c.args.kept.now) (c.requires.alone (sym (ap step_tries (c.next_step-step.ensures.step None)) ∙ z)))) c.turn_step-turn.result.reply refl
+    reply-fits (g.B.Bench.did c.args.bench.now) c.turn_step.new.bench c.args.place.machine c.turn_step.new.turn [] c.args.guest.now.tdr c.args.line s
+    (running (step_task (given_in c.args.given) c.args.place c.args.guest.now.tdr c.args.guest.now.vp c.args.line s) (step_run_seen c.args.kept.now)) c.turn_step.ensures.turned
+    (first-trying (given_in c.args.given) c.args.place c.args.guest.now.tdr c.args.guest.now.vp c.args.line s (step_run_seen c.args.kept.now) (λ z. none-is (step_run_seen c.args.kept.now) (c.requires.alone (sym (ap step_tries (c.next_step-step.ensures.step None)) ∙ z)))) c.turn_step.new.turn.reply refl
 
 pub returns-clause-cached : goal.returns-clause-cached
 returns-clause-cached g c = c.cache_by.ensures c.args.line
-
-pub returns-clause-notes : goal.returns-clause-notes
-returns-clause-notes g c = c.noted_by.ensures c.args.guest.now.tdr
-
-pub returns-clause-words : goal.returns-clause-words
-returns-clause-words g c = c.told_by.ensures c.args.guest.now.tdr c.args.line

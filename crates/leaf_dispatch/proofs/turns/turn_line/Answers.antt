@@ -9,10 +9,10 @@ use Rattle.leaf_dispatch.proofs.turns.turn_line.Goals as goal
 
 pub drop_by-requires : goal.drop_by-requires
 drop_by-requires g c =
-    act-fits (g.B.Bench.did c.args.bench.now) c.turn_call-turn.new.bench c.args.place.machine c.turn_call-turn.result c.turn_call-turn.ensures.turned.0 (call_ends c.args.place.machine c.args.call.now)
-    (running (task_of (given_in c.args.given) c.args.place c.args.call.now) (call_run_seen c.args.kept.now)) c.turn_call-turn.ensures.turned.2 c.turn_call-turn.result.act refl
+    act-fits (g.B.Bench.did c.args.bench.now) c.turn_call.new.bench c.args.place.machine c.turn_call.new.turn c.turn_call.ensures.turned.0 (call_ends c.args.place.machine c.args.call.now)
+    (running (task_of (given_in c.args.given) c.args.place c.args.call.now) (call_run_seen c.args.kept.now)) c.turn_call.ensures.turned.2 c.turn_call.new.turn.act refl
 
 pub enter_by-requires-clause-fits : goal.enter_by-requires-clause-fits
 enter_by-requires-clause-fits g c =
-    act-fits (g.B.Bench.did c.args.bench.now) c.turn_call-turn.new.bench c.args.place.machine c.turn_call-turn.result c.turn_call-turn.ensures.turned.0 (call_ends c.args.place.machine c.args.call.now)
-    (running (task_of (given_in c.args.given) c.args.place c.args.call.now) (call_run_seen c.args.kept.now)) c.turn_call-turn.ensures.turned.2 c.turn_call-turn.result.act refl
+    act-fits (g.B.Bench.did c.args.bench.now) c.turn_call.new.bench c.args.place.machine c.turn_call.new.turn c.turn_call.ensures.turned.0 (call_ends c.args.place.machine c.args.call.now)
+    (running (task_of (given_in c.args.given) c.args.place c.args.call.now) (call_run_seen c.args.kept.now)) c.turn_call.ensures.turned.2 c.turn_call.new.turn.act refl
