@@ -1,5 +1,5 @@
 -- Commands: what the words of a command line ask for, as the library `clap` reads them.
-use Rattle.std.specs.Prelude.{ℕ, ◌≤◌, nat_le, List, [], ◌∷◌, slice_index_or, Option, Some, None, option_map, option_and_then, true, ◌==◌, ◌&&◌, if◌then◌else◌, codes}
+use Rattle.std.specs.Prelude.{ℕ, ◌≤◌, nat_le, List, [], ◌∷◌, slice_index_or, Option, Some, None, option_map, option_and_then, Bool, true, false, ◌==◌, ◌&&◌, ◌||◌, if◌then◌else◌, codes}
 use Rattle.std.specs.Str.{bytes_eq}
 use Rattle.clap.specs.Words.{App, Kinds, Row, Rule, fault_of, first_of, matches_of, new_rule}
 use Rattle.clap.specs.Simple.{new_shape}
@@ -154,6 +154,15 @@ asked_behind word rest =
     else if bytes_eq word (codes "check") then check_in rest
     else if bytes_eq word (codes "soak") then soak_in rest
     else None
+
+-- a word that is a command
+abbrev pub is_command : List ℕ → Bool
+is_command word = bytes_eq word (codes "replay") || bytes_eq word (codes "run") || bytes_eq word (codes "check") || bytes_eq word (codes "soak")
+
+-- the first word is one
+unfoldable pub begins_with_command : List (List ℕ) → Bool
+begins_with_command [] = false
+begins_with_command (word ∷ rest) = is_command word
 
 -- what these words ask for
 unfoldable pub asked_in : List (List ℕ) → Option AskedSeen

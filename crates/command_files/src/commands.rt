@@ -1,9 +1,9 @@
 //! Commands.
 
-ghost use Rattle.std.specs.Prelude.{◌≡◌, option_map, option_and_then, map, string_bytes, codes, IfOk, IfSome, ◌≤◌};
+ghost use Rattle.std.specs.Prelude.{◌≡◌, option_map, option_and_then, map, string_bytes, codes, IfOk, IfSome, OnErr, IsTrue, ◌≤◌};
 ghost use Rattle.std.specs.Str.{bytes_eq};
 ghost use Rattle.clap.specs.Words.{found_of, rows_of, first_of};
-ghost use Rattle.command_files.specs.Commands.{named_seen, asked_seen, named_in, pages_of, found_in, files_line, script_line, pages_line, asked_behind, asked_in, HasFewPages};
+ghost use Rattle.command_files.specs.Commands.{named_seen, asked_seen, named_in, pages_of, found_in, files_line, script_line, pages_line, asked_behind, asked_in, is_command, begins_with_command, HasFewPages};
 
 use crate::lines::{files_line, pages_line, read_line, script_line, value_of};
 use clap::ArgMatches;
@@ -126,6 +126,7 @@ fn asked_behind<'a>(
 ) -> Result<Option<Asked<'a>>, OutOfMemory>
     ensures read { IfOk result (λ a. option_map asked_seen a ≡ asked_behind word.now (map string_bytes rest.now)) }
     ensures few { IfOk result HasFewPages }
+    ensures memory { OnErr result (IsTrue (is_command word.now)) }
 {
     if is(word, "replay") {
         match read_named(alloc, rest)? {
@@ -152,13 +153,14 @@ fn asked_behind<'a>(
     }
 }
 
-/// What the words behind the program's name ask for.
+/// What the words behind the program's name ask for. Memory is taken for the line of a command alone.
 pub fn read_command<'a>(
     alloc: Global,
     words: &'a [String],
 ) -> Result<Option<Asked<'a>>, OutOfMemory>
     ensures read { IfOk result (λ a. option_map asked_seen a ≡ asked_in (map string_bytes words.now)) }
     ensures few { IfOk result HasFewPages }
+    ensures memory { OnErr result (IsTrue (begins_with_command (map string_bytes words.now))) }
 {
     if words.is_empty() {
         return Ok(None);

@@ -4,9 +4,9 @@
 //! is what the defined reading of the library `clap` makes of that command's line. `take_inputs` makes
 //! just the loads that are due and answers the first fault of what they handed out, or the bundles of
 //! the container, in the order of their slots, the keys and the secret words (`TakesInputs`); where keys
-//! are needed it has them (`HasKeys`). Only memory can keep either from its answer. Another command's
-//! line is made and read in the same way by `empty_line`, `with_word`, `with_option`, `read_line` and
-//! `value_of`.
+//! are needed it has them (`HasKeys`). Only memory can keep either from its answer, and `read_command`
+//! only where the first word is a command. Another command's line is made and read in the same way by
+//! `empty_line`, `with_word`, `with_option`, `read_line` and `value_of`.
 #![tactic(auto)]
 
 mod commands;

@@ -7,20 +7,20 @@ use td_words::OutOfMemory;
 /// How many words a page has.
 pub const WORDS: usize = 512;
 
-/// Words of a page, as far as they are told, and room for all of them.
+/// Words of a page, as far as they are told, and room for just all of them.
 #[derive(Drop)]
 pub struct PageWords {
     words: Vec<u64>,
 }
 
 impl Model for PageWords {
-    ghost use Rattle.std.specs.Prelude.{ℕ, List, ◌≤◌, vec_capacity};
+    ghost use Rattle.std.specs.Prelude.{◌≡◌, ℕ, List, vec_capacity};
 
     ghost Value = { List ℕ };
 
     ghost view = { λ p. p.words.items };
 
-    ghost invariant = { λ p. 512 ≤ vec_capacity p.words };
+    ghost invariant = { λ p. vec_capacity p.words ≡ 512 };
 }
 
 impl PageWords {
@@ -62,9 +62,7 @@ impl PageWords {
         requires { length self.old < 512 }
         ensures { self.new ≡ self.old ++ word ∷ [] }
     {
-        let Ok(()) = self.words.push(word) else {
-            unreachable!()
-        };
+        self.words.push_reserved(word);
     }
 
     /// These are told as well.
@@ -72,8 +70,8 @@ impl PageWords {
         requires { length self.old + length words.now ≤ 512 }
         ensures { self.new ≡ self.old ++ words.now }
     {
-        let Ok(()) = self.words.extend_from_slice(words) else {
-            unreachable!()
-        };
+        for word in words {
+            self.push(*word);
+        }
     }
 }
