@@ -10,7 +10,7 @@ OF_A_PROCESSOR = ("VP.ENTER", "VP.FLUSH")
 
 
 def row(processor, name, arguments):
-    """The row of a call: its arguments' rules, and then its line."""
+    """The row of a call: its arguments' rules at once, and then its line."""
     rows.check_arguments(processor.machine, name, ARGUMENTS[name], arguments)
     about = processor if name in OF_A_PROCESSOR else processor.machine
-    return (yield from ROWS[name](about, *arguments))
+    return ROWS[name](about, *arguments)

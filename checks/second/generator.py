@@ -47,8 +47,14 @@ DEEP = (
     "EXPORT.UNBLOCKW", "EXPORT.MEM",
 )
 
+# All calls, each as often as it is to come.
+NAMES = [name for name in CALLS for _ in range(1 if name in LEADING else 10 if name in DEEP else 3)]
+
 # Calls on a VCPU of a TD, which is their second argument.
 OF_A_VCPU = ("VP.INIT", "VP.ENTER", "VP.FLUSH", "EXPORT.STATE.VP", "IMPORT.STATE.VP")
+
+# Calls that make a bundle.
+MAKE_BUNDLES = {name for name, kinds in CALLS.items() if "output" in kinds}
 
 # The types of the bundle that a call takes, which is its input.
 TAKES = {
@@ -60,10 +66,48 @@ TOKENS = (EPOCH_TOKEN, START_TOKEN)
 # Calls that are refused twice in a row; what went before them makes them succeed again.
 IN_ROUNDS = ("MEM.SEPT.REMOVE", "MEM.PAGE.REMOVE", "MEM.RANGE.UNBLOCK")
 
+# How a number may stand in a line: decimal, hexadecimal, or with leading zeros.
+WRITTEN = ("{}", "{}", "{}", "{:#x}", "0x{:X}", "00{}")
+
 # How many VCPUs and private pages a TD may have: one in passing, and one whose VCPUs run beside one another.
 # Each processor caches 16 translations.
 FEW, CROWDED = ((0, 1, 2, 8), (1, 2, 2)), ((2, 2, 3, 8), (2, 2, 18))
 THREE, EIGHT = ((3,), (2,)), ((8,), (2,))
+
+
+class Chance(random.Random):
+    """Random draws, the same as those of random.Random, in fewer steps."""
+
+    def choice(self, some):
+        """One of some: that at a place below their count, which is drawn here and not by `below` since there are many."""
+        count = len(some)
+        bits = count.bit_length()
+        place = self.getrandbits(bits)
+        while place >= count > 0:
+            place = self.getrandbits(bits)
+        return some[place]
+
+    def below(self, end):
+        """A number below that end."""
+        bits = end.bit_length()
+        drawn = self.getrandbits(bits)
+        while drawn >= end > 0:
+            drawn = self.getrandbits(bits)
+        return drawn
+
+    def randrange(self, first, end=None):
+        """A number of range(first, end), or of range(first)."""
+        return self.below(first) if end is None else first + self.below(end - first)
+
+    def randint(self, first, last):
+        """A number from the first to the last."""
+        return first + self.below(last + 1 - first)
+
+    def shuffle(self, some):
+        """Brings some into any order."""
+        for place in range(len(some) - 1, 0, -1):
+            other = self.below(place + 1)
+            some[place], some[other] = some[other], some[place]
 
 
 class Life:
@@ -85,22 +129,19 @@ class Life:
         if len(self.tables) < 3:
             self.private = self.waiting = []
         self.first_waiting = max(0, len(self.private) - (chance.choice((0, 0, 1)) if self.waiting else 0))
+        count = max(len(self.private), self.first_waiting + len(self.waiting))
+        self.gpas = [self.gpa + place * PAGE_BYTES for place in range(count)]  # of its private pages
 
     def become(self, pages, like):
         """It has as many VCPUs, private pages and streams as that life, at the same addresses."""
         pages += self.vcpus + self.private + self.waiting + self.streams
         self.waiting, self.gpa = [], like.gpa
-        for name, others in (("vcpus", like.vcpus), ("private", like.gpas()), ("streams", like.streams)):
+        for name, others in (("vcpus", like.vcpus), ("private", like.gpas), ("streams", like.streams)):
             setattr(self, name, [pages.pop() for _ in others])
 
     def owned(self):
         """The pages of the TD, without its TDR."""
         return self.control + self.vcpus + self.tables + self.private + self.waiting + self.spare + self.streams
-
-    def gpas(self):
-        """The addresses of its private pages."""
-        count = max(len(self.private), self.first_waiting + len(self.waiting))
-        return [self.gpa + place * PAGE_BYTES for place in range(count)]
 
     def page_at(self, gpa):
         """The page that its life puts at that address."""
@@ -150,9 +191,9 @@ class Life:
 
     def page_round(self, chance):
         """A private page that is blocked, and unblocked or removed."""
-        if not self.gpas():
+        if not self.gpas:
             return []
-        gpa = chance.choice(self.gpas())
+        gpa = chance.choice(self.gpas)
         kept, gone = f"MEM.RANGE.UNBLOCK {self.td} {gpa} 0", f"MEM.PAGE.REMOVE {self.td} {gpa}"
         later = chance.choice(([kept], [kept], [gone], [gone, f"MEM.PAGE.AUG {self.td} {gpa} {self.page_at(gpa)}"]))
         return [f"MEM.RANGE.BLOCK {self.td} {gpa} 0", *self.tracking(chance), *later]
@@ -174,7 +215,7 @@ class Life:
 
     def live(self, chance):
         """What is done while an export begins: writes are blocked and allowed, pages are exported, and epochs begin."""
-        gpas = self.gpas() or [self.gpa]
+        gpas = self.gpas or [self.gpa]
         calls = [f"EXPORT.BLOCKW {self.td} {chance.choice(gpas)}"] * chance.choice((0, 1))
         for _ in range(chance.choice((1, 3, 5))):
             gpa = chance.choice(gpas)
@@ -192,7 +233,7 @@ class Life:
 
     def rest(self, chance):
         """The export of each private page, in an epoch in which none was exported, or not."""
-        return [self.token(0)] * chance.choice((0, 1, 1)) + [self.memory(chance, gpa) for gpa in self.gpas()]
+        return [self.token(0)] * chance.choice((0, 1, 1)) + [self.memory(chance, gpa) for gpa in self.gpas]
 
     def token(self, starts):
         """An epoch token, or the start token."""
@@ -220,8 +261,8 @@ class Life:
             paused = [call for call in paused if not late or not call.startswith("EXPORT.MEM")]
             return live, paused, [self.token(1), self.token(0), *self.rest(chance)] * late + [self.token(1)]
         names = (("MEM.RANGE.BLOCK", " 0"), ("MEM.RANGE.UNBLOCK", " 0"), ("MEM.PAGE.REMOVE", ""))
-        left = [f"{name} {self.td} {gpa}{level}" for gpa in self.gpas() or [self.gpa] for name, level in names]
-        restores = [f"EXPORT.RESTORE {self.td} {gpa}" for gpa in self.gpas()]
+        left = [f"{name} {self.td} {gpa}{level}" for gpa in self.gpas or [self.gpa] for name, level in names]
+        restores = [f"EXPORT.RESTORE {self.td} {gpa}" for gpa in self.gpas]
         again = [call for part in self.export(chance, chance.random() < 0.5) for call in part]
         others = left * chance.choice((0, 1, 1)) + [begins] * chance.choice((0, 0, 1)) + restores + again * chance.choice((0, 1))
         return live, paused, [self.token(1)] * chance.choice((0, 1)) + [f"EXPORT.ABORT {self.td}", *others]
@@ -283,11 +324,21 @@ class Life:
 
 def with_slots(chance, lines):
     """The lines with a slot of its own in the place of each word SLOT."""
-    count = sum("SLOT" in line.split() for line in lines)
+    count = sum("SLOT" in line for line in lines)
     named = {number(word) for word in slots_of(lines) if word != "SLOT"}
-    slots = iter(chance.sample([slot for slot in SLOTS if slot not in named], count))
-    return [line.replace("SLOT", chance.choice(("{}", "{:#x}", "0{}")).format(next(slots))) if "SLOT" in line.split() else line
+    slots = iter(chance.sample(free_slots(named), count))
+    return [line.replace("SLOT", chance.choice(("{}", "{:#x}", "0{}")).format(next(slots))) if "SLOT" in line else line
             for line in lines]
+
+
+def free_slots(named):
+    """The slots but those that are named, in their order."""
+    if not named:
+        return SLOTS
+    slots = list(SLOTS)
+    for slot in sorted((slot for slot in named if slot in SLOTS), reverse=True):
+        del slots[slot]
+    return slots
 
 
 def a_word(chance):
@@ -326,7 +377,6 @@ class Scene:
         while len(pages) > 10 and chance.random() < 0.5:
             self.lives.append(Life(chance, pages, chance.randint(1, self.hkids)))
         self.host = pages or [self.size - 1]
-        self.names = [name for name in CALLS for _ in range(1 if name in LEADING else 10 if name in DEEP else 3)]
         self.code = code_blocks(chance, self)
         if source is not None and chance.random() < 0.7:
             self.go_on(source)
@@ -423,14 +473,14 @@ class Scene:
             arguments[place] = chance.choice((*edges[kinds[place]] * 2, *far))
 
     def written(self, value):
-        """An argument as it stands in a line: decimal, hexadecimal, or with leading zeros."""
+        """An argument as it stands in a line."""
         if isinstance(value, str):
             return value
-        return self.chance.choice((f"{value}", f"{value}", f"{value}", f"{value:#x}", f"0x{value:X}", f"00{value}"))
+        return self.chance.choice(WRITTEN).format(value)
 
     def any_call(self):
         """A call of any name on any life."""
-        return self.call(self.chance.choice(self.names), self.chance.choice(self.lives), self.chance.random() < 0.2)
+        return self.call(self.chance.choice(NAMES), self.chance.choice(self.lives), self.chance.random() < 0.2)
 
 
 def among(chance, scene, calls, share):
@@ -491,7 +541,7 @@ def race(chance, scene, turn):
     for _ in range(20):
         if not answered:
             whole = led_to(chance, scene, life, name)
-            answered = places_of(scene, whole, name)
+            answered, before = places_of(scene, whole, name)
     at = chance.choice(answered[:1] if name == "EXPORT.MEM" and answered else answered or range(len(whole)))
     name = call_of(whole[at])
     pages = life.pages_of(whole[at])
@@ -516,7 +566,7 @@ def race(chance, scene, turn):
         calls = [chance.choice((whole[at], scene.call(name, life, False))) for _ in range(chance.randrange(4))]
         rivals = [rival(chance, life, chance.choice((main, main, main, *targets))) for _ in range(24)]
         blocks.append([first, *riffle(chance, calls, rivals)])
-    meeting = [(0, exact_events(scene, whole[:at])), (1, events), (0, 12)]
+    meeting = [(0, before[at] if before else exact_events(scene, whole[:at])), (1, events), (0, 12)]
     return blocks, meeting + bursts(chance, range(scene.lps), 150 * scene.lps)
 
 
@@ -554,29 +604,38 @@ def again_exported(chance, life, call):
 
 
 def places_of(scene, calls, name):
-    """The places where a call of that name succeeds."""
+    """The places where a call of that name succeeds, and how many events come before each call where there is one of that
+    name."""
     places = [place for place, call in enumerate(calls) if call_of(call) == name]
-    processor = alone(scene, calls)
-    while places and not processor.has_ended():
-        processor.event()
-    return [place for place in places if processor.replies[place][0].split()[0] in ("SUCCESS", "EXIT")]
+    if not places:
+        return [], []
+    replies, before = tried(scene, calls)
+    return [place for place in places if replies[place][0].split()[0] in ("SUCCESS", "EXIT")], before
 
 
 def alone(scene, calls):
     """Processor 0 with these calls, and no other."""
-    lines = [f"machine 1 {scene.size} {scene.hkids}", "lp 0", *with_slots(random.Random("slots"), calls), "end"]
-    script = read(text_of(lines + [line for block in scene.code for line in block]))
-    (processor,) = processors_of(script, Outside(script.code, scene.inputs, scene.keys))
+    machine = f"machine 1 {scene.size} {scene.hkids}"
+    script = read(text_of([machine, "lp 0", *with_slots(Chance("slots"), calls), "end"]))
+    enters = any(call.startswith("VP.ENTER") for call in calls)
+    code = read(text_of([machine, *joined(scene.code)])).code if enters else {}
+    (processor,) = processors_of(script, Outside(code, scene.inputs, scene.keys))
     return processor
+
+
+def tried(scene, calls):
+    """What these calls come to on processor 0 alone: their replies, and how many events come before each, and in all."""
+    processor, events, before = alone(scene, calls), 0, [0]
+    while processor.event():
+        events += 1
+        if processor.made == len(before):
+            before.append(events)
+    return processor.replies, before
 
 
 def exact_events(scene, calls):
     """How many events these calls take on processor 0 alone."""
-    processor, events = alone(scene, calls), 0
-    while not processor.has_ended():
-        processor.event()
-        events += 1
-    return events
+    return tried(scene, calls)[1][-1]
 
 
 def host_calls(chance, scene, life):
@@ -588,11 +647,11 @@ def host_calls(chance, scene, life):
         return life.page_round(chance)
     if kind == 3:
         return life.table_round(chance)
-    if kind == 4 and life.gpas():
-        gpa = chance.choice(life.gpas())
+    if kind == 4 and life.gpas:
+        gpa = chance.choice(life.gpas)
         return [f"MEM.PAGE.AUG {life.td} {gpa} {life.page_at(gpa)}", f"MEM.SEPT.RD {life.td} {gpa} 0"]
-    if kind == 5 and life.gpas():
-        return [f"HOST.READ {life.page_at(chance.choice(life.gpas()))} 0"]
+    if kind == 5 and life.gpas:
+        return [f"HOST.READ {life.page_at(chance.choice(life.gpas))} 0"]
     if kind == 6:
         page = scene.host[0]
         return [f"HOST.READ {page} {a_word(chance)}", f"HOST.WRITE {page} 0 {chance.randrange(100)}"]
@@ -880,7 +939,7 @@ class Source:
         calls = self.life.build(chance, self.scene.host[-1])
         if chance.random() < 0.3:
             calls += [*joined(self.life.export(chance, False)[:2]), f"EXPORT.ABORT {self.life.td}"]
-            calls += [f"EXPORT.RESTORE {self.life.td} {gpa}" for gpa in self.life.gpas()]
+            calls += [f"EXPORT.RESTORE {self.life.td} {gpa}" for gpa in self.life.gpas]
         return calls + joined(self.life.export(chance, True))
 
     def is_whole(self):
@@ -1053,10 +1112,10 @@ def ends_by_token(chance, scene, life, turn=0):
             if is_turned:
                 token = hostile.turned(chance, scene.keys, token, way % hostile.WAYS, chance.random() < 0.3)
                 way += 1
-            slot = chance.choice([slot for slot in SLOTS if slot not in scene.inputs])
+            slot = chance.choice(free_slots(scene.inputs))
             scene.inputs[slot] = token
             calls.append(f"EXPORT.ABORT {life.td} {slot}")
-    return [*calls, calls[-1], *(f"EXPORT.RESTORE {life.td} {gpa}" for gpa in life.gpas())]
+    return [*calls, calls[-1], *(f"EXPORT.RESTORE {life.td} {gpa}" for gpa in life.gpas)]
 
 
 def noise(chance, scene, _turn):
@@ -1088,34 +1147,48 @@ def schedule_lines(chance, turns):
 
 def text_of(lines):
     """The bytes of a script with these lines."""
-    return "".join(f"{line}\n" for line in lines).encode("latin-1")
+    return "\n".join([*lines, ""]).encode("latin-1")
+
+
+# What a guest operation may do, on memory that its TD has, and on other memory.
+ACCESSES = ("load", "store", "load shared", "store shared", "accept")
+KINDS_OF_OPERATIONS = ("set", "secret", "add", "rtmr", "vmcall", "load", *ACCESSES)
+BAD_KINDS = (*ACCESSES, "load shared", "store shared")
 
 
 def operation(chance, scene, life, own, bad):
     """A guest operation of the VCPU with that TDVPR page, on memory that the life's TD has, or has at times;
-    where it is bad, on other memory."""
-    place, register, other = 8 * chance.choice((0, 0, 1, 511)), chance.randrange(8), chance.randrange(8)
-    private = [gpa + place for gpa in life.gpas()] or [life.gpa + place]
-    shared = [GPA_END + scene.host[page] * PAGE_BYTES + place for page in (0, 0, 0, -1)]
+    where it is bad, on other memory. What operations of all kinds have is drawn, whichever it is."""
+    place, register, other = 8 * chance.choice((0, 0, 1, 511)), chance.below(8), chance.below(8)
     if bad:
-        private = [life.gpa + beside for beside in (PAGE_BYTES * 20, *LEVEL_BYTES[1:], 64)]
-        pages = [own, chance.choice(life.owned()), scene.size]
-        shared = [GPA_END + page * PAGE_BYTES + place for page in pages] + [2 * GPA_END - 8]
-    gpa = chance.choice(private) % GPA_END
-    kinds = ("load", "store", "load shared", "store shared", "accept")
-    kind = chance.choice((*kinds, *kinds[2:4]) if bad else ("set", "secret", "add", "rtmr", "vmcall", "load", *kinds))
+        owned = chance.choice(life.owned())
+        gpa = life.gpa + chance.choice((PAGE_BYTES * 20, *LEVEL_BYTES[1:], 64))
+    else:
+        gpa = chance.choice(life.gpas or [life.gpa]) + place
+    gpa %= GPA_END
+    kind = chance.choice(BAD_KINDS if bad else KINDS_OF_OPERATIONS)
     if kind == "accept" and not bad and life.waiting and chance.random() < 0.8:
         gpa = life.gpa + PAGE_BYTES * (life.first_waiting + chance.randrange(len(life.waiting)))
-    makes = {
-        "set": f"set {register} {scene.written(chance.choice((0, 1, chance.getrandbits(64))))}",
-        "secret": f"secret {register} {scene.written(chance.choice((0, 1, 511, chance.randrange(512))))}",
-        "add": f"add {register} {other}",
-        "accept": f"accept {scene.written(gpa - gpa % PAGE_BYTES)}",
-        "rtmr": f"rtmr {chance.randrange(4)}",
-        "vmcall": f"vmcall {register}",
-    }
-    where = chance.choice(shared) if kind.endswith(" shared") else gpa
-    return makes.get(kind, f"{kind.split()[0]} {register} {scene.written(where)}")
+    value, value_written = chance.choice((0, 1, chance.getrandbits(64))), chance.choice(WRITTEN)
+    secret, secret_written = chance.choice((0, 1, 511, chance.below(512))), chance.choice(WRITTEN)
+    page_written, rtmr = chance.choice(WRITTEN), chance.below(4)
+    if kind.endswith(" shared"):
+        pages = (own, owned, scene.size) if bad else [scene.host[page] for page in (0, 0, 0, -1)]
+        gpa = chance.choice([GPA_END + page * PAGE_BYTES + place for page in pages] + [2 * GPA_END - 8] * bad)
+    gpa_written = chance.choice(WRITTEN)
+    if kind == "set":
+        return f"set {register} {value_written.format(value)}"
+    if kind == "secret":
+        return f"secret {register} {secret_written.format(secret)}"
+    if kind == "add":
+        return f"add {register} {other}"
+    if kind == "accept":
+        return f"accept {page_written.format(gpa - gpa % PAGE_BYTES)}"
+    if kind == "rtmr":
+        return f"rtmr {rtmr}"
+    if kind == "vmcall":
+        return f"vmcall {register}"
+    return f"{kind.split()[0]} {register} {gpa_written.format(gpa)}"
 
 
 def list_of(chance, scene, life, index):
@@ -1123,9 +1196,9 @@ def list_of(chance, scene, life, index):
     ones."""
     begin = [f"secret {register} {chance.randrange(512)}" for register in range(8) if chance.random() < 0.3]
     if chance.random() < 0.7:
-        begin += [f"accept {gpa}" for gpa in life.gpas()[life.first_waiting :]]
+        begin += [f"accept {gpa}" for gpa in life.gpas[life.first_waiting :]]
     if chance.random() < (0.3 if len(life.private) < 16 else 0.9):
-        begin += [f"{chance.choice(('load', 'store'))} {chance.randrange(8)} {gpa}" for gpa in life.gpas() * 2]
+        begin += [f"{chance.choice(('load', 'store'))} {chance.randrange(8)} {gpa}" for gpa in life.gpas * 2]
     if chance.random() < 0.2:
         begin += [f"rtmr {chance.randrange(4)}"] * 20
     spoilt = chance.choice((0, 0.01, 0.05, 0.3))
@@ -1305,7 +1378,7 @@ def repeat_a_slot(chance, lines):
 
 def slots_of(lines):
     """The slots that these lines name."""
-    kinds = ((words[1:], CALLS.get(words[0], ())) for words in map(str.split, lines) if words)
+    kinds = ((words[1:], CALLS[words[0]]) for words in map(str.split, lines) if words and words[0] in MAKE_BUNDLES)
     return [word for words, its in kinds for word, kind in zip(words, its) if kind == "output"]
 
 
@@ -1416,7 +1489,7 @@ def with_keys(chance, scene, is_sure, words, files):
 
 def case(seed, place):
     """The case at that place: the words of command lines, and the files that are there by their names."""
-    chance = random.Random(f"{seed} {place}")
+    chance = Chance(f"{seed} {place}")
     round_, kind = divmod(place, KINDS_OF_A_ROUND)
     if kind == 0:
         given = [COMMANDS[(3 * round_ + place) % len(COMMANDS)].split() for place in range(3)]
@@ -1432,7 +1505,7 @@ def case(seed, place):
 def migration(seed, place):
     """The migration at that place: a script of its destination, or of its source to which a token comes back, and beside it
     the script of its source as far as its bundles."""
-    chance = random.Random(f"migration {seed} {place}")
+    chance = Chance(f"migration {seed} {place}")
     round_, kind = divmod(place, len(MIGRATIONS))
     script, scene = script_of(chance, round_, MIGRATIONS[kind])
     words, files = with_keys(chance, scene, True, *with_secrets(chance, ["replay", "script"], script))

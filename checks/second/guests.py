@@ -263,7 +263,7 @@ class Guest:
     def shared_access(self, register, gpa, writes, violation):
         """A load or a store at a shared GPA."""
         page = (gpa - GPA_END) // PAGE_BYTES
-        if page >= len(self.machine.pages) or page == self.vcpu_page:
+        if page not in self.machine.ranges["page"] or page == self.vcpu_page:
             self.how = "at its own TDVPR page" if page == self.vcpu_page else "at no page"
             self.processor.saw("act")
             yield

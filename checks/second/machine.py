@@ -6,7 +6,7 @@ try, raises Refused where a condition fails, and at its end answers the effect.
 """
 
 from collections import defaultdict
-from collections.abc import Iterator
+from types import GeneratorType
 
 EXCLUSIVELY = 1 << 63  # bit 63 of a lock word: somebody holds it alone
 SHARED = 1  # the low bits: sharers, and those who are being refused
@@ -98,10 +98,12 @@ class Machine:
     def __init__(self, processors, pages, hkids, outside=None):
         self.processors, self.outside = processors, outside or Outside()
         self.last_exported, self.last_imported = 0, 0
-        self.pages = [Page() for _ in range(pages)]
+        self.pages = defaultdict(Page)  # by number; one that isn't listed is the host's, and empty
+        self.ranges = {"page": range(pages), "hkid": range(1, hkids + 1)}
         self.hkids = {number: Hkid() for number in range(1, hkids + 1)}
         self.tds = {}  # by TDR page
         self.locks = defaultdict(int)
+        self.last = None  # the processor that made the last event
         self.told = []  # the words that guests told the host, in the order of events
         self.met = []  # what came of guests and beside them, for coverage.py
 
@@ -158,16 +160,18 @@ class Processor:
 
     def begin(self):
         """The next call has made no event."""
-        self.held, self.undo, self.replied, self.guest, self.inside = [], None, False, None, None
+        self.held, self.undo, self.replied, self.guest, self.inside, self.tries = [], None, False, None, None, None
 
     def has_ended(self):
         """Whether no line is left."""
         return self.made == len(self.calls)
 
     def event(self):
-        """Makes the next event; does nothing where no line is left."""
-        if self.has_ended():
-            return
+        """Makes the next event, and answers whether there was one; does nothing where no line is left."""
+        if self.made == len(self.calls):
+            return False
+        if self.machine.last is not self:
+            self.machine.last, self.tries = self, None
         if self.guest is not None:
             next(self.guest)
         elif not self.replied:
@@ -180,22 +184,29 @@ class Processor:
         if self.replied and not self.held and self.undo is None:
             self.made += 1
             self.begin()
+        return True
+
+    def begin_row(self):
+        """Goes through the call's row from its beginning, over the tries already granted."""
+        self.tries = self.row(self, *self.calls[self.made])
+        for _ in self.held:
+            next(self.tries)
 
     def go_on(self):
-        """The event that the call's row gives next: a try, or the act. The act of VP.ENTER answers the
-        events of the guest."""
-        tries = self.row(self, *self.calls[self.made])
+        """The event that the call's row gives next: a try, or the act. The row begins anew, unless no other processor
+        has made an event since its last one, so that all is as it was. The act of VP.ENTER answers the events of the
+        guest."""
         try:
-            for _ in self.held:
-                next(tries)
-            self.attempt(*next(tries))
+            if self.tries is None:
+                self.begin_row()
+            self.attempt(*next(self.tries))
         except Refused as refusal:
             self.saw("act")
             self.reply(str(refusal))
         except StopIteration as end:
             value = end.value()
             self.saw("act")
-            if isinstance(value, Iterator):
+            if isinstance(value, GeneratorType):
                 self.guest = value
             else:
                 self.reply("SUCCESS" if value is None else f"SUCCESS {value}")
@@ -239,7 +250,8 @@ class Processor:
 def run(processors, schedule):
     """Runs processors by a schedule, and then each to its end, in the order of their numbers."""
     for number in schedule:
-        processors[number].event()
+        if not processors[number].event() and all(processor.has_ended() for processor in processors):
+            break
     for processor in processors:
-        while not processor.has_ended():
-            processor.event()
+        while processor.event():
+            pass

@@ -54,11 +54,8 @@ ARGUMENTS = {
 
 def is_in_range(machine, kind, value):
     """Whether an argument of that kind has its own range."""
-    if kind == "hkid":
-        return value in machine.hkids
-    if kind == "page":
-        return value < len(machine.pages)
-    return kind not in RANGES or value in RANGES[kind]
+    its = machine.ranges.get(kind) or RANGES.get(kind)
+    return its is None or value in its
 
 
 def alignment(name, kinds, arguments):
@@ -72,8 +69,9 @@ def alignment(name, kinds, arguments):
 def check_arguments(machine, name, kinds, arguments):
     """Refuses the first argument that breaks a rule, in three steps."""
     for place, (kind, value) in enumerate(zip(kinds, arguments), 1):
-        need(is_in_range(machine, kind, value), f"OPERAND_INVALID {place}")
-    if name != "PHYMEM.PAGE.RECLAIM":
+        if not is_in_range(machine, kind, value):
+            raise Refused(f"OPERAND_INVALID {place}")
+    if kinds.count("page") > 1 and name != "PHYMEM.PAGE.RECLAIM":
         earlier = set()
         for place, (kind, value) in enumerate(zip(kinds, arguments), 1):
             if kind == "page":

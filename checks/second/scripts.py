@@ -11,11 +11,13 @@ NUMBER_END = 1 << 64
 CALLS_OF_A_PROCESSOR = 4096
 OPERATIONS_OF_A_LIST = 256
 ITEMS = 1 << 20
+KEPT = 1 << 12  # so many words and lines that were read are kept, since most of them come again
 
 OUTSIDE = ("schedule", "lp", "code")
+KEYWORDS = ("machine", "end", *OUTSIDE)
 # EXPORT.ABORT with a slot, which is a call of its own: the words of that mnemonic.
 BY_TOKEN = "EXPORT.ABORT by its token"
-PRINTABLE = re.compile(rb"[ -~]*")
+PRINTABLE = re.compile(rb"[ -~\n]*")
 DECIMAL, HEXADECIMAL = re.compile("[0-9]+"), re.compile("0x[0-9a-fA-F]+")
 # Each call with its arguments. Of EXPORT.ABORT that is the form without a slot.
 CALLS = ARGUMENTS | {"EXPORT.ABORT": ("page",), BY_TOKEN: ("page", "input")}
@@ -32,7 +34,6 @@ OPERATIONS = {
     "vmcall": (REGISTER,),
 }
 SLOTS = range(4096)
-SEALING = ("input", "output")
 
 REASONS = (
     "LENGTH", "UNTERMINATED", "BYTE", "MACHINE", "PLACE", "WORD", "COUNT", "NUMBER", "NAME", "RANGE", "REPEATED",
@@ -61,6 +62,7 @@ def need(holds, reason):
         raise Bad(reason)
 
 
+@functools.lru_cache(KEPT)
 def number(word):
     """The number that a word is, or None."""
     if DECIMAL.fullmatch(word):
@@ -78,9 +80,50 @@ def number(word):
 
 def numbers(words):
     """The numbers that these words are."""
-    values = [number(word) for word in words]
+    values = tuple(map(number, words))
     need(None not in values, "NUMBER")
     return values
+
+
+@functools.lru_cache(KEPT)
+def turn_of(item):
+    """The processor that an item of a schedule names, and its times."""
+    parts = item.split("*")
+    need(len(parts) <= 2, "NUMBER")
+    return (*numbers(parts), 1)[:2]
+
+
+@functools.lru_cache(KEPT)
+def call_in(line):
+    """The call that a line is, its output slots, and whether it seals or opens a bundle."""
+    name, *rest = line.split()
+    need(name in ARGUMENTS, "WORD")
+    kinds = ARGUMENTS[name]
+    need(len(rest) == len(kinds) or (name == "EXPORT.ABORT" and len(rest) == 1), "COUNT")
+    if "field" in kinds:
+        (page,), field = numbers(rest[:1]), rest[1]
+        need(field in FIELDS, "NAME")
+        return (name, (page, field)), (), False
+    arguments = numbers(rest)
+    outputs = ()
+    if "output" in kinds:
+        outputs = (arguments[kinds.index("output")],)
+        need(outputs[0] in SLOTS, "RANGE")
+    return (name, arguments), outputs, "output" in kinds or "input" in kinds[: len(rest)]
+
+
+@functools.lru_cache(KEPT)
+def operation_in(line):
+    """The guest operation that a line is."""
+    name, *rest = line.split()
+    need(name in OPERATIONS, "WORD")
+    ranges = OPERATIONS[name]
+    need(len(rest) == len(ranges), "COUNT")
+    operands = numbers(rest)
+    for value, allowed in zip(operands, ranges):
+        if value not in allowed:
+            raise Bad("RANGE")
+    return (name, *operands)
 
 
 class Script:
@@ -95,24 +138,25 @@ class Script:
         self.seals = False  # whether a call seals or opens a bundle
         self.block = None  # the list into which lines go, and what reads them
 
-    def line(self, words):
-        """Reads a line that isn't skipped."""
-        first, rest = words[0], words[1:]
+    def line(self, first, line):
+        """Reads a line that isn't skipped, with that first word."""
+        if self.block is not None and first not in KEYWORDS:
+            place, reads = self.block
+            reads(place, line)
+            return
+        rest = line.split()[1:]
         need((self.machine is None) == (first == "machine"), "MACHINE")
         if first == "end":
             need(self.block is not None, "PLACE")
             need(not rest, "COUNT")
             self.block = None
-        elif self.block is None:
-            self.outside(first, rest)
         else:
-            need(first not in OUTSIDE, "PLACE")
-            place, reads = self.block
-            reads(place, first, rest)
+            need(self.block is None, "PLACE")
+            self.outside(first, rest)
 
     def outside(self, first, rest):
         """Reads a line that stands outside blocks."""
-        need(first in OUTSIDE or first == "machine", "WORD")
+        need(first in KEYWORDS, "WORD")
         {"machine": self.size, "schedule": self.items, "lp": self.begin_calls, "code": self.begin_code}[first](rest)
 
     def size(self, rest):
@@ -126,9 +170,7 @@ class Script:
     def items(self, rest):
         """Reads what follows `schedule`."""
         need(rest, "COUNT")
-        parts = [item.split("*") for item in rest]
-        need(all(len(part) <= 2 for part in parts), "NUMBER")
-        turns = [(values + [1])[:2] for values in map(numbers, parts)]
+        turns = [turn_of(item) for item in rest]
         need(all(lp < self.machine[0] and 1 <= times <= ITEMS for lp, times in turns), "RANGE")
         need(len(self.schedule) + sum(times for _, times in turns) <= ITEMS, "FULL")
         for lp, times in turns:
@@ -152,31 +194,21 @@ class Script:
         self.code[td_page, index] = []
         self.block = self.code[td_page, index], self.operation
 
-    def call(self, calls, name, rest):
+    def call(self, calls, line):
         """Reads a call line."""
-        need(name in ARGUMENTS, "WORD")
-        kinds = ARGUMENTS[name]
-        need(len(rest) == len(kinds) or (name == "EXPORT.ABORT" and len(rest) == 1), "COUNT")
-        given = iter(numbers([word for kind, word in zip(kinds, rest) if kind != "field"]))
-        arguments = [word if kind == "field" else next(given) for kind, word in zip(kinds, rest)]
-        need(all(kind != "field" or word in FIELDS for kind, word in zip(kinds, rest)), "NAME")
-        outputs = [value for kind, value in zip(kinds, arguments) if kind == "output"]
-        need(all(slot in SLOTS for slot in outputs), "RANGE")
+        call, outputs, seals = call_in(line)
         need(len(calls) < CALLS_OF_A_PROCESSOR, "FULL")
-        need(self.slots.isdisjoint(outputs), "SLOT")
-        self.slots.update(outputs)
-        self.seals = self.seals or any(kind in SEALING for kind in kinds[: len(rest)])
-        calls.append((name, arguments))
+        for slot in outputs:
+            need(slot not in self.slots, "SLOT")
+            self.slots.add(slot)
+        self.seals = self.seals or seals
+        calls.append(call)
 
-    def operation(self, code, name, rest):
+    def operation(self, code, line):
         """Reads a guest operation."""
-        need(name in OPERATIONS, "WORD")
-        ranges = OPERATIONS[name]
-        need(len(rest) == len(ranges), "COUNT")
-        operands = numbers(rest)
-        need(all(value in allowed for value, allowed in zip(operands, ranges)), "RANGE")
+        operation = operation_in(line)
         need(len(code) < OPERATIONS_OF_A_LIST, "FULL")
-        code.append((name, *operands))
+        code.append(operation)
 
 
 def call_of(line):
@@ -190,16 +222,18 @@ def read(text):
     """The script that these bytes are, which nobody changes; raises its Fault."""
     if len(text) > SCRIPT_END:
         raise Fault(0, "LENGTH")
-    *lines, cut = text.split(b"\n")
+    *lines, cut = text.decode("latin-1").split("\n")
+    printable = text.count(b"\n", 0, PRINTABLE.match(text).end())  # so many lines are
     script = Script()
-    for place, line in enumerate(lines, 1):
+    for place, line in enumerate(lines[:printable], 1):
         try:
-            need(PRINTABLE.fullmatch(line), "BYTE")
-            words = line.decode().split()
-            if words and not words[0].startswith("#"):
-                script.line(words)
+            words = line.split(None, 1)
+            if words and words[0][0] != "#":
+                script.line(words[0], line)
         except Bad as bad:
             raise Fault(place, str(bad)) from None
+    if printable < len(lines):
+        raise Fault(printable + 1, "BYTE")
     after = len(lines) + 1
     if cut:
         raise Fault(after, "UNTERMINATED")

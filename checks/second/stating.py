@@ -67,7 +67,7 @@ def processor_lines(processor):
 def state_text(processors):
     """All pages, and then all processors."""
     machine = processors[0].machine
-    lines = [line for number in range(len(machine.pages)) for line in page_lines(machine, number)]
+    lines = [line for number in machine.ranges["page"] for line in page_lines(machine, number)]
     lines += [line for processor in processors for line in processor_lines(processor)]
     return "".join(f"{line}\n" for line in lines)
 
