@@ -6,12 +6,16 @@ ghost use Rattle.report_text.specs.Lines.{reply_lines, reply_line};
 
 use std::alloc::{AllocError, Global};
 use std::fmt::Write;
-use td_words::{OutOfMemory, Reply};
+use td_words::{OutOfMemory, Reply, Value};
 
 fn push_line(text: &mut String, lp: u8, number: u64, reply: &Reply) -> Result<(), AllocError>
     ensures { OnOk result (string_bytes text.new ≡ string_bytes text.old ++ reply_line lp number reply.now) }
 {
-    write!(text, "{lp}.{number} {reply}\n")
+    match reply {
+        Reply::Done(Value::Nothing) => write!(text, "{lp}.{number} SUCCESS\n"),
+        Reply::Done(Value::Number(seen)) => write!(text, "{lp}.{number} SUCCESS {seen}\n"),
+        _ => write!(text, "{lp}.{number} {reply}\n"),
+    }
 }
 
 /// The reply lines of a logical processor, numbered from 1.

@@ -11,3 +11,4 @@ pub mod Ordered
 pub mod Short
 pub mod Names
 pub mod Eights
+pub mod CallLines

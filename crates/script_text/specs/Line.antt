@@ -138,6 +138,11 @@ unfoldable pub call_of : ℕ → Option Mnemonic → List (Option ℕ) → Resul
 call_of lp None ns = Err reason.Word
 call_of lp (Some m) ns = judged_of (named_entry lp m.call ns) m ns
 
+-- what words say in a processor's block of which the first is a call's mnemonic
+abbrev pub call_in : ℕ → List (List ℕ) → Result Entry Reason
+call_in lp [] = Err reason.Word
+call_in lp (w ∷ ws) = call_of lp (mnemonic_in mnemonics w) (map number ws)
+
 -- the first line that isn't skipped
 abbrev pub first_of : Option Keyword → List (Option ℕ) → Result Entry Reason
 first_of (Some keyword.Machine) ns = machine_of ns

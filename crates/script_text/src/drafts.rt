@@ -1,12 +1,13 @@
 //! What the lines so far say.
 
-ghost use Rattle.std.specs.Prelude.{◌≡◌, map, replicate, [], ◌∷◌, slice_set, true, false, ◌&&◌, is_some, Ok, IfOk};
-ghost use Rattle.line_words.specs.Words.{words, is_printable, is_comment};
+ghost use Rattle.std.specs.Prelude.{◌≡◌, map, replicate, [], ◌∷◌, slice_set, true, false, ◌&&◌, is_some, Some, Ok, IfOk, MatchOption};
+ghost use Rattle.line_words.specs.Words.{words, is_printable, is_comment, is_skipped};
 ghost use Rattle.script_text.specs.Counted.{IsAnsweredAt};
 ghost use Rattle.script_text.specs.Blocks.{with_slot};
 ghost use Rattle.script_text.specs.Line.{is_list};
 ghost use Rattle.script_text.specs.Reading.{draft_seen, with_call, called_of, with_op, closed_of, entered_of, worded_of, line_of};
 
+use crate::accesses::short_access;
 use crate::code_blocks::{CodePlace, list_place};
 use crate::faults::{Reason, Taken, bad};
 use crate::fields::field_in;
@@ -168,6 +169,35 @@ fn take_words(draft: &mut Draft, alloc: Global, number: u64, word: &[u8], text: 
     }
 }
 
+// The processor whose block is open, behind a machine.
+fn open_processor(stage: &Stage) -> Option<u8>
+    ensures { MatchOption result Unit (λ lp. (is_some stage.now.machine ≡ true) × (stage.now.block ≡ Some (Block.Lp lp))) }
+{
+    match stage.block {
+        Some(Block::Lp(lp)) if stage.machine.is_some() => Some(lp),
+        _ => None,
+    }
+}
+
+// A line that isn't skipped and is no short operation. It isn't inlined, so that operations and comments
+// don't pay for what it keeps.
+#[inline(never)]
+#[tactic(auto, unfolding(crate::specs::Reading::worded_of))]
+fn take_other(draft: &mut Draft, alloc: Global, number: u64, text: &[u8]) -> Taken
+    requires { is_skipped (words text.now) ≡ false }
+    ensures { IsAnsweredAt number (worded_of (draft_seen draft.old) (words text.now)) (draft_seen draft.new) result }
+{
+    if let Some(lp) = open_processor(&draft.stage) {
+        if let Some(call) = short_access(text) {
+            return take_call(draft, number, lp, call);
+        }
+    }
+    match next_word(text) {
+        None => Ok(()),
+        Some((word, rest)) => take_words(draft, alloc, number, word, rest),
+    }
+}
+
 // A line without the spaces before its first word.
 #[tactic(auto, unfolding(crate::specs::Reading::worded_of))]
 fn take_text(draft: &mut Draft, alloc: Global, number: u64, text: &[u8]) -> Taken
@@ -181,10 +211,7 @@ fn take_text(draft: &mut Draft, alloc: Global, number: u64, text: &[u8]) -> Take
     if is_skipped(text) {
         return Ok(());
     }
-    match next_word(text) {
-        None => Ok(()),
-        Some((word, rest)) => take_words(draft, alloc, number, word, rest),
-    }
+    take_other(draft, alloc, number, text)
 }
 
 /// Takes in one line. After a fault the draft isn't read again.

@@ -10,6 +10,7 @@
 //! or opens bundles.
 #![tactic(auto)]
 
+mod accesses;
 mod code_blocks;
 mod drafts;
 mod faults;

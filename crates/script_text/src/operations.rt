@@ -197,8 +197,8 @@ fn operand_numbers(op: OpName, text: &[u8]) -> Option<(u64, u64)>
     }
 }
 
-// The one number that a text's words are. None tells nothing.
-fn last_number(text: &[u8]) -> Option<u64>
+/// The one number that a text's words are. None tells nothing.
+pub fn last_number(text: &[u8]) -> Option<u64>
     ensures { MatchOption result Unit (λ n. map number (words text.now) ≡ Some n ∷ []) }
 {
     let (number, rest) = next_number(text)?;

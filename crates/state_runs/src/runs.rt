@@ -45,13 +45,8 @@ pub fn state_lines_after(
         &Counting { events },
         &mut due,
     )?;
-    match state_read(
-        alloc,
-        script.machine.pages,
-        &ran.words.words,
-        &script.calls,
-        &ran.lps,
-    ) {
+    let words = ran.words.copied(alloc)?;
+    match state_read(alloc, script.machine.pages, &words, &script.calls, &ran.lps) {
         Ok(text) => Ok(text),
         Err(_) => Err(OutOfMemory),
     }

@@ -1,4 +1,4 @@
-//! Clearing and copying a page's content words.
+//! Clearing and copying a page's content words. They go eight by eight, which the compiler writes out.
 
 ghost use Rattle.std.specs.Prelude.{◌≡◌, ◌≢◌, ◌<◌};
 ghost use Rattle.step_core.specs.Pages.{clearing, Copies};
@@ -13,8 +13,10 @@ pub fn zero_page<B: Bench>(bench: &mut B, page: u16)
     ensures machine { B.machine bench.new ≡ B.machine bench.old }
     ensures did { B.did bench.old (clearing page 512) bench.new }
 {
-    for word in 0..512u16 {
-        bench.perform(WordStep::Store(word_address(page, word), 0));
+    for eight in 0..64u16 {
+        for one in 0..8u16 {
+            bench.perform(WordStep::Store(word_address(page, 8 * eight + one), 0));
+        }
     }
 }
 
@@ -27,8 +29,11 @@ pub fn copy_page<B: Bench>(bench: &mut B, from: u16, to: u16)
     ensures machine { B.machine bench.new ≡ B.machine bench.old }
     ensures did { Copies (B.did bench.old) from to 512 bench.new }
 {
-    for index in 0..512u16 {
-        let seen = bench.perform(WordStep::Load(word_address(from, index)));
-        bench.perform(WordStep::Store(word_address(to, index), seen));
+    for eight in 0..64u16 {
+        for one in 0..8u16 {
+            let index = 8 * eight + one;
+            let seen = bench.perform(WordStep::Load(word_address(from, index)));
+            bench.perform(WordStep::Store(word_address(to, index), seen));
+        }
     }
 }

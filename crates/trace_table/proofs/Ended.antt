@@ -1,8 +1,6 @@
 -- At the close the lists of the first pass, which has no bench out, have a merge.
-use Rattle.std.proofs.Common.{◌≡◌, ◌≢◌, ◌⊎◌, inl, inr, ⊎_elim, sym, ◌∙◌, ap, subst, ℕ, zero, suc, ◌+◌, ◌<◌, ◌≤◌, true, false, List, [], ◌∷◌, length, Option, None, arith, slice_index, slice_set, ◌==◌}
-use Rattle.std.proofs.lemmas.Bool.{cases_lt}
-use Rattle.std.proofs.lemmas.Bool.Decides.{eqb_tells}
-use Rattle.std.proofs.lemmas.List.{get_or-set_other, get_or-set_same}
+use Rattle.std.proofs.Common.{◌≡◌, ◌⊎◌, ⊎_elim, sym, ◌∙◌, ap, ℕ, zero, suc, ◌+◌, ◌<◌, true, List, [], ◌∷◌, ◌++◌, ◌-◌, length, take, drop, Option, None, arith, slice_index}
+use Rattle.std.proofs.lemmas.List.{get_or-drop, length-drop, take_more}
 use mathlib.Core.Option.{some, some-injective, some-ne-none}
 use lib.ListN.{get_elem?}
 use Rattle.td_words.specs.declared.machines.Machine.{Machine}
@@ -21,18 +19,13 @@ looked [] i x e = absurd (some-ne-none x (sym e))
 looked (l ∷ ls) zero x e = some-injective l x e
 looked (l ∷ ls) (suc i) x e = looked ls i x e
 
--- a word more was written over
-pub one-more : (words items : List ℕ) (at x : ℕ) → ((n : ℕ) → n < at → slice_index words n ≡ slice_index items (guards + n)) → at < length words → get_elem? items (guards + at) ≡ some x
-    → (n : ℕ) → n < at + 1 → slice_index (slice_set words at x) n ≡ slice_index items (guards + n)
-one-more words items at x are inside e n lt = by (eqb_tells n at)
-  where
-    by : (((n == at) ≡ true) × (n ≡ at)) ⊎ (((n == at) ≡ false) × (n ≢ at)) → slice_index (slice_set words at x) n ≡ slice_index items (guards + n)
-    by (inl t) = subst (λ (z : ℕ). slice_index (slice_set words at x) z ≡ slice_index items (guards + z)) (sym t.1) (get_or-set_same words at x 0 inside ∙ sym (looked items (guards + at) x e))
-    by (inr f) = get_or-set_other words at n x 0 f.1 ∙ are n (below (cases_lt n at))
-      where
-        below : (n < at) ⊎ (at ≤ n) → n < at
-        below (inl h) = h
-        below (inr ge) = absurd (f.1 (omega (arith, lt, ge)))
+-- a word more was copied
+pub one-more : (items copied : List ℕ) (at x : ℕ) → copied ≡ take at (drop guards items) → get_elem? items (guards + at) ≡ some x → guards + at < length items
+    → copied ++ x ∷ [] ≡ take (at + 1) (drop guards items)
+one-more items copied at x so-far e inside =
+    let long : length (drop guards items) ≡ length items - guards = length-drop guards items in
+    let here : slice_index (drop guards items) at ≡ x = get_or-drop guards items at 0 ∙ looked items (guards + at) x e in
+    ap (λ (xs : List ℕ). xs ++ x ∷ []) so-far ∙ (ap (λ (y : ℕ). take at (drop guards items) ++ y ∷ []) (sym here) ∙ sym (take_more (drop guards items) at 0 (let l = long in omega (arith, l, inside))))
 
 -- where no list has a slot out, what was told is all
 module _ (due : ℕ → Option ℕ) (none-out : (p : ℕ) → due p ≡ None) where

@@ -1,26 +1,25 @@
 //! A table that no thread shares any more.
 
-ghost use Rattle.std.specs.Prelude.{◌≡◌, ℕ, ◌+◌, ◌<◌, ◌≤◌, length, slice_index};
+ghost use Rattle.std.specs.Prelude.{◌≡◌, ◌≤◌, drop, IfOk};
 ghost use Rattle.std.specs.Slots.{slots_items, slots_len, IsFull};
 ghost use Rattle.trace_table.specs.Views.{guards};
 
 use crate::tables::GUARDS;
 use crate::told::Ended;
+use std::alloc::{AllocError, Global};
 
-/// The words behind the guard words. They are written over what `words` has, which is as long as
-/// both.
-pub(crate) fn machine_words(ended: &Ended, mut words: Vec<u64>) -> Vec<u64>
+/// A copy of the words behind the guard words.
+pub(crate) fn machine_words(ended: &Ended, alloc: Global) -> Result<Vec<u64>, AllocError>
     requires full { IsFull ended.now.words }
-    requires room { (guards ≤ length words.items) × (length words.items ≤ slots_len ended.now.words) }
-    ensures count { guards + length result.items ≡ length words.items }
-    ensures words { (n : ℕ) → n < length result.items → slice_index result.items n ≡ slice_index (slots_items ended.now.words) (guards + n) }
+    requires room { guards ≤ slots_len ended.now.words }
+    ensures { IfOk result (λ v. v.items ≡ drop guards (slots_items ended.now.words)) }
 {
-    let count = words.len() - GUARDS;
+    let count = ended.words.len() - GUARDS;
+    let mut words = Vec::with_capacity(alloc, count)?;
     for at in 0..count {
-        words[at] = ended.word(GUARDS + at);
+        words.push(ended.word(GUARDS + at))?;
     }
-    words.truncate(count);
-    words
+    Ok(words)
 }
 
 /// Lets go of the hashers, and gives the memory back.

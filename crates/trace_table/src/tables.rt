@@ -1,12 +1,13 @@
 //! The table, from its start to its close.
 
-ghost use Rattle.std.specs.Prelude.{◌≡◌, ◌+◌, ◌<◌, length, replicate, IfOk};
+ghost use Rattle.std.specs.Prelude.{◌≡◌, ◌+◌, ◌<◌, ◌≤◌, replicate, IfOk};
+ghost use Rattle.std.specs.Slots.{slots_len, IsFull};
 ghost use Rattle.step_core.specs.Words.{word_count};
 ghost use Rattle.trace_table.specs.Views.{guards};
 
 use crate::closing::{drop_slots, machine_words};
 use crate::passes::Pass;
-use crate::told::{Place, Whole};
+use crate::told::{Ended, Place, Whole};
 use atomic_table::Table;
 use mrtd_measure::Measure;
 use std::alloc::{AllocError, Global};
@@ -18,31 +19,51 @@ use td_words::{Machine, OutOfMemory};
 /// slot is at home. There are as many as a u8 can name slots.
 pub const GUARDS: usize = 256;
 
-/// The words and slots of a machine, for several threads. It has the memory that its close fills.
+/// The words and slots of a machine, for several threads.
 #[derive(Drop)]
 pub struct SharedTable {
     pub(crate) machine: Machine,
     pub(crate) table: Whole,
-    words: Vec<u64>,
     ghost few: { machine.hkids < guards },
     ghost wide: { table.shared.table_id.words ≡ guards + word_count machine },
     ghost deep: { table.shared.table_id.slots ≡ machine.hkids },
     ghost key: { table.shared.key ≡ machine },
-    ghost room: { length words.items ≡ guards + word_count machine },
 }
 
-/// A machine's words in the order of their addresses, as the steps on them left them.
-#[derive(Drop)]
+/// A machine's words in the order of their addresses, as the steps on them left them. They lie where
+/// the table had them.
 pub struct Words {
-    pub words: Vec<u64>,
+    ended: Ended,
+    ghost words_full: { IsFull ended.words },
+    ghost slots_full: { IsFull ended.slots },
+    ghost room: { guards ≤ slots_len ended.words },
 }
 
 impl Model for Words {
+    ghost use Rattle.std.specs.Prelude.{drop};
+    ghost use Rattle.std.specs.Slots.{slots_items};
     ghost use Rattle.trace_table.specs.Merges.{WordsSeen};
+    ghost use Rattle.trace_table.specs.Views.{guards};
 
     ghost Value = { WordsSeen };
 
-    ghost view = { λ w. record { words = w.words.items } };
+    ghost view = { λ w. record { words = drop guards (slots_items w.ended.words) } };
+}
+
+impl Drop for Words {
+    fn drop(self) {
+        let Words { ended } = self;
+        drop_slots(ended);
+    }
+}
+
+impl Words {
+    /// A copy of the words.
+    pub fn copied(&self, alloc: Global) -> Result<Vec<u64>, OutOfMemory>
+        ensures { IfOk result (λ v. v.items ≡ self.now.words) }
+    {
+        machine_words(&self.ended, alloc).map_err(|_| OutOfMemory)
+    }
 }
 
 fn zeros(alloc: Global, count: usize) -> Result<Vec<u64>, AllocError>
@@ -74,14 +95,7 @@ impl SharedTable {
         let Ok((table, seat)) = made else {
             return Err(OutOfMemory);
         };
-        Ok((
-            SharedTable {
-                machine,
-                table,
-                words,
-            },
-            Pass { seat },
-        ))
+        Ok((SharedTable { machine, table }, Pass { seat }))
     }
 
     /// The machine's words at the end. No list is missing: the pass is the first one, which has no
@@ -92,15 +106,10 @@ impl SharedTable {
         requires none_out { (pass_of pass).out ≡ 0 }
         ensures { MergesTo self.machine (pass_of pass).lists result.words }
     {
-        let SharedTable {
-            machine: _,
-            table,
-            words,
-        } = self;
+        let SharedTable { machine: _, table } = self;
         let Pass { seat } = pass;
-        let ended = table.close_with(seat);
-        let words = machine_words(&ended, words);
-        drop_slots(ended);
-        Words { words }
+        Words {
+            ended: table.close_with(seat),
+        }
     }
 }

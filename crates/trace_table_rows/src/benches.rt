@@ -26,11 +26,13 @@ fn a_load_sees_the_store_of_another_bench(rt: HostRuntime) {
     assert_eq!(rt; other.perform(WordStep::Load(5)), 9);
     first.join(other);
     let pass = first.into_pass();
-    let closed = table.close(pass);
-    assert_eq!(rt; closed.words.len(), 4_116);
-    for at in 0..closed.words.len() {
+    let Ok(closed) = table.close(pass).copied(rt.alloc()) else {
+        panic!(rt; "out of memory")
+    };
+    assert_eq!(rt; closed.len(), 4_116);
+    for at in 0..closed.len() {
         let word = if at == 5 { 9 } else { 0 };
-        assert_eq!(rt; closed.words[at], word);
+        assert_eq!(rt; closed[at], word);
     }
 }
 
@@ -62,8 +64,10 @@ fn a_hasher_that_stays_is_let_go_at_the_close(rt: HostRuntime) {
     let mut bench = SharedBench::new(&table, pass);
     assert!(rt; bench.swap(0, Some(Measure::new())).is_none());
     let pass = bench.into_pass();
-    let closed = table.close(pass);
-    assert!(rt; closed.words.iter().all(|word| *word == 0));
+    let Ok(closed) = table.close(pass).copied(rt.alloc()) else {
+        panic!(rt; "out of memory")
+    };
+    assert!(rt; closed.iter().all(|word| *word == 0));
 }
 
 #[test]
@@ -90,9 +94,8 @@ fn benches_share_locks_and_pages(rt: HostRuntime) {
     zero_page(&mut first, 1);
     first.join(other);
     let pass = first.into_pass();
-    let closed = table.close(pass);
-    assert_eq!(rt;
-        (closed.words[514], closed.words[516], closed.words[1_030]),
-        (0, 0, 2)
-    );
+    let Ok(closed) = table.close(pass).copied(rt.alloc()) else {
+        panic!(rt; "out of memory")
+    };
+    assert_eq!(rt; (closed[514], closed[516], closed[1_030]), (0, 0, 2));
 }

@@ -41,6 +41,8 @@ fn no_step_of_two_threads_is_lost(rt: HostRuntime) {
     );
     first.join(other);
     let pass = first.into_pass();
-    let closed = table.close(pass);
-    assert_eq!(rt; closed.words[4_115], 50_000);
+    let Ok(closed) = table.close(pass).copied(rt.alloc()) else {
+        panic!(rt; "out of memory")
+    };
+    assert_eq!(rt; closed[4_115], 50_000);
 }

@@ -1,9 +1,15 @@
-use Rattle.std.proofs.Common.{◌≡◌}
+use Rattle.std.proofs.Common.{◌≡◌, ◌+◌, ◌*◌}
 use Rattle.step_core.specs.Pages.{clearing}
 use Rattle.step_core.proofs.pages.zero_page.Given as goal
 
-abbrev pub invariant-loop-word : goal.invariant-loop-word
-invariant-loop-word g l = record {
+abbrev pub invariant-loop-eight : goal.invariant-loop-eight
+invariant-loop-eight g l = record {
   machine : g.B.Bench.machine l.bench ≡ g.B.Bench.machine l.initial.bench;
-  did : g.B.Bench.did l.initial.bench (clearing l.page l.word) l.bench;
+  did : g.B.Bench.did l.initial.bench (clearing l.page (8 * l.eight)) l.bench;
+}
+
+abbrev pub invariant-loop-one : goal.invariant-loop-one
+invariant-loop-one g l = record {
+  machine : g.B.Bench.machine l.bench ≡ g.B.Bench.machine l.initial.bench;
+  did : (b : g.row.B.Denot) → g.B.Bench.did b (clearing l.page (8 * l.eight)) l.initial.bench → g.B.Bench.did b (clearing l.page (8 * l.eight + l.one)) l.bench;
 }
