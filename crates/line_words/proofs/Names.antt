@@ -3,7 +3,7 @@ use Rattle.std.proofs.Common.{◌≡◌, ◌≢◌, ℕ, ◌+◌, ◌-◌, ◌<�
 use Rattle.std.specs.List.{list_all, slice_split, starts_with}
 use Rattle.std.specs.Str.{bytes_eq}
 use Rattle.std.proofs.Math.Seq.{get_or-append_seam, take-append_seam}
-use Rattle.std.proofs.lemmas.List.{length-append, take_all, take_rest, take-append-drop, drop_more}
+use Rattle.std.proofs.lemmas.List.{length-append, take_all, take_rest, take-append-drop, drop_more, get_or-take}
 use Rattle.std.proofs.lemmas.Slice.Eq.{bytes_eq-Decides}
 use Rattle.line_words.specs.Words.{words}
 use Rattle.line_words.proofs.NextWords.{one_kept}
@@ -26,6 +26,16 @@ unequal false h = refl
 
 pub other_length : (word name : List ℕ) → length word ≢ length name → bytes_eq word name ≡ false
 other_length word name h = unequal (bytes_eq word name) (λ e. h (ap (λ (xs : List ℕ). length xs) ((bytes_eq-Decides word name).0 e)))
+
+-- of a text no shorter than a name
+
+pub same_front : (text name : List ℕ) → take (length name) text ≡ take (length name) name → starts_with eqb text name ≡ true
+same_front text name h = (bytes_eq-Decides name (take (length name) text)).1 (sym (h ∙ take_all (length name) name (omega arith)))
+
+pub other_front : (text name : List ℕ) (i : ℕ) → i < length name → get_or text i 0 ≢ get_or name i 0 → starts_with eqb text name ≡ false
+other_front text name i below apart =
+    unequal (starts_with eqb text name)
+    (λ e. apart (sym (ap (λ (xs : List ℕ). get_or xs i 0) ((bytes_eq-Decides name (take (length name) text)).0 e) ∙ get_or-take (length name) text i 0 below)))
 
 pub name_before : (text name : List ℕ) → length name < length text → starts_with eqb text name ≡ true → get_or text (length name) 0 ≡ 32
     → text ≡ name ++ 32 ∷ take (length text - (length name + 1)) (drop (length name + 1) text)

@@ -1,6 +1,7 @@
 //! The mnemonics of calls.
 
-ghost use Rattle.std.specs.Prelude.{ℕ, List, ◌≡◌, ◌≢◌, ◌∷◌, ◌++◌, None, map, MatchOption};
+ghost use Rattle.std.specs.Prelude.{ℕ, List, ◌≡◌, ◌≢◌, ◌≤◌, ◌∷◌, ◌++◌, eqb, None, length, map, MatchOption};
+ghost use Rattle.std.specs.List.{starts_with};
 ghost use Rattle.std.specs.Str.{bytes_eq};
 ghost use Rattle.line_words.specs.Mnemonics.{mnemonic_in, mnemonics};
 
@@ -133,6 +134,22 @@ pub fn is(word: &[u8], name: &str) -> bool
     word.len() == name.len() && word.starts_with(name.as_bytes())
 }
 
+// Whether a text begins with a name. Where the name is a constant it takes fewer steps than the search
+// of a slice's front, which goes by groups.
+#[inline(always)]
+#[tactic(auto, using(crate::proofs::Names::same_front, crate::proofs::Names::other_front))]
+fn begins_with(text: &[u8], name: &[u8]) -> bool
+    requires { length name.now ≤ length text.now }
+    ensures { result ≡ starts_with eqb text.now name.now }
+{
+    for at in 0..name.len() {
+        if text[at] != name[at] {
+            return false;
+        }
+    }
+    true
+}
+
 /// What stands behind a name and the space after it. None exactly where a text doesn't begin with these.
 #[tactic(auto, using(crate::proofs::Names::name_before))]
 pub fn behind_name<'a>(name: &str, text: &'a [u8]) -> Option<&'a [u8]>
@@ -140,7 +157,7 @@ pub fn behind_name<'a>(name: &str, text: &'a [u8]) -> Option<&'a [u8]>
     ensures none { result ≡ None → (rest : List ℕ) → text.now ≢ name.now ++ 32 ∷ rest }
 {
     let end = name.len();
-    if end < text.len() && text.starts_with(name.as_bytes()) && text[end] == b' ' {
+    if end < text.len() && begins_with(text, name.as_bytes()) && text[end] == b' ' {
         Some(&text[end + 1..])
     } else {
         None

@@ -2,7 +2,7 @@
 use Rattle.std.proofs.Common.{◌≡◌, ◌≢◌, ◌⊎◌, inl, inr, refl, sym, ◌∙◌, ap, subst, ℕ, zero, suc, ◌+◌, ◌<◌, ◌≤◌, List, [], ◌∷◌, ◌++◌, length, get_or, set, take, drop, map, Option, None, Some, Bool, Result, Ok, Err, IfOk, All, AllPairs, true, false, not, ◌==◌, arith, append-nil, append_assoc, add-one}
 use Rattle.std.proofs.Math.Seq.{drop-cons}
 use Rattle.std.proofs.lemmas.Bool.Decides.{eqb_tells}
-use Rattle.std.proofs.lemmas.List.{set-get_or, length-map, length-take-le, take_more, map_push}
+use Rattle.std.proofs.lemmas.List.{set-get_or, get_or-drop, length-map, length-drop, length-take-le, take_more, map_push}
 use Rattle.std.proofs.lemmas.List.Folds.{concat-append}
 use Rattle.std.specs.Global.{Vec}
 use Rattle.std.proofs.Math.ListN.{length-set}
@@ -53,7 +53,7 @@ use Rattle.script_text.specs.Laws.{IsInForm}
 use Rattle.run_texts.specs.Openings.{opening_of}
 use Rattle.run_texts.specs.Sealing.{bundles_seen}
 use Rattle.run_texts.specs.Replaying.{AreNumbered, AreFirst, IsMidway, LeadsToEnd, only_bench, IsAtBench, StandsAt, HaveEnded, TurnsAreEvents, seen_at, lines_seen, notes_seen, where_named, TellAll}
-use Rattle.run_texts.specs.Looking.{IsNext, Looked, GoesOn, Goes}
+use Rattle.run_texts.specs.Looking.{IsNext, Looked, GoesOn, Goes, ended_behind}
 use Rattle.run_texts.specs.declared.replay.Texts.{Texts}
 use Rattle.run_texts.proofs.Codes.{codes-of}
 use Rattle.run_texts.proofs.Making.{fit-run, moved-there}
@@ -129,6 +129,10 @@ no-lines cs e = by (eqb_tells (length cs) 0)
     by : (((length cs == 0) ≡ true) × (length cs ≡ 0)) ⊎ (((length cs == 0) ≡ false) × (length cs ≢ 0)) → cs ≡ []
     by (inl t) = empty cs t.1
     by (inr f) = (let apart : false ≡ true = e ∙ ap not f.0 in cc)
+
+has-line : (cs : List Call) → cs ≡ [] → true ≡ not (length cs == 0) → ⊥
+has-line [] e h = cc
+has-line (c ∷ cs) e h = cc
 
 -- a processor with a line makes an event
 some-event : (o : Opening) (s : State) (p : ℕ) (cs : List Call) → lines_left o p (s.lps p) ≡ cs → true ≡ not (length cs == 0) → (e : flat.Event) × (flat.next_event o s p ≡ Some e)
@@ -313,6 +317,50 @@ module _ {W : Type 0} (seeks : W → Opening → List ℕ → State → List ℕ
   pub ended-by : p < length lps → HaveEnded p lps → (moved : Bool) → moved ≡ false → Looked seeks stops p w (get_or lps p d) b w' s' b' (Some moved) → HaveEnded (p + 1) (set lps p s')
   ended-by inside before true e h = absurd (apart (sym e))
   ended-by inside before false e h = ended-more lps p d s' inside before h.0.0.1 h.0.1
+
+  -- how many have ended behind it
+  pub ended-now : (n : ℕ) → p < length lps → HaveEnded n lps → (moved : Bool) → Looked seeks stops p w (get_or lps p d) b w' s' b' (Some moved) → HaveEnded (ended_behind n p moved) (set lps p s')
+  ended-now n inside before true h = λ q less.
+      let none : (seen_at lps p).lines ≡ [] → (get_or lps p d).lines.now ≡ [] = λ e. ap (λ (x : WordLp). x.lines) (sym (seen-at lps p d inside)) ∙ e in
+      let other : q ≢ p = λ e. has-line (get_or lps p d).lines.now (none (before p (omega (arith, e, less)))) h.1.1 in
+      ap (λ (x : WordLp). x.lines) (seen-other lps p s' q other) ∙ before q less
+  ended-now n inside before false h = by (eqb_tells p n)
+    where
+      stay : set lps p s' ≡ lps
+      stay = ap (set lps p) h.0.0.1 ∙ set-get_or lps p d
+
+      by : (((p == n) ≡ true) × (p ≡ n)) ⊎ (((p == n) ≡ false) × (p ≢ n)) → HaveEnded (ended_behind n p false) (set lps p s')
+      by (inl t) =
+          rw t.0
+          (subst (λ (z : ℕ). HaveEnded (z + 1) (set lps p s')) t.1 (ended-more lps p d s' inside (subst (λ (z : ℕ). HaveEnded z lps) (sym t.1) before) h.0.0.1 h.0.1))
+      by (inr f) = rw f.0 (subst (λ (z : List LpState). HaveEnded n z) (sym stay) before)
+
+-- where all have ended no item that is left makes an event
+pub none-left : TurnsAreEvents → (o : Opening) (sought : State → List ℕ → Type 0) (lps : List LpState) (id : TableId) (b : BenchSeen) (left : List ℕ) → IsOpen o → GoesOn o sought → HaveEnded (length lps) lps
+    → ((i d : ℕ) → i < length left → get_or left i d < length lps) → IsAtBench o left sought lps id b → IsAtBench o [] sought lps id b
+none-left ls o sought lps id b left op on ended inside l = record {
+  own = l.own;
+  is = l.is;
+  count = l.count;
+  numbered = l.numbered;
+  midway = λ t play.
+      let now = l.midway t play in
+      record { made = now.made; merge = now.merge; holds = passed t now left inside now.holds };
+}
+  where
+    passed : (t : Table) (now : IsMidway o left sought lps t) (xs : List ℕ) → ((i d : ℕ) → i < length xs → get_or xs i d < length lps)
+        → sought (play o (order now.made) (start o None)) (xs ++ to_the_end 0 o.calls) → sought (play o (order now.made) (start o None)) (to_the_end 0 o.calls)
+    passed t now [] within h = h
+    passed t now (p ∷ xs) within h =
+        let here : p < length lps = within 0 0 (omega arith) in
+        passed t now xs (λ i d less. within (suc i) d (omega (arith, less)))
+        (on.idle (play o (order now.made) (start o None)) p (xs ++ to_the_end 0 o.calls) (ended-flat ls o left sought lps t p op now (omega (arith, here, l.count)) (ended p here)) h)
+
+-- the items behind one of the schedule are of the script's processors
+pub items-inside : (given : Given) (script : ScriptSeen) (left : List ℕ) (sought : State → List ℕ → Type 0) (lps : List LpState) (id : TableId) (b : BenchSeen) (k : ℕ) → IsInForm script → IsAtBench (opening_of given script) left sought lps id b
+    → (i d : ℕ) → i < length (drop k script.schedule) → get_or (drop k script.schedule) i d < length lps
+items-inside given script left sought lps id b k form l i d less =
+    item-inside given script left sought lps id b (k + i) d (get_or (drop k script.schedule) i d) form l (omega (arith, less, length-drop k script.schedule)) (get_or-drop k script.schedule i d)
 
 -- at the end
 

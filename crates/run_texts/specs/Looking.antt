@@ -1,5 +1,5 @@
 -- What looks on while a script's processors make their turns.
-use Rattle.std.specs.Prelude.{◌≡◌, ℕ, ◌<◌, ◌≤◌, ◌==◌, Bool, true, false, not, List, [], ◌∷◌, length, Option, Some, None}
+use Rattle.std.specs.Prelude.{◌≡◌, ℕ, ◌+◌, ◌<◌, ◌≤◌, ◌==◌, Bool, true, false, not, if◌then◌else◌, List, [], ◌∷◌, length, Option, Some, None}
 use Rattle.flat_core.specs.Opening.{Opening}
 use Rattle.flat_core.specs.Event.{State, start, event, next_event, lines_left}
 use Rattle.flat_core.specs.Event as flat
@@ -74,6 +74,12 @@ SeeksOn {W} seeks o schedule = (w : W) → GoesOn o (seeks w o schedule)
 -- an onlooker's processors at their bench, under the schedule of a script
 abbrev pub IsLeft : {W : Type 0} → (W → Opening → List ℕ → State → List ℕ → Type 0) → Given → ScriptSeen → (left : List ℕ) → W → List LpState → TableId → SharedBench → Type 0
 IsLeft seeks given script left w lps id b = IsAtBench (opening_of given script) left (seeks w (opening_of given script) script.schedule) lps id (bench_of b)
+
+-- Of processors of which the first n have ended, how many from the first one on have, after processor p's turn. One whose turn made no
+-- event has ended.
+abbrev pub ended_behind : (n p : ℕ) (moved : Bool) → ℕ
+ended_behind n p true = n
+ended_behind n p false = if p == n then n + 1 else n
 
 -- All went on, up to the ends of the first n processors, and no item is left; or the onlooker has stopped, with some items left.
 abbrev pub Goes : (stopped : Type 0) → (n : ℕ) → List LpState → (at : List ℕ → Type 0) → Bool → Type 0

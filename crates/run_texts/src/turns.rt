@@ -10,7 +10,7 @@ ghost use Rattle.trace_table.specs.Benches.{bench_of};
 ghost use Rattle.leaf_table.specs.Given.{given_in};
 ghost use Rattle.run_texts.specs.Openings.{opening_of};
 ghost use Rattle.run_texts.specs.Replaying.{HaveEnded};
-ghost use Rattle.run_texts.specs.Looking.{Looked, SeeksOn, IsLeft, HasGone, HasRun};
+ghost use Rattle.run_texts.specs.Looking.{Looked, SeeksOn, IsLeft, HasGone, HasRun, ended_behind};
 
 use crate::replay::{laws_of_turns, processors};
 use leaf_dispatch::{FirstLists, LpState};
@@ -72,7 +72,20 @@ impl Onlooker for Nobody {
     }
 }
 
-// One turn for each item of the schedule: whether all were made.
+// How many processors, from the first one on, are known to have ended: one more where that one is the
+// next, and its turn made no event.
+fn ended_behind(ended: usize, lp: u8, moved: bool) -> usize
+    ensures { result ≡ ended_behind ended lp moved }
+{
+    if !moved && usize::from(lp) == ended {
+        ended + 1
+    } else {
+        ended
+    }
+}
+
+// One turn for each item of the schedule, up to the one behind which all are known to have ended: whether
+// the onlooker didn't stop before.
 fn follow_schedule<W: Onlooker>(
     script: &Script,
     given: Given<'_>,
@@ -89,11 +102,17 @@ fn follow_schedule<W: Onlooker>(
 {
     let _secrets = given.secrets;
     laws_of_turns();
+    let mut ended = 0;
     for item in 0..script.schedule.len() {
         let lp = script.schedule[item];
-        let Some(_) = onlooker.turn(seen, lp, &mut lps[usize::from(lp)], bench) else {
+        let Some(moved) = onlooker.turn(seen, lp, &mut lps[usize::from(lp)], bench) else {
             return false;
         };
+        ended = ended_behind(ended, lp, moved);
+        // The items that are left make no event.
+        if ended == lps.len() {
+            return true;
+        }
     }
     true
 }

@@ -1,11 +1,14 @@
-use Rattle.std.proofs.Common.{◌≡◌, ◌∙◌, ◌+◌, ◌<◌, ℕ, None, Some, ap, sym, subst, drop, get_or, length, arith}
+use Rattle.std.proofs.Common.{◌≡◌, ◌∙◌, ◌+◌, ◌<◌, ℕ, None, Some, ap, sym, subst, drop, get_or, set, length, arith}
 use Rattle.std.proofs.Math.ListN.{length-set}
 use Rattle.script_text.specs.Seen.{ScriptSeen}
 use Rattle.leaf_table.specs.Given.{given_in}
 use Rattle.trace_table.specs.Benches.{bench_of}
 use Rattle.run_texts.specs.Openings.{opening_of}
-use Rattle.run_texts.specs.Looking.{Looked}
-use Rattle.run_texts.proofs.Replayed.{machine-at, item-inside, item-next, open-of, after-turn, as-before}
+use Rattle.run_texts.specs.Replaying.{HaveEnded}
+use Rattle.run_texts.specs.Looking.{IsLeft, Looked, ended_behind}
+use Rattle.run_texts.proofs.Replayed.{machine-at, item-inside, item-next, items-inside, open-of, after-turn, as-before, ended-now, none-left}
+use Rattle.run_texts.proofs.turns.follow_schedule.Given.{Over}
+use Rattle.run_texts.proofs.turns.follow_schedule.Goals.{After-ended_behind-ended}
 use Rattle.run_texts.proofs.turns.follow_schedule.Goals as goal
 
 pub turn-requires : goal.turn-requires
@@ -21,8 +24,11 @@ turn-requires g c =
     machine-at o left sought c.loop-item.lps id (bench_of c.loop-item.bench) c.from.result c.index-lps-from.result c.loop-item.invariant.left
     (item-inside (given_in c.args.given) script left sought c.loop-item.lps id (bench_of c.loop-item.bench) c.loop-item.item c.index-lp.result.now c.from.result c.requires.form c.loop-item.invariant.left inside is)
 
-pub loop-item-preserved : goal.loop-item-preserved
-loop-item-preserved g c =
+-- Behind an item the processors stand where one item less is left, and as many of them have ended as are counted.
+behind : (g : Over) (c : After-ended_behind-ended g)
+    → (length (set c.loop-item.lps c.from.result c.turn.new.state) ≡ length c.args.lps.now) × HaveEnded c.ended_behind-ended.result (set c.loop-item.lps c.from.result c.turn.new.state)
+    × IsLeft (g.W.Onlooker.seeks c.args.onlooker.now) (given_in c.args.given) c.args.script.now (drop (c.loop-item.item + 1) c.args.script.now.schedule) c.turn.new.seen (set c.loop-item.lps c.from.result c.turn.new.state) (bench_of c.args.bench.now).pass.table c.turn.new.bench
+behind g c =
     let seeks = g.W.Onlooker.seeks c.args.onlooker.now in
     let stops = g.W.Onlooker.stops in
     let o = opening_of (given_in c.args.given) c.args.script.now in
@@ -34,14 +40,30 @@ loop-item-preserved g c =
     c.from.ensures ∙ (c.index-lp.ensures ∙ ap (λ (s : ScriptSeen). get_or s.schedule c.loop-item.item c.index-lp.result.now) c.script.view_is) in
     let within = item-inside (given_in c.args.given) c.args.script.now _ _ lps _ _ c.loop-item.item c.index-lp.result.now p c.requires.form c.loop-item.invariant.left inside is in
     let looked =
-    subst (λ (q : ℕ). Looked seeks stops q c.loop-item.seen (get_or lps p c.index-lps-from.result) c.loop-item.bench c.turn.new.seen c.turn.new.state c.turn.new.bench (Some c.in-Some.field-0)) (sym c.from.ensures) c.in-Some.ensures in
-    record {
-      count = length-set lps p c.turn.new.state ∙ c.loop-item.invariant.count;
-      left =
-          after-turn seeks stops c.laws_of_turns.ensures o schedule (drop (c.loop-item.item + 1) schedule) lps p c.index-lps-from.result c.turn.new.state _ c.loop-item.bench c.turn.new.bench c.loop-item.seen c.turn.new.seen
+    subst (λ (q : ℕ). Looked seeks stops q c.loop-item.seen (get_or lps p c.index-lps-from.result) c.loop-item.bench c.turn.new.seen c.turn.new.state c.turn.new.bench (Some c.in-Some.moved)) (sym c.from.ensures) c.in-Some.ensures in (
+      length-set lps p c.turn.new.state ∙ c.loop-item.invariant.count,
+      subst (λ (n : ℕ). HaveEnded n (set lps p c.turn.new.state)) (sym c.ended_behind-ended.ensures)
+          (subst (λ (q : ℕ). HaveEnded (ended_behind c.loop-item.ended q c.in-Some.moved) (set lps p c.turn.new.state)) c.from.ensures
+          (ended-now seeks stops lps p c.index-lps-from.result c.turn.new.state c.loop-item.bench c.turn.new.bench c.loop-item.seen c.turn.new.seen c.loop-item.ended within c.loop-item.invariant.ended c.in-Some.moved looked)),
+      after-turn seeks stops c.laws_of_turns.ensures o schedule (drop (c.loop-item.item + 1) schedule) lps p c.index-lps-from.result c.turn.new.state _ c.loop-item.bench c.turn.new.bench c.loop-item.seen c.turn.new.seen
           (open-of (given_in c.args.given) c.args.script.now c.requires.form) c.requires.on within
-          (item-next o (seeks c.loop-item.seen o schedule) schedule lps _ _ c.loop-item.item c.index-lp.result.now p c.loop-item.invariant.left inside is) c.in-Some.field-0 looked;
-    }
+          (item-next o (seeks c.loop-item.seen o schedule) schedule lps _ _ c.loop-item.item c.index-lp.result.now p c.loop-item.invariant.left inside is) c.in-Some.moved looked,
+    )
+
+pub loop-item-preserved : goal.loop-item-preserved
+loop-item-preserved g c = let b = behind g (goal.at.loop-item-preserved g c).After-ended_behind-ended in record { count = b.0; ended = b.1; left = b.2 }
+
+-- the items that are left make no event
+pub returns-then-ended-lps-clause-gone : goal.returns-then-ended-lps-clause-gone
+returns-then-ended-lps-clause-gone g c =
+    let o = opening_of (given_in c.args.given) c.args.script.now in
+    let schedule = c.args.script.now.schedule in
+    let lps = set c.loop-item.lps c.from.result c.turn.new.state in
+    let b = behind g (goal.at.returns-then-ended-lps-clause-gone g c).After-ended_behind-ended in (
+      λ p less. absurd (omega (arith, less)),
+      none-left c.laws_of_turns.ensures o (g.W.Onlooker.seeks c.args.onlooker.now c.turn.new.seen o schedule) lps _ _ (drop (c.loop-item.item + 1) schedule) (open-of (given_in c.args.given) c.args.script.now c.requires.form) (c.requires.on c.turn.new.seen)
+          (subst (λ (n : ℕ). HaveEnded n lps) c.if-ended-lps.true b.1) (items-inside (given_in c.args.given) c.args.script.now _ _ lps _ _ (c.loop-item.item + 1) c.requires.form b.2) b.2,
+    )
 
 pub returns-in_default-clause-gone : goal.returns-in_default-clause-gone
 returns-in_default-clause-gone g c =
