@@ -1,6 +1,6 @@
 //! The turns of a script's processors over one bench, before something that looks on.
 
-ghost use Rattle.std.specs.Prelude.{◌≡◌, ℕ, ◌+◌, ◌<◌, List, [], ◌++◌, length, None, IfOk};
+ghost use Rattle.std.specs.Prelude.{◌≡◌, ℕ, ◌+◌, ◌<◌, false, List, [], ◌++◌, length, None, IfOk};
 ghost use Rattle.flat_core.specs.Opening.{Opening};
 ghost use Rattle.flat_core.specs.Event.{State, start};
 ghost use Rattle.flat_core.specs.Run.{to_the_end};
@@ -72,12 +72,12 @@ impl Onlooker for Nobody {
     }
 }
 
-// How many processors, from the first one on, are known to have ended: one more where that one is the
-// next, and its turn made no event.
-fn ended_behind(ended: usize, lp: u8, moved: bool) -> usize
-    ensures { result ≡ ended_behind ended lp moved }
+// How many processors, from the first one on, are known to have ended, behind a turn that made no event:
+// one more where its processor is the next.
+fn ended_behind(ended: usize, lp: u8) -> usize
+    ensures { result ≡ ended_behind ended lp false }
 {
-    if !moved && usize::from(lp) == ended {
+    if usize::from(lp) == ended {
         ended + 1
     } else {
         ended
@@ -108,10 +108,12 @@ fn follow_schedule<W: Onlooker>(
         let Some(moved) = onlooker.turn(seen, lp, &mut lps[usize::from(lp)], bench) else {
             return false;
         };
-        ended = ended_behind(ended, lp, moved);
-        // The items that are left make no event.
-        if ended == lps.len() {
-            return true;
+        if !moved {
+            ended = ended_behind(ended, lp);
+            // Where all have ended the items that are left make no event.
+            if ended == lps.len() {
+                return true;
+            }
         }
     }
     true
