@@ -1,5 +1,5 @@
--- The hexadecimal text of a digest, as replies print it.
-use Rattle.std.proofs.Common.{◌≡◌, ℕ, zero, suc, ◌/◌, ◌%◌, ◌<◌, ◌==◌, ◌&&◌, inl, inr, Bool, true, false, List, [], ◌∷◌, slice_index, refl, ap, ◌∙◌, arith}
+-- Hexadecimal digits, and the text of a digest, as lines have it.
+use Rattle.std.proofs.Common.{◌≡◌, ℕ, zero, suc, ◌/◌, ◌%◌, ◌<◌, ◌==◌, ◌&&◌, inl, inr, Bool, true, false, List, [], ◌∷◌, slice_index, refl, ap, sym, ◌∙◌, arith}
 use Rattle.std.specs.Fmt.{digits, digit_glyph}
 use Rattle.std.proofs.lemmas.Bool.{and_parts, cases_lt, eqb-true}
 use Rattle.std.proofs.lemmas.Fmt.{hex_one_digit}
@@ -23,8 +23,11 @@ agreed (suc n) d h lt =
       | inr top ↦ let e : d ≡ n = omega arith in rw e p.0
     ]
 
+pub glyph : (d : ℕ) → d < 16 → slice_index lower_digits d ≡ digit_glyph false d
+glyph d h = sym (eqb-true (digit_glyph false d) (slice_index lower_digits d) (agreed 16 d refl h))
+
 one_digit : (d : ℕ) → d < 16 → digits 16 false d ≡ slice_index lower_digits d ∷ []
-one_digit d h = hex_one_digit false d h ∙ ap (λ c. c ∷ []) (eqb-true (digit_glyph false d) (slice_index lower_digits d) (agreed 16 d refl h))
+one_digit d h = hex_one_digit false d h ∙ ap (λ c. c ∷ []) (sym (glyph d h))
 
 byte_digits : (b : ℕ) → b < 256 → byte_text b ≡ slice_index lower_digits (b / 16) ∷ slice_index lower_digits (b % 16) ∷ []
 byte_digits b h =

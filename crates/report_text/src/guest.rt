@@ -3,8 +3,10 @@
 ghost use Rattle.std.specs.Prelude.{◌≡◌, ◌++◌, map, OnOk, IfOk, string_bytes};
 ghost use Rattle.std.specs.List.{concat};
 ghost use Rattle.td_words.specs.ReplyText.{digest_text};
+ghost use Rattle.report_text.specs.declared.guest.GuestNote.TheVariants.{Load, Rtmr};
 ghost use Rattle.report_text.specs.Lines.{note_line};
 
+use crate::lines::{ROOM, write_head, write_hexadecimal, write_last};
 use std::alloc::{AllocError, Global};
 use std::fmt::Write;
 use td_words::OutOfMemory;
@@ -33,19 +35,44 @@ fn digest_digits(alloc: Global, digest: &[u8; 48]) -> Result<String, AllocError>
     Ok(text)
 }
 
-fn push_note(alloc: Global, text: &mut String, lp: u8, note: &GuestNote) -> Result<(), AllocError>
-    ensures { OnOk result (string_bytes text.new ≡ string_bytes text.old ++ note_line lp note.now) }
+/// Puts the line of a load behind the text.
+fn push_load(text: &mut Vec<u8>, lp: u8, number: u32, gpa: u64, word: u64) -> Result<(), AllocError>
+    ensures { OnOk result (text.new.items ≡ text.old.items ++ note_line lp (Load number gpa word)) }
+{
+    let mut line = [0; ROOM];
+    let space = write_last(&mut line, word);
+    let start = write_hexadecimal(gpa, &mut line, space);
+    let at = write_head(&mut line, start, b" load 0x", lp, number as u64);
+    text.extend_from_slice(&line[at..])
+}
+
+/// Puts the line of an extension behind the text.
+fn push_extension(
+    alloc: Global,
+    text: &mut Vec<u8>,
+    lp: u8,
+    number: u32,
+    index: u8,
+    digest: &[u8; 48],
+) -> Result<(), AllocError>
+    ensures { OnOk result (text.new.items ≡ text.old.items ++ note_line lp (Rtmr number index digest.now)) }
+{
+    let digits = digest_digits(alloc, digest)?;
+    let mut told = String::new(alloc);
+    write!(told, "{lp}.{number} rtmr {index} {digits}\n")?;
+    text.extend_from_slice(told.as_bytes())
+}
+
+fn push_note(alloc: Global, text: &mut Vec<u8>, lp: u8, note: &GuestNote) -> Result<(), AllocError>
+    ensures { OnOk result (text.new.items ≡ text.old.items ++ note_line lp note.now) }
 {
     match note {
-        GuestNote::Load { line, gpa, word } => write!(text, "{lp}.{line} load 0x{gpa:x} {word}\n"),
+        GuestNote::Load { line, gpa, word } => push_load(text, lp, *line, *gpa, *word),
         GuestNote::Rtmr {
             line,
             index,
             digest,
-        } => {
-            let digits = digest_digits(alloc, digest)?;
-            write!(text, "{lp}.{line} rtmr {index} {digits}\n")
-        }
+        } => push_extension(alloc, text, lp, *line, *index, digest),
     }
 }
 
@@ -53,11 +80,11 @@ fn push_note(alloc: Global, text: &mut String, lp: u8, note: &GuestNote) -> Resu
 pub fn guest_lines(alloc: Global, lp: u8, notes: &[GuestNote]) -> Result<Vec<u8>, OutOfMemory>
     ensures { IfOk result (λ lines. lines.items ≡ concat (map (note_line lp) notes.now)) }
 {
-    let mut text = String::new(alloc);
+    let mut text = Vec::new(alloc);
     for i in 0..notes.len() {
         let Ok(()) = push_note(alloc, &mut text, lp, &notes[i]) else {
             return Err(OutOfMemory);
         };
     }
-    Ok(text.into_bytes())
+    Ok(text)
 }

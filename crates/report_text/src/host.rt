@@ -1,38 +1,21 @@
 //! Replies as lines.
 
-ghost use Rattle.std.specs.Prelude.{◌≡◌, ◌≤◌, ◌++◌, OnOk, IfOk, codes, drop};
+ghost use Rattle.std.specs.Prelude.{◌≡◌, ◌++◌, OnOk, IfOk, codes};
 ghost use Rattle.std.specs.Fmt.{decimal};
 ghost use Rattle.std.specs.List.{concat};
 ghost use Rattle.report_text.specs.Lines.{line_text, reply_lines, reply_line};
 
-use itoa::write_digits;
+use crate::lines::{ROOM, write_head, write_last};
 use std::alloc::{AllocError, Global};
 use std::fmt::Write;
 use td_words::{OutOfMemory, Reply, Value};
-
-/// A line of a success with one number is at most 54 bytes long: a processor of 3 digits, a dot,
-/// 20 digits, ` SUCCESS`, a space, 20 digits and a newline.
-const ROOM: usize = 56;
-
-/// Writes a success into `line` in front of its byte `end`, and gives where it begins.
-fn write_success(line: &mut [u8; ROOM], end: usize, lp: u8, number: u64) -> usize
-    requires { (32 ≤ end) × (end ≤ 56) }
-    ensures start { result ≤ 56 }
-    ensures written { drop result line.new ≡ decimal lp ++ (codes "." ++ (decimal number ++ (codes " SUCCESS" ++ drop end line.old))) }
-{
-    let word = end - 8;
-    line[word..end].copy_from_slice(b" SUCCESS");
-    let dot = write_digits(number, line, word) - 1;
-    line[dot] = b'.';
-    write_digits(lp as u64, line, dot)
-}
 
 /// Puts the line of a success without a value behind the text.
 fn push_success(text: &mut Vec<u8>, lp: u8, number: u64) -> Result<(), AllocError>
     ensures { OnOk result (text.new.items ≡ text.old.items ++ line_text lp number (codes "SUCCESS")) }
 {
     let mut line = [b'\n'; ROOM];
-    let at = write_success(&mut line, ROOM - 1, lp, number);
+    let at = write_head(&mut line, ROOM - 1, b" SUCCESS", lp, number);
     text.extend_from_slice(&line[at..])
 }
 
@@ -40,10 +23,9 @@ fn push_success(text: &mut Vec<u8>, lp: u8, number: u64) -> Result<(), AllocErro
 fn push_number(text: &mut Vec<u8>, lp: u8, number: u64, seen: u64) -> Result<(), AllocError>
     ensures { OnOk result (text.new.items ≡ text.old.items ++ line_text lp number (codes "SUCCESS " ++ decimal seen)) }
 {
-    let mut line = [b'\n'; ROOM];
-    let space = write_digits(seen, &mut line, ROOM - 1) - 1;
-    line[space] = b' ';
-    let at = write_success(&mut line, space, lp, number);
+    let mut line = [0; ROOM];
+    let space = write_last(&mut line, seen);
+    let at = write_head(&mut line, space, b" SUCCESS", lp, number);
     text.extend_from_slice(&line[at..])
 }
 

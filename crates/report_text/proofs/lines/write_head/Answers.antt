@@ -1,7 +1,7 @@
 use Rattle.std.proofs.Common.{◌≡◌, ◌+◌, ◌-◌, refl, arith}
 use Rattle.std.proofs.lemmas.List.{drop-set, length-set}
 use Rattle.report_text.proofs.Room.{few_digits, most_digits, drop_mid, long_mid}
-use Rattle.report_text.proofs.host.write_success.Goals as goal
+use Rattle.report_text.proofs.lines.write_head.Goals as goal
 
 pub write_digits-dot-requires : goal.write_digits-dot-requires
 write_digits-dot-requires c =
