@@ -150,11 +150,15 @@ fn note_act(kept: &Option<Running<'_>>, made: &RunTurn, turn: &mut LeafTurn)
     ensures turn { turn_of turn.new ≡ made.now }
     ensures act { turn.new.act ≡ act_in kept.now made.now.event }
 {
-    *turn = LeafTurn {
-        event: made.event,
-        act: act_in(kept, made.event),
-        reply: made.reply,
-    };
+    turn.event = made.event;
+    match made.event {
+        Event::Act => turn.act = act_in(kept, made.event),
+        _ => turn.act = None,
+    }
+    match made.reply {
+        Some(reply) => turn.reply = Some(reply),
+        None => turn.reply = None,
+    }
 }
 
 /// What a kept run that was answered answers from now on, as VP.ENTER does once its guest is left.

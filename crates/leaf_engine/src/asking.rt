@@ -1,6 +1,7 @@
 //! The word steps of a leaf between two events: its loads, and its writes.
 
 ghost use Rattle.std.specs.Prelude.{◌≡◌, ◌≤◌, false};
+ghost use Rattle.leaf_engine.specs.declared.needs.Write.TheVariants.{Swap};
 ghost use Rattle.leaf_engine.specs.Trees.{changes_left};
 ghost use Rattle.leaf_engine.specs.Inside.{WriteInside, NeedInside, LowersTries};
 ghost use Rattle.leaf_engine.specs.Turns.{need_of, Asked, Made, Changed};
@@ -65,9 +66,18 @@ pub fn make<B: Bench>(write: Write, hasher: &mut Option<Measure>, bench: &mut B)
         }
         Write::Zero(page) => zero_page(bench, page),
         Write::Copy { from, to } => copy_page(bench, from, to),
-        Write::Swap(slot) => {
-            let put = mem::replace(hasher, None);
-            *hasher = bench.swap(slot, put);
-        }
+        Write::Swap(slot) => swap(slot, hasher, bench),
     }
+}
+
+// Exchanges the hasher in a slot with the one in hand. It is apart from its caller, since a function
+// clears the places of its large values where it begins.
+#[inline(never)]
+fn swap<B: Bench>(slot: u8, hasher: &mut Option<Measure>, bench: &mut B)
+    requires { WriteInside (B.machine bench.old) (Swap slot) }
+    ensures made { Made (B.did bench.old) (Swap slot) hasher.old bench.new hasher.new }
+    ensures machine { B.machine bench.new ≡ B.machine bench.old }
+{
+    let put = mem::replace(hasher, None);
+    *hasher = bench.swap(slot, put);
 }
