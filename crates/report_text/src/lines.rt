@@ -5,9 +5,9 @@ ghost use Rattle.std.specs.Fmt.{decimal, digits};
 
 use itoa::write_digits;
 
-/// The room of a line. The longest that is written into it is a guest's load, of 60 bytes: a
-/// processor of 3 digits, a dot, a line of 10 digits, ` load 0x`, 16 hexadecimal digits, a space,
-/// 20 digits and a newline.
+/// The room of a line. The longest that is written into it is a guest's load, of 70 bytes where its
+/// line's number is any word: a processor of 3 digits, a dot, 20 digits, ` load 0x`, 16 hexadecimal
+/// digits, a space, 20 digits and a newline.
 pub const ROOM: usize = 72;
 
 static DIGITS: [u8; 16] = *b"0123456789abcdef";
