@@ -52,10 +52,7 @@ pub fn turn_step<'a, B: Bench>(
     match kept.shared {
         Some(_) => turn_shared(&mut kept.shared, bench, turn),
         None => match kept.other {
-            Some(_) => {
-                let other = step;
-                turn_other_step(kept, place, given, tdr, vp, line, other, bench, turn)
-            }
+            Some(_) => turn_other_step(kept, place, given, tdr, vp, line, step, bench, turn),
             None => turn_new_step(kept, place, given, tdr, vp, line, step, bench, turn),
         },
     }
@@ -128,10 +125,7 @@ fn turn_new_step<'a, B: Bench>(
         Step::Operates(operation) => {
             turn_new_operation(kept, place, given, tdr, vp, line, operation, bench, turn)
         }
-        _ => {
-            let other = step;
-            turn_other_step(kept, place, given, tdr, vp, line, other, bench, turn)
-        }
+        _ => turn_other_step(kept, place, given, tdr, vp, line, step, bench, turn),
     }
 }
 

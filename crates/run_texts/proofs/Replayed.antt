@@ -102,22 +102,27 @@ pub ended-flat : TurnsAreEvents → (o : Opening) (left : List ℕ) (sought : St
     → lines_left o p ((play o (order l.made) (start o None)).lps p) ≡ []
 ended-flat ls o left sought lps t p op l inside e = (where-now ls o l.made (seen_at lps) t op l.merge).lines p inside ∙ e
 
--- an item of a processor more, where all before it have ended
-pub one-more-left : TurnsAreEvents → (o : Opening) (sought : State → List ℕ → Type 0) (lps : List LpState) (id : TableId) (b : BenchSeen) (p : ℕ) → IsOpen o → GoesOn o sought → p < length lps → HaveEnded p lps → IsAtBench o [] sought lps id b
-    → IsAtBench o (p ∷ []) sought lps id b
-one-more-left ls o sought lps id b p op on inside ended l = record {
+-- the events stay, where what is sought is found with other items left
+with-left : (o : Opening) (sought : State → List ℕ → Type 0) (lps : List LpState) (id : TableId) (b : BenchSeen) (left others : List ℕ)
+    → ((t : Table) (now : IsMidway o left sought lps t) → sought (play o (order now.made) (start o None)) (others ++ to_the_end 0 o.calls)) → IsAtBench o left sought lps id b
+    → IsAtBench o others sought lps id b
+with-left o sought lps id b left others holds l = record {
   own = l.own;
   is = l.is;
   count = l.count;
   numbered = l.numbered;
   midway = λ t play.
       let now = l.midway t play in
-      record {
-        made = now.made;
-        merge = now.merge;
-        holds = on.one_more (order now.made) p (omega (arith, inside, l.count)) (λ q h. ended-flat ls o [] sought lps t q op now (omega (arith, l.count, h, inside)) (ended q h)) now.holds;
-      };
+      record { made = now.made; merge = now.merge; holds = holds t now };
 }
+
+-- an item of a processor more, where all before it have ended
+pub one-more-left : TurnsAreEvents → (o : Opening) (sought : State → List ℕ → Type 0) (lps : List LpState) (id : TableId) (b : BenchSeen) (p : ℕ) → IsOpen o → GoesOn o sought → p < length lps → HaveEnded p lps → IsAtBench o [] sought lps id b
+    → IsAtBench o (p ∷ []) sought lps id b
+one-more-left ls o sought lps id b p op on inside ended l =
+    with-left o sought lps id b [] (p ∷ [])
+    (λ t now. on.one_more (order now.made) p (omega (arith, inside, l.count)) (λ q h. ended-flat ls o [] sought lps t q op now (omega (arith, l.count, h, inside)) (ended q h)) now.holds)
+    l
 
 no-lines : (cs : List Call) → false ≡ not (length cs == 0) → cs ≡ []
 no-lines cs e = by (eqb_tells (length cs) 0)
@@ -338,15 +343,7 @@ module _ {W : Type 0} (seeks : W → Opening → List ℕ → State → List ℕ
 -- where all have ended no item that is left makes an event
 pub none-left : TurnsAreEvents → (o : Opening) (sought : State → List ℕ → Type 0) (lps : List LpState) (id : TableId) (b : BenchSeen) (left : List ℕ) → IsOpen o → GoesOn o sought → HaveEnded (length lps) lps
     → ((i d : ℕ) → i < length left → get_or left i d < length lps) → IsAtBench o left sought lps id b → IsAtBench o [] sought lps id b
-none-left ls o sought lps id b left op on ended inside l = record {
-  own = l.own;
-  is = l.is;
-  count = l.count;
-  numbered = l.numbered;
-  midway = λ t play.
-      let now = l.midway t play in
-      record { made = now.made; merge = now.merge; holds = passed t now left inside now.holds };
-}
+none-left ls o sought lps id b left op on ended inside l = with-left o sought lps id b left [] (λ t now. passed t now left inside now.holds) l
   where
     passed : (t : Table) (now : IsMidway o left sought lps t) (xs : List ℕ) → ((i d : ℕ) → i < length xs → get_or xs i d < length lps)
         → sought (play o (order now.made) (start o None)) (xs ++ to_the_end 0 o.calls) → sought (play o (order now.made) (start o None)) (to_the_end 0 o.calls)
