@@ -31,8 +31,9 @@ pub fn guest_examples()
 
 /// The two facts beside each row: its act keeps what every world keeps, and it is blind to private
 /// words. And MRTD is read as the digest of what was measured: the records of pages added and of
-/// chunks, in their order, and nothing else. A page that isn't the host's keeps its one use until
-/// PHYMEM.PAGE.RECLAIM gives it back, and no event but a call's act changes what pages are used for.
+/// chunks, in their order, and nothing else. A page that isn't the host's keeps its one use until it is
+/// given back, by PHYMEM.PAGE.RECLAIM, MEM.PAGE.REMOVE or MEM.SEPT.REMOVE, and no event but a call's act
+/// changes what pages are used for.
 pub fn row_laws()
     ensures keep { RowsKeep }
     ensures blind { RowsAreBlind }
@@ -86,9 +87,11 @@ pub fn guest_law()
     ensures run { EnteredAreInGuest }
 {}
 
-/// No stale translation is used: what each cached translation that may still be used, and each walk
-/// under way, says of the secure EPT holds at the start of every run, after each event, whatever
-/// bundles have come in, and so after any schedule. So each access of a guest through a translation
+/// No stale translation is used: each cached translation that may still be used, and each walk under
+/// way, names the page that the secure EPT names there, at the start of every run, after each event,
+/// whatever bundles have come in, and so after any schedule. Where the entry allows less than the
+/// translation does, it was blocked at that epoch or later, or is of a page that went out without a
+/// block. So each access of a guest through a translation
 /// reaches a private page of its own TD, which the TD's map names at that GPA page; a load gives the
 /// word that the guest knows from its own events; and what a store puts there is what it then knows.
 pub fn access_law()
@@ -192,9 +195,10 @@ pub fn measurement_laws()
     ensures rtmrs { EventsExtend }
 {}
 
-/// What the guest of a TD knows of a private page is what the page holds: at the start of every run,
-/// after each event where no stale translation is used, whatever bundles have come in, and so after
-/// any schedule, and it knows nothing of a page whose entry is FREE, PENDING or PENDING_BLOCKED.
+/// What the guest of a TD that isn't in TD_TEARDOWN knows of a private page is what the page holds: at
+/// the start of every run, after each event where no stale translation is used, whatever bundles have
+/// come in, and so after any schedule, and it knows nothing of a page whose entry is FREE, PENDING or
+/// PENDING_BLOCKED.
 pub fn memory_law()
     ensures kept { MemoriesAreKept }
     ensures run { GuestsKnowTheirPages }

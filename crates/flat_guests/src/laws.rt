@@ -4,9 +4,9 @@ ghost use Rattle.flat_guests.specs.Memory.{EventsRemember};
 ghost use Rattle.flat_guests.specs.Told.{EventsTellTheirs};
 
 /// What a TD's guest knows of its private pages after each event: MNG.CREATE begins with nothing
-/// known, MEM.PAGE.ADD with the source's words, `accept` of a page that is PENDING with zeros, a
-/// private store puts its word, MEM.PAGE.REMOVE and PHYMEM.PAGE.RECLAIM end what is known of the page,
-/// and nothing else changes it.
+/// known, MEM.PAGE.ADD with the source's words, IMPORT.MEM with those of its bundle, `accept` of a page
+/// that is PENDING with zeros, a private store puts its word, MEM.PAGE.REMOVE and PHYMEM.PAGE.RECLAIM
+/// end what is known of the page, and nothing else changes it.
 pub fn memory_events()
     ensures { EventsRemember }
 {}

@@ -21,8 +21,8 @@ abbrev pub AccessesKeepOthers : Type 0
 AccessesKeepOthers = (o : Opening) (s : State) (p t v : ℕ) (access : Access) (r gpa page : ℕ)
     → next_event o s p ≡ Some (Reaches t v access r gpa page) → KeepsOthers s.world (event o s p).world access gpa page
 
--- The guest of a TD reaches no page that isn't a private page of its own TD: none of the host's, and none of another TD's,
--- however it was reached before.
+-- No private access of a guest reaches a page that isn't a private page of its own TD: none of the host's, and none of another
+-- TD's, however it was reached before.
 abbrev pub OthersAreNotReached : Type 0
 OthersAreNotReached = (o : Opening) (words_to_tell : Option (List ℕ)) (schedule : List ℕ) (p t v : ℕ) (access : Access) (r gpa page : ℕ)
     → let s = reached o words_to_tell schedule in

@@ -16,7 +16,8 @@ pub fn ownership_law()
 /// In every run each private access of a guest reaches a private page that its own TD owns, and that
 /// the TD's map names at that GPA page; a load gives the word that the guest knows from its own
 /// events, and changes no word of memory; a store puts the register's word into that page, and
-/// changes no other word. So no guest reaches a page while another TD owns it, or the host has it.
+/// changes no other word. So no private access reaches a page while another TD owns it, or the host has
+/// it. (Shared accesses are to pages of the host's alone.)
 pub fn access_law()
     ensures own { AccessesAreOwn }
     ensures alone { AccessesKeepOthers }
