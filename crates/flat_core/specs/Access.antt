@@ -67,8 +67,8 @@ is_pending entry.Pending = true
 is_pending entry.PendingBlocked = true
 is_pending _ = false
 
--- Exempt is a page that is exported and not dirty, while an export may have taken it without a block, as no virtual processor of
--- the TD could run: from the pause on, and in RUNNABLE after an abort (TD Migration Architecture, "Private Memory Migration").
+-- Exempt is a page that an export took without a block, while no virtual processor of the TD could run: from the pause on, and
+-- in RUNNABLE after an abort (TD Migration Architecture, "Private Memory Migration").
 abbrev pub may_be_exempt : OpState → Bool
 may_be_exempt op.PausedExport = true
 may_be_exempt op.PostExport = true

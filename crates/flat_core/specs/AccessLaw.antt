@@ -59,7 +59,7 @@ pub record Stores (o : Opening) (s : State) (p t v r gpa page : ℕ) : Type 0 wh
   pub note : ((event o s p).lps p).notes ≡ (s.lps p).notes
 
 -- In a reader's terms: an access to a word through a translation is one to the guest's own page; a load gives the word that
--- its guest knows, as `memory_events` says of each event; and a store leaves it the register's.
+-- its guest knows from its own events, whatever other processors and the host did; and a store leaves it the register's.
 pub record IsOwnAccess (o : Opening) (s : State) (p t v : ℕ) (access : Access) (r gpa page : ℕ) : Type 0 where
   pub page_is : IsOwnPage s.world t (page_of_gpa gpa) page
   pub load : access ≡ Read → (word : ℕ) × (known_word s.world t gpa ≡ Some word) × Loads o s p v r gpa word

@@ -1,5 +1,5 @@
--- Two worlds that differ in private words alone: the words of private pages, registers, RTMRs, what guests know, the images that
--- were noted, and private payloads. The same words were told, and the bundles made have the same slots and headers.
+-- Two worlds that differ in private words alone: the words of private pages, registers, RTMRs and guests' memories. The
+-- same words were told, and the bundles made have the same slots and headers.
 use Rattle.flat_core.specs.Lawful.{Lawful}
 use Rattle.flat_core.specs.Conditions.{same_kind}
 use Rattle.td_words.specs.declared.machines.Machine.{Machine}

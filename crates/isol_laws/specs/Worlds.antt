@@ -12,8 +12,8 @@ use Rattle.flat_core.specs.TwoWorlds.{AreAlikeStates}
 abbrev pub blind_run : Opening → List ℕ → State
 blind_run o schedule = run_told (blind o) schedule (told_in (run o schedule))
 
--- The two end alike, with no word left to tell: the same but for private pages, registers, RTMRs and guests' memories, and
--- for what guests noted.
+-- The two end alike, with no word left to tell: the same but for private pages, registers and RTMRs, for what guests know and
+-- noted, for the images that were noted, and for the private payloads of bundles that were made.
 abbrev pub BlindRunsAreAlike : Type 0
 BlindRunsAreAlike = (o : Opening) (schedule : List ℕ) → AreAlikeStates (run o schedule) (blind_run o schedule) []
 

@@ -6,10 +6,11 @@ use flat_core::{access_law, alike_laws};
 
 /// Under every schedule a run and the one with every private word 0, in which guests tell the same, end
 /// alike: pages of the host, TDs, virtual processors, locks, cached translations, walks and replies are
-/// the same, and private pages, registers and RTMRs alone may differ, with what guests noted. So what a
-/// run prints, and the public part of the bundles that it makes, are the same whatever the private words
-/// are, apart from what guests tell; and the same for any two openings that agree on all that is public,
-/// as two that differ in secret words alone do.
+/// the same. Private pages, registers and RTMRs alone may differ, with what guests know and noted, the
+/// images that were noted, and the private payloads of bundles that were made. So what a run prints, and
+/// the public part of the bundles that it makes, are the same whatever the private words are, apart from
+/// what guests tell; and the same for any two openings that agree on all that is public, as two that
+/// differ in secret words alone do.
 pub fn two_world_law()
     ensures alike { BlindRunsAreAlike }
     ensures prints { BlindRunsPrintTheSame }

@@ -1,5 +1,5 @@
--- The law of the image: a TD whose import is committed starts from what its source was at the pause, unless a tag was forged (TD
--- Migration Architecture, "Migration Session Control").
+-- The law of the image: a TD whose import is committed starts from what its source was at the pause, where each bundle that came
+-- in and opened is of that source (TD Migration Architecture, "Migration Session Control").
 use Rattle.std.specs.Prelude.{◌≡◌, ℕ, ◌%◌, ◌^◌, ◌<◌, List, ◌∷◌, ◌++◌, length, Option, Some, Ok, true, false, ◌==◌, ◌&&◌, All, slice_get}
 use Rattle.std.specs.List.{list_any}
 use Rattle.flat_core.specs.World.{World, VpImage, Image, ClearHeader, Made}
@@ -22,8 +22,8 @@ pub record IsMade (h : ClearHeader) (payload : List ℕ) (bundles : List Made) :
   pub same_header : bundle.header ≡ h
   pub same_words : bundle.payload ≡ payload
 
--- No tag is forged: each bundle of types 0 to 5 that comes in and opens was made by the source. One of type 6 goes back to the
--- source, under another key.
+-- No tag is forged, and nobody else has the key: each bundle of types 0 to 5 that comes in and opens, of whatever session, was made
+-- by the source. One of type 6 goes back to the source, under another key.
 abbrev pub Unforged : Opening → List Made → Type 0
 Unforged o bundles = (slot : ℕ) (b : Incoming) (h : ClearHeader) → o.bundles slot ≡ Some b → b.header ≡ Ok h → b.«opens» ≡ true → (h.kind == 6) ≡ false → IsMade h b.payload bundles
 

@@ -45,7 +45,7 @@ pub record IsSent (w : World) (t n : ℕ) (payload : List ℕ) : Type 0 where
 abbrev pub ArePagesSent : World → Type 0
 ArePagesSent w = (t n : ℕ) (payload : List ℕ) → IsExporting w t → last_payload (w.tds.sessions t) n w.outgoing.bundles ≡ Some payload → IsSent w t n payload
 
--- While its TD runs, an exported page that is neither dirty nor writable is blocked for writing, and that is tracked.
+-- In LIVE_EXPORT an exported page that is neither dirty nor writable is blocked for writing, and that is tracked.
 abbrev pub AreSentTracked : World → Type 0
 AreSentTracked w = (t n : ℕ) → IsAlive w.pages w.tds t → w.tds.ops t ≡ LiveExport → (w.tds.entries t 0 n).state ≡ ExportedBlockedW → is_tracked w t (w.tds.entries t 0 n).page ≡ true
 
@@ -72,7 +72,7 @@ EveryPageHoldsItsPayload = HoldsInRuns (λ o s. (t n : ℕ) (payload : List ℕ)
 abbrev pub EverySentIsTracked : Type 0
 EverySentIsTracked = HoldsInRuns (λ o s. AreSentTracked s.world)
 
--- So no store of any guest, through whatever translation, reaches a page in EXPORTED_BLOCKEDW while its TD runs.
+-- So no store of any guest, through whatever translation, reaches a page in EXPORTED_BLOCKEDW in LIVE_EXPORT.
 abbrev pub NoStoreReachesSent : Type 0
 NoStoreReachesSent = HoldsInRuns (λ o s. (t n p u v r gpa : ℕ) → IsAlive s.world.pages s.world.tds t → s.world.tds.ops t ≡ LiveExport → (s.world.tds.entries t 0 n).state ≡ ExportedBlockedW
     → next_event o s p ≡ Some (Reaches u v Write r gpa (s.world.tds.entries t 0 n).page) → ⊥)

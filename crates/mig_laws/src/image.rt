@@ -4,10 +4,11 @@ ghost use Rattle.mig_laws.specs.Image.{ImageLaw};
 ghost use Rattle.mig_laws.specs.Imports.{DestinationIsKept};
 ghost use Rattle.mig_laws.specs.Started.{EveryRunIsASource, StartsAreKept};
 
-/// Every TD whose import is committed starts from what its source was at the pause, unless a tag was
-/// forged. Of any two runs, where each bundle of types 0 to 5 that comes into the one and opens was made
-/// by the other: under each session for which the one has noted at IMPORT.COMMIT what the TD starts
-/// with, EXPORT.PAUSE noted an image in the other. The TD has the pages that the session sent, all of
+/// Every TD whose import is committed starts from what its source was at the pause, where all that came
+/// in and opened is of one source. Of any two runs, where each bundle of types 0 to 5 that comes into the
+/// one and opens, of whatever session, was made by the other: under each session for which the one has
+/// noted at IMPORT.COMMIT what the TD starts with, EXPORT.PAUSE noted an image in the other. So it is
+/// unless a tag was forged, or a third run had the same key. The TD has the pages that the session sent, all of
 /// them and no others, each with its last payload, which is the image's 512 words; MRTD and RTMRs are
 /// the image's, and there are as many virtual processors, each with the image's registers and position.
 /// A page of the image that was never sent isn't there.

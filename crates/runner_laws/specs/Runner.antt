@@ -97,12 +97,12 @@ CommitsHold w = (session : ℕ) (start : Image) → w.hidden.given session ≡ S
 abbrev pub CommitsAreKept : Type 0
 CommitsAreKept = IsKept (λ o s. ((IsGuarded o s × ArePagesKnown s.world) × SourceHolds s.world) × CommitsHold s.world)
 
--- In every state of every run no bundle of type 6 has a session that was committed.
+-- In every state of every run no bundle of type 6 that the run made has a session that it committed.
 abbrev pub NoneGivenBack : Type 0
 NoneGivenBack = HoldsInRuns (λ o s. (session : ℕ) (start : Image) → s.world.hidden.given session ≡ Some start → All (λ b. is_forward b ≡ false → b.header.session ≢ session) (bundles_in s))
 
--- No tag is forged, from the source nor back to it: each bundle of types 0 to 5 that comes into the destination, and each of type
--- 6 that comes into the source, was made by the other where it opens.
+-- No tag is forged, and no third run has the keys: each bundle of types 0 to 5 that comes into the destination, of whatever session,
+-- and each of type 6 that comes into the source, was made by the other where it opens.
 pub record AreUnforged (source destination : Opening) (made back : List Made) : Type 0 where
   pub forward : Unforged destination made
   pub returned : (slot : ℕ) (b : Incoming) (h : ClearHeader) → source.bundles slot ≡ Some b → b.header ≡ Ok h → b.«opens» ≡ true → h.kind ≡ 6 → IsMade h b.payload back

@@ -1,10 +1,11 @@
 -- The text that is put is the same in two worlds.
-use Rattle.std.proofs.Common.{ℕ, List, Option, Some, None, Ok, IfSome}
+use Rattle.std.proofs.Common.{ℕ, List, Option, Some, None, Result, Ok, IfSome}
 use Rattle.flat_core.specs.Opening.{Opening}
 use Rattle.flat_core.specs.HostText.{host_text}
 use Rattle.flat_core.specs.AccessLaw.{AccessesAreOwn}
 use Rattle.isol_laws.specs.Worlds.{BlindRunsPrintTheSame, BlindRunsMakeTheSameBundles, AgreeingRunsShowTheSame}
 use Rattle.bundle_store.specs.History.{Loaded, Put}
+use Rattle.bundle_store.specs.declared.outside.PutFault.{PutFault}
 use Rattle.script_text.specs.Seen.{ScriptSeen}
 use Rattle.command_files.specs.Commands.{CommandSeen, Replay, Run, Check}
 use Rattle.script_runner.specs.Ending.{success_end, handed_held, HandedOut, opening_by}
@@ -38,17 +39,18 @@ module _ (prints : BlindRunsPrintTheSame) (bundles : BlindRunsMakeTheSameBundles
   one-blind (Some k) c old new w w' h =
       (h, has_blind_text h.command h.script (handed_held k h.command) h.order)
 
-  -- with the accesses of the same run, and what it committed
-  pub holds-of-run : AccessesAreOwn → ImageLaw → (k : CommandSeen) (s : ScriptSeen) (handed : HandedOut) (order : List ℕ) → ThreadsOf k s handed order (success_end k s handed order) → HoldsOfRun k s handed order
-  holds-of-run law image k s handed order threads = record {
+  -- with the accesses of the same run, what it committed, and what its container brings over
+  pub holds-of-run : AccessesAreOwn → ImageLaw → CarryingLaws → (c : Option CommandSeen) (loads loads' : List Loaded) (puts puts' : List Put) (answer : Result (Unit {0}) PutFault) (r : PutsRun c loads loads' puts puts' answer)
+      → ThreadsOf r.command r.script r.handed r.order (success_end r.command r.script r.handed r.order) → HoldsOfRun r.command r.script r.handed r.order
+  holds-of-run law image laws c loads loads' puts puts' answer r threads = record {
     threads = threads;
-    accesses = own-accesses law (opening_by handed s) order;
-    blind = has_blind_text k s handed order;
-    images = starts-from-pauses image (opening_by handed s) order;
+    accesses = own-accesses law (opening_by r.handed r.script) r.order;
+    blind = has_blind_text r.command r.script r.handed r.order;
+    images = starts-from-pauses image (opening_by r.handed r.script) r.order;
+    brings = of_run laws c loads loads' puts puts' answer r;
   }
 
   pub headline : AccessesAreOwn → ImageLaw → CarryingLaws → (c : Option CommandSeen) (loads loads' : List Loaded) (puts puts' : List Put) (w w' : Writes) → PutsThreads c loads loads' puts puts' w w'
       → PutsHeadline c loads loads' puts puts' w w'
   headline law image laws c loads loads' puts puts' w w' h =
-      let r = h.0 in
-      record { run = r; saved = h.1; holds = holds-of-run law image r.command r.script r.handed r.order h.2; brings = of_run laws c loads loads' puts puts' (Ok tt) r }
+      record { run = h.0; saved = h.1; holds = holds-of-run law image laws c loads loads' puts puts' (Ok tt) h.0 h.2 }

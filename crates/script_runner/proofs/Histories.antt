@@ -1,29 +1,23 @@
 -- What the call's histories say of each status, and what changes.
 use Rattle.std.proofs.Common.{◌≡◌, ◌≢◌, ◌⊎◌, inl, inr, refl, sym, ◌∙◌, ap, subst, ℕ, List, [], ◌∷◌, ◌++◌, append-nil, append_assoc, length, ◌≤◌, Option, Some, None, IfSome, IfNone, Result, Ok, Err, true, false, ◌==◌, arith}
 use Rattle.std.proofs.lemmas.Bool.Decides.{eqb_tells}
-use Rattle.std.specs.Global.{Vec}
-use Rattle.script_text.specs.declared.faults.ScriptFault.{ScriptFault}
-use Rattle.script_text.specs.Reading.{read_of}
-use Rattle.script_text.specs.Seen.{ScriptSeen}
-use Rattle.script_text.specs.Needs.{needs_keys}
-use Rattle.bundle_store.specs.declared.outside.LoadFault.{LoadFault}
-use Rattle.bundle_store.specs.declared.outside.LoadFault.TheVariants as load
 use Rattle.bundle_store.specs.declared.outside.PutFault.{PutFault}
 use Rattle.bundle_store.specs.declared.outside.PutFault.TheVariants as put
 use Rattle.bundle_store.specs.Outside.{Rose, Gains}
-use Rattle.bundle_store.specs.History.{Put}
-use Rattle.command_files.specs.Commands.{NamedSeen, CommandSeen, Replay, Run, Check, named_of}
+use Rattle.bundle_store.specs.History.{Loaded, Put}
+use Rattle.command_files.specs.Commands.{NamedSeen, CommandSeen, Check, named_of}
 use Rattle.command_files.specs.declared.inputs.InputFault.{InputFault}
 use Rattle.command_files.specs.declared.inputs.InputFault.TheVariants as fault
 use Rattle.command_files.specs.Inputs.{Reads}
-use Rattle.script_runner.specs.Ending.{ToSave, Ended, memory_end, keys_end, secrets_end, unwritten_end, success_end, ending_of, HandedOut}
+use Rattle.script_runner.specs.Ending.{ToSave, Ended, memory_end, keys_end, secrets_end, unwritten_end, success_end, ending_of}
 use Rattle.script_runner.specs.Saving.{Writes, AllSaved, out_names}
 use Rattle.script_runner.specs.Ends.{Faults, ReadCause, WriteCause, EndsWith, OneRun, ShowsThreads, IsBadScript, IsBadContainer, IsBadKeysOrSecrets, IsComplete, PutsFrontsOf}
 use Rattle.script_runner.specs.Threads.{ThreadsOf}
 use Rattle.script_runner.specs.Done.{PutsOnce, PutsText, HoldsOfRun, PutsRun, PutsAndSaved, PutsUsage, PutsFault, PutsName, PutsPlace, PutsLength, before_keys, before_secrets, PutsKeysOrSecrets, PutsThreads, PutsLost, PutsMemory, SavesNothing, ChangesNothing, SavesFront, KeepsOrSaves}
 use Rattle.script_runner.specs.Promised.{LoadsSome}
 use Rattle.script_runner.proofs.Asked.{asks}
-use Rattle.script_runner.specs.Commanded.{Comes, ComesPart, AnswerEnd, ScriptEnd, ReadEnd, FurtherPart, Outputs, Puts, DoesCommand}
+use Rattle.script_runner.proofs.Loading.{answer_part}
+use Rattle.script_runner.specs.Commanded.{Comes, ComesPart, Outputs, Puts, DoesCommand}
 use Rattle.script_runner.proofs.Closing.{Closing, closing, saved_later, unput, never_zero, Told, Lost, Wanting, Whole, Unsaved, WantingAfter}
 use Rattle.script_runner.proofs.Came.{Came, LengthCame, SomeLength, came, files_few, rose_earlier, Usage, Unread, BadScript, Want, Place, WrongLength, Success}
 use Rattle.script_runner.proofs.Told as told
@@ -148,22 +142,6 @@ module _ (contents : Option (List ℕ → Option (List ℕ))) (c : Option Comman
   rose_due (Success k is_c given loaded s reads handed out order is_order is threads) st = absurd (let t = ap (λ (x : Ended). x.status) is in let z = success_zero k s handed order in omega (arith, t, z, st))
 
 -- each load, however far the call came
-script_part : (contents : Option (List ℕ → Option (List ℕ))) (c : CommandSeen) (s : ScriptSeen) (b r' : Reads) (e : Ended) → ScriptEnd contents c s b r' e → FurtherPart contents c b r'
-script_part contents (Replay n) s b r' e (res, takes, ends) = inr (needs_keys s.calls, res, takes)
-script_part contents (Run n) s b r' e (res, takes, ends) = inr (needs_keys s.calls, res, takes)
-script_part contents (Check name) s b r' e h = inl h.0
-
-read_part : (contents : Option (List ℕ → Option (List ℕ))) (c : CommandSeen) (b r' : Reads) (read : Result ScriptSeen ScriptFault) (e : Ended) → ReadEnd contents c b r' read e → FurtherPart contents c b r'
-read_part contents c b r' (Ok s) e h = script_part contents c s b r' e h
-read_part contents c b r' (Err f) e (same, is) = inl same
-
-answer_part : (contents : Option (List ℕ → Option (List ℕ))) (c : CommandSeen) (b r' : Reads) (answer : Result (Vec ℕ) LoadFault) (e : Ended) → AnswerEnd contents c b r' answer e → FurtherPart contents c b r'
-answer_part contents c b r' (Ok given) e h = read_part contents c b r' (read_of given.items) e h
-answer_part contents c b r' (Err load.Absent) e h = inl h.0
-answer_part contents c b r' (Err load.TooLong) e h = inl h.0
-answer_part contents c b r' (Err load.Failed) e h = inl h.0
-answer_part contents c b r' (Err load.OutOfMemory) e h = absurd h
-
 all_loaded : (contents : Option (List ℕ → Option (List ℕ))) (c : Option CommandSeen) (r r' : Reads) (e : Ended) (status : ℕ) → Comes contents (asks c) r r' e → LoadsSome contents c r r' status
 all_loaded contents None r r' e status h = h.0
 all_loaded contents (Some c) r r' e status h = inl (record { answer = h.answer; between = h.between; script_loaded = h.script_loaded; further = answer_part contents c h.between r' h.answer e h.ends })
@@ -177,7 +155,8 @@ some_loaded contents (Some c) r r' status (inr part) five = inl part
 
 -- what holds of each run of a script
 abbrev pub HoldsOfRuns : Type 0
-HoldsOfRuns = (k : CommandSeen) (s : ScriptSeen) (handed : HandedOut) (order : List ℕ) → ThreadsOf k s handed order (success_end k s handed order) → HoldsOfRun k s handed order
+HoldsOfRuns = (c : Option CommandSeen) (loads loads' : List Loaded) (puts puts' : List Put) (answer : Result (Unit {0}) PutFault) (d : PutsRun c loads loads' puts puts' answer)
+    → ThreadsOf d.command d.script d.handed d.order (success_end d.command d.script d.handed d.order) → HoldsOfRun d.command d.script d.handed d.order
 
 -- a file is among so many
 some_named : (names : List (List ℕ)) (files front : List ToSave) (f : ToSave) (rest : List ToSave) → length files ≤ length names → files ≡ front ++ f ∷ rest → names ≢ []
@@ -285,8 +264,8 @@ module _ (names : List (List ℕ)) (e : Ended) (few : length e.files ≤ length 
   )
 
   -- want of memory was put, and nothing before it
-  alone_put : (answer : Result (Unit {0}) PutFault) → PutsOnce o.puts memory_end.text answer o'.puts → PutsMemory names o.puts o'.puts
-  alone_put answer h = (
+  alone_put : (c : Option CommandSeen) (loads loads' : List Loaded) (answer : Result (Unit {0}) PutFault) → PutsOnce o.puts memory_end.text answer o'.puts → PutsMemory c loads loads' names o.puts o'.puts
+  alone_put c loads loads' answer h = (
     [],
     [],
     answer,
@@ -295,14 +274,19 @@ module _ (names : List (List ℕ)) (e : Ended) (few : length e.files ≤ length 
     h ∙ ap (λ (x : List Put). x ++ record { bytes = memory_end.text; answer = answer } ∷ []) (sym (append-nil (o.puts ++ []) ∙ append-nil o.puts)),
   )
 
-  text_put : (answer : Result (Unit {0}) PutFault) → e.text ≡ memory_end.text → PutsOnce o.puts e.text answer o'.puts → PutsMemory names o.puts o'.puts
-  text_put answer memory h = alone_put answer (subst (λ (x : List ℕ). PutsOnce o.puts x answer o'.puts) memory h)
+  text_put : (c : Option CommandSeen) (loads loads' : List Loaded) (answer : Result (Unit {0}) PutFault) → e.text ≡ memory_end.text → PutsOnce o.puts e.text answer o'.puts → PutsMemory c loads loads' names o.puts o'.puts
+  text_put c loads loads' answer memory h = alone_put c loads loads' answer (subst (λ (x : List ℕ). PutsOnce o.puts x answer o'.puts) memory h)
 
-  memory_put : (e.status ≡ 5 → e.text ≡ memory_end.text) → status ≡ 5 → Closing e w w' o o' status → PutsMemory names o.puts o'.puts
-  memory_put memory five (Told puts not_zero is kept) = text_put (Ok tt) (memory (sym is ∙ five)) puts.noted
-  memory_put memory five (Lost puts is kept) =
-      elim (unput e.status status is) [ inl x ↦ absurd (let q = x.1 in omega (arith, q, five)) | inr x ↦ text_put (Err put.Failed) (memory (sym x.1 ∙ five)) puts.noted ]
-  memory_put memory five (Wanting b puts (f, answer, last) kept) = (
+  -- the text of the ending is that of a run, of which all of it holds
+  abbrev Ran : Option CommandSeen → (loads loads' : List Loaded) → Type 0
+  Ran c loads loads' = (d : PutsRun c loads loads' o.puts (o.puts ++ record { bytes = e.text; answer = Ok tt } ∷ []) (Ok tt)) × HoldsOfRun d.command d.script d.handed d.order
+
+  memory_put : (c : Option CommandSeen) (loads loads' : List Loaded) → (e.status ≡ 5 → e.text ≡ memory_end.text) → (e.status ≡ 0 → Ran c loads loads') → status ≡ 5 → Closing e w w' o o' status
+      → PutsMemory c loads loads' names o.puts o'.puts
+  memory_put c loads loads' memory ran five (Told puts not_zero is kept) = text_put c loads loads' (Ok tt) (memory (sym is ∙ five)) puts.noted
+  memory_put c loads loads' memory ran five (Lost puts is kept) =
+      elim (unput e.status status is) [ inl x ↦ absurd (let q = x.1 in omega (arith, q, five)) | inr x ↦ text_put c loads loads' (Err put.Failed) (memory (sym x.1 ∙ five)) puts.noted ]
+  memory_put c loads loads' memory ran five (Wanting b puts (f, answer, last) kept) = (
     [],
     _,
     answer,
@@ -311,22 +295,22 @@ module _ (names : List (List ℕ)) (e : Ended) (few : length e.files ≤ length 
     last.noted ∙ ap (λ (x : List Put). x ++ record { bytes = memory_end.text; answer = answer } ∷ [])
         (puts.noted ∙ ap (λ (x : List Put). x ++ record { bytes = e.text; answer = Err put.OutOfMemory } ∷ []) (sym (append-nil o.puts))),
   )
-  memory_put memory five (Whole puts zero is saved) = absurd (omega (arith, is, five))
-  memory_put memory five (Unsaved front f rest m b answer are all zero puts saves not_want last four) = absurd (omega (arith, four, five))
-  memory_put memory five (WantingAfter front f rest m b b' are all zero puts kept (inl same) (five', answer, last)) = (
-    _,
+  memory_put c loads loads' memory ran five (Whole puts zero is saved) = absurd (omega (arith, is, five))
+  memory_put c loads loads' memory ran five (Unsaved front f rest m b answer are all zero puts saves not_want last four) = absurd (omega (arith, four, five))
+  memory_put c loads loads' memory ran five (WantingAfter front f rest m b b' are all zero puts kept (inl same) (five', answer, last)) = (
+    record { bytes = e.text; answer = Ok tt } ∷ [],
     [],
     answer,
-    inr (named front f rest are, e.text, refl),
+    inr (named front f rest are, ran zero),
     inl refl,
     last.noted ∙ ap (λ (x : List Put). x ++ record { bytes = memory_end.text; answer = answer } ∷ [])
         (ap (λ (x : Outputs). x.puts) same ∙ puts.noted ∙ sym (append-nil (o.puts ++ record { bytes = e.text; answer = Ok tt } ∷ []))),
   )
-  memory_put memory five (WantingAfter front f rest m b b' are all zero puts kept (inr lost) (five', answer, last)) = (
-    _,
+  memory_put c loads loads' memory ran five (WantingAfter front f rest m b b' are all zero puts kept (inr lost) (five', answer, last)) = (
+    record { bytes = e.text; answer = Ok tt } ∷ [],
     _,
     answer,
-    inr (named front f rest are, e.text, refl),
+    inr (named front f rest are, ran zero),
     inr ((unwritten_end f.name).text, refl),
     last.noted ∙ ap (λ (x : List Put). x ++ record { bytes = memory_end.text; answer = answer } ∷ [])
         (lost.noted ∙ ap (λ (x : List Put). x ++ record { bytes = (unwritten_end f.name).text; answer = Err put.OutOfMemory } ∷ []) puts.noted),
@@ -347,7 +331,7 @@ module _ (names : List (List ℕ)) (e : Ended) (few : length e.files ≤ length 
   lost_done holds contents c r r' h four (Told puts not_zero is kept) = absurd (never_four contents c r r' e o.puts o'.puts h (sym is ∙ four))
   lost_done holds contents c r r' h four (Lost puts is kept) =
       elim (unput e.status status is) [
-        | inl x ↦ let (d, same, threads) = run_done contents c r r' e o.puts o'.puts (Err put.Failed) h x.0 puts.noted in inl (d, holds d.command d.script d.handed d.order threads, kept)
+        | inl x ↦ let (d, same, threads) = run_done contents c r r' e o.puts o'.puts (Err put.Failed) h x.0 puts.noted in inl (d, holds c r.loads r'.loads o.puts o'.puts (Err put.Failed) d threads, kept)
         | inr x ↦ absurd (never_four contents c r r' e o.puts o'.puts h (sym x.1 ∙ four))
       ]
   lost_done holds contents c r r' h four (Wanting b puts want kept) = absurd (let q = want.0 in omega (arith, q, four))
@@ -357,7 +341,7 @@ module _ (names : List (List ℕ)) (e : Ended) (few : length e.files ≤ length 
       inr (record {
         between = b.puts;
         replies = d;
-        holds = holds d.command d.script d.handed d.order threads;
+        holds = holds c r.loads r'.loads o.puts b.puts (Ok tt) d threads;
         front = front;
         out = f;
         rest = rest;
@@ -486,10 +470,13 @@ module _ (contents : Option (List ℕ → Option (List ℕ))) (c : Option Comman
   put_lost holds (inl (e, comes, p)) s = lost_done names e (few_of e comes) w w' o o' status holds contents c r r' (came contents c r r' e comes) s (closing e w w' o o' status p)
   put_lost holds (inr (part, kept, want)) s = absurd (let q = want.0 in omega (arith, q, s))
 
-  pub put_memory : Does → status ≡ 5 → PutsMemory names o.puts o'.puts
-  put_memory (inl (e, comes, p)) s =
-      memory_put names e (few_of e comes) w w' o o' status (memory_due contents c r r' e o.puts o'.puts (came contents c r r' e comes)) s (closing e w w' o o' status p)
-  put_memory (inr (part, kept, (five, answer, last))) s = alone_put names memory_end (omega arith) w w' o o' status answer last.noted
+  pub put_memory : HoldsOfRuns → Does → status ≡ 5 → PutsMemory c r.loads r'.loads names o.puts o'.puts
+  put_memory holds (inl (e, comes, p)) s =
+      let h = came contents c r r' e comes in
+      let text : List Put = o.puts ++ record { bytes = e.text; answer = Ok tt } ∷ [] in
+      memory_put names e (few_of e comes) w w' o o' status c r.loads r'.loads (memory_due contents c r r' e o.puts o'.puts h)
+      (λ zero. let (d, same, threads) = run_done contents c r r' e o.puts text (Ok tt) h zero refl in (d, holds c r.loads r'.loads o.puts text (Ok tt) d threads)) s (closing e w w' o o' status p)
+  put_memory holds (inr (part, kept, (five, answer, last))) s = alone_put names memory_end (omega arith) w w' o o' status c r.loads r'.loads answer last.noted
 
   -- check has no inputs whose form could be wrong
   pub check_status : Does → (name : List ℕ) → c ≡ Some (Check name) → status ≤ 7 → status ≤ 5

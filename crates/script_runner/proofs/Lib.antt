@@ -10,6 +10,7 @@ pub mod Closing
 pub mod Came
 pub mod Told
 pub mod Endings
+pub mod Loading
 pub mod Histories
 pub mod Soaked
 pub mod Running

@@ -43,8 +43,8 @@ module _ (access : AccessesAreOwn) (prints : BlindRunsPrintTheSame) (bundles : B
       put_name = past.put_name contents c r r' w w' o o' status d;
       put_place = past.put_place contents c r r' w w' o o' status d;
       put_keys = past.put_keys contents c r r' w w' o o' status d;
-      put_lost = past.put_lost contents c r r' w w' o o' status (blind.holds-of-run prints bundles agreeing access image) d;
-      put_memory = past.put_memory contents c r r' w w' o o' status d;
+      put_lost = past.put_lost contents c r r' w w' o o' status (blind.holds-of-run prints bundles agreeing access image carrying) d;
+      put_memory = past.put_memory contents c r r' w w' o o' status (blind.holds-of-run prints bundles agreeing access image carrying) d;
       read = past.unread_cause contents c r r' w w' o o' status d;
       write = past.lost_cause contents c r r' w w' o o' status d;
       put = past.one_text contents c r r' w w' o o' status d;

@@ -1,5 +1,5 @@
 -- What the words come to, a command on a script with the files that its options name, or a soak: what is loaded, put and saved.
-use Rattle.std.specs.Prelude.{◌≡◌, ◌≢◌, ◌⊎◌, ℕ, ◌^◌, ◌≤◌, List, [], ◌∷◌, slice_index, Bool, Option, Some, None, Result, Ok, Err}
+use Rattle.std.specs.Prelude.{◌≡◌, ◌≢◌, ◌⊎◌, ℕ, ◌^◌, ◌≤◌, List, [], ◌∷◌, slice_index, Option, Some, None, Result, Ok, Err}
 use Rattle.std.specs.Global.{Vec}
 use Rattle.script_text.specs.declared.faults.Reason.TheVariants.{Length}
 use Rattle.script_text.specs.declared.faults.ScriptFault.{ScriptFault}
@@ -74,24 +74,31 @@ pub record Reaches (contents : Option (List ℕ → Option (List ℕ))) (c : Com
   pub script_loaded : Loads contents (2 ^ 24) (script_name c) old answer between
   pub ends : AnswerEnd contents c between new answer e
 
--- behind the script nothing was loaded, or the inputs, of which check has none
-abbrev pub TakesSome : Option (List ℕ → Option (List ℕ)) → NamedSeen → Reads → Reads → Type 0
-TakesSome contents n old new = (needed : Bool) × (r : Result Inputs InputFault) × TakesInputs contents needed n old new r
+-- the inputs of a script were loaded, of which check has none
+abbrev pub TakesSome : Option (List ℕ → Option (List ℕ)) → NamedSeen → ScriptSeen → Reads → Reads → Type 0
+TakesSome contents n s old new = (r : Result Inputs InputFault) × TakesInputs contents (needs_keys s.calls) n old new r
 
-abbrev pub InputsPart : Option (List ℕ → Option (List ℕ)) → CommandSeen → Reads → Reads → Type 0
-InputsPart contents (Replay n) old new = TakesSome contents n old new
-InputsPart contents (Run n) old new = TakesSome contents n old new
-InputsPart contents (Check name) old new = ⊥
+abbrev pub InputsPart : Option (List ℕ → Option (List ℕ)) → CommandSeen → ScriptSeen → Reads → Reads → Type 0
+InputsPart contents (Replay n) s old new = TakesSome contents n s old new
+InputsPart contents (Run n) s old new = TakesSome contents n s old new
+InputsPart contents (Check name) s old new = ⊥
 
-abbrev pub FurtherPart : Option (List ℕ → Option (List ℕ)) → CommandSeen → Reads → Reads → Type 0
-FurtherPart contents c old new = (new ≡ old) ⊎ InputsPart contents c old new
+-- behind a script nothing was loaded, or its inputs; and these only where what was loaded is a script
+abbrev pub ScriptPart : Option (List ℕ → Option (List ℕ)) → CommandSeen → ScriptSeen → Reads → Reads → Type 0
+ScriptPart contents c s old new = (new ≡ old) ⊎ InputsPart contents c s old new
 
--- the same, where memory was wanting on the way: the script alone was loaded, or the inputs too
+abbrev pub ReadPart : Option (List ℕ → Option (List ℕ)) → CommandSeen → Reads → Reads → Result ScriptSeen ScriptFault → Type 0
+ReadPart contents c old new read = (new ≡ old) ⊎ ((s : ScriptSeen) × (read ≡ Ok s) × InputsPart contents c s old new)
+
+abbrev pub AnswerPart : Option (List ℕ → Option (List ℕ)) → CommandSeen → Reads → Reads → Result (Vec ℕ) LoadFault → Type 0
+AnswerPart contents c old new answer = (new ≡ old) ⊎ ((given : Vec ℕ) × (answer ≡ Ok given) × (s : ScriptSeen) × (read_of given.items ≡ Ok s) × InputsPart contents c s old new)
+
+-- the same, where memory was wanting on the way: the script alone was loaded, or its inputs too
 pub record ReachesPart (contents : Option (List ℕ → Option (List ℕ))) (c : CommandSeen) (old new : Reads) : Type 0 where
   pub answer : Result (Vec ℕ) LoadFault
   pub between : Reads
   pub script_loaded : Loads contents (2 ^ 24) (script_name c) old answer between
-  pub further : FurtherPart contents c between new
+  pub further : AnswerPart contents c between new answer
 
 -- words that are no command load nothing, and neither does a soak
 abbrev pub Comes : Option (List ℕ → Option (List ℕ)) → Option AskedSeen → Reads → Reads → Ended → Type 0

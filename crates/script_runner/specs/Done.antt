@@ -79,12 +79,14 @@ pub record AreHandedOut (c : CommandSeen) (loads loads' : List Loaded) (handed :
 
 -- What holds of the run of a script that a command names, under that order of its events: for run the order is one that threads
 -- can have made, each access of guests to their private memory is to a page of their own, what is put is the same in two worlds,
--- and what the run committed starts from the source's pause, unless a tag was forged.
+-- what the run committed starts from the source's pause, where each bundle that came in and opened is that one run's, and the
+-- container that it seals brings over what it paused.
 pub record HoldsOfRun (c : CommandSeen) (s : ScriptSeen) (handed : HandedOut) (order : List ℕ) : Type 0 where
   pub threads : ThreadsOf c s handed order (success_end c s handed order)
   pub accesses : OwnAccesses (opening_by handed s) order
   pub blind : HasBlindText c s handed order (success_end c s handed order).text
   pub images : StartsFromPauses (opening_by handed s) order
+  pub brings : BringsOver handed s order (sealed_by handed s order)
 
 -- The named script was loaded first. What was handed out is in the grammar, and one put was given just the reply lines of the
 -- flat machine's run of it, with the secret words, keys and bundles that were handed out, under one order of its events, which for
@@ -118,14 +120,12 @@ abbrev pub PutsBlind : Option CommandSeen → (loads loads' : List Loaded) → (
 PutsBlind c loads loads' puts puts' =
     (r : PutsRun c loads loads' puts puts' (Ok tt)) × HasBlindText r.command r.script r.handed r.order (success_end r.command r.script r.handed r.order).text
 
--- All of it of one run: its text was put, each file that is named was saved with what it leaves, and it is as threads can have
--- made it, with own accesses, the same in two worlds, and with what starts from pauses; and the container that it seals brings
--- over what it paused.
+-- All of it of one run: its text was put, each file that is named was saved with what it leaves, and all that holds of a run holds
+-- of it.
 pub record PutsHeadline (c : Option CommandSeen) (loads loads' : List Loaded) (puts puts' : List Put) (written written' : Writes) : Type 0 where
   pub run : PutsRun c loads loads' puts puts' (Ok tt)
   pub saved : AllSaved (success_end run.command run.script run.handed run.order).files written written'
   pub holds : HoldsOfRun run.command run.script run.handed run.order
-  pub brings : BringsOver run.handed run.script run.order (sealed_by run.handed run.script run.order)
 
 -- the words are no command; nothing was loaded, and the usage line was put
 abbrev pub PutsUsage : Option CommandSeen → (loads loads' : List Loaded) → (puts puts' : List Put) → Type 0
@@ -274,14 +274,15 @@ PutsLost c loads loads' written written' puts puts' =
 abbrev pub IsWanting : List Put → Type 0
 IsWanting puts = (puts ≡ []) ⊎ ((text : List ℕ) × (puts ≡ record { bytes = text; answer = Err put.OutOfMemory } ∷ []))
 
--- a text that was put where a file was to be saved, or none
-abbrev pub IsPut : List (List ℕ) → List Put → Type 0
-IsPut names puts = (puts ≡ []) ⊎ ((names ≢ []) × (text : List ℕ) × (puts ≡ record { bytes = text; answer = Ok tt } ∷ []))
+-- the text of a run was put where a file was to be saved, and all of it holds of that run; or none was
+abbrev pub IsPut : Option CommandSeen → (loads loads' : List Loaded) → List (List ℕ) → (puts first : List Put) → Type 0
+IsPut c loads loads' names puts first =
+    (first ≡ []) ⊎ ((names ≢ []) × (r : PutsRun c loads loads' puts (puts ++ first) (Ok tt)) × HoldsOfRun r.command r.script r.handed r.order)
 
 -- the last put says that memory was wanting; before it at most one found none, and at most one came through
-abbrev pub PutsMemory : List (List ℕ) → (puts puts' : List Put) → Type 0
-PutsMemory names puts puts' =
-    (first second : List Put) × (answer : Result (Unit {0}) PutFault) × IsPut names first × IsWanting second × PutsOnce ((puts ++ first) ++ second) memory_end.text answer puts'
+abbrev pub PutsMemory : Option CommandSeen → (loads loads' : List Loaded) → List (List ℕ) → (puts puts' : List Put) → Type 0
+PutsMemory c loads loads' names puts puts' =
+    (first second : List Put) × (answer : Result (Unit {0}) PutFault) × IsPut c loads loads' names puts first × IsWanting second × PutsOnce ((puts ++ first) ++ second) memory_end.text answer puts'
 
 -- files are saved only at the statuses 0, 4 and 5
 abbrev pub SavesNothing : List (List ℕ) → ℕ → Type 0

@@ -43,7 +43,7 @@ pub record ByHistories (c : Option CommandSeen) (contents : Option (List ℕ →
   -- prints that agrees on all that is public, and tells the same. The bundles of all these have the same public part. Private are
   -- secret words, and the payloads of states and pages that came in.
   pub put_blind : status ≡ 0 → PutsBlind c loaded.loads loaded'.loads output.puts output'.puts
-  -- Unless a tag was forged, each TD that the run committed started from the pause of its source: of every run that made all
+  -- Each TD that the run committed started from the pause of its source: of every run that made all
   -- bundles that came in and opened, whatever its script.
   pub put_images : status ≡ 0 → (run : PutsRun c loaded.loads loaded'.loads output.puts output'.puts (Ok tt)) × StartsFromPauses (opening_by run.handed run.script) run.order
   -- The container that the run seals brings its bundles over: where a run of any script is handed out just that container and the same
@@ -58,9 +58,10 @@ pub record ByHistories (c : Option CommandSeen) (contents : Option (List ℕ →
   pub put_place : status ≡ 6 → PutsPlace c loaded.loads loaded'.loads output.puts output'.puts
   pub put_keys : status ≡ 7 → PutsKeysOrSecrets c loaded.loads loaded'.loads output.puts output'.puts
   -- At 4 it was given the text of a success, and failed, or else the save of a file did, behind which none was saved; of the run
-  -- whose text that is all holds that holds at 0. At 5 the last put says that memory was wanting.
+  -- whose text that is all holds that holds at 0. At 5 the last put says that memory was wanting; before it the text of a run may have
+  -- been put, of which all of it holds too.
   pub put_lost : status ≡ 4 → PutsLost c loaded.loads loaded'.loads written written' output.puts output'.puts
-  pub put_memory : status ≡ 5 → PutsMemory (out_names c) output.puts output'.puts
+  pub put_memory : status ≡ 5 → PutsMemory c loaded.loads loaded'.loads (out_names c) output.puts output'.puts
   -- The statuses 3 and 4 have their cause.
   pub read : status ≡ 3 → ReadCause contents c loaded.faults loaded'.faults
   pub write : status ≡ 4 → WriteCause (faults_of loaded written output) (faults_of loaded' written' output') (out_names c)

@@ -5,7 +5,7 @@ ghost use Rattle.script_text.specs.Laws.{IsInForm};
 ghost use Rattle.script_text.specs.Reading.{read_of};
 ghost use Rattle.command_files.specs.Commands.{Replay, Run, named_seen, command_seen, script_name};
 ghost use Rattle.script_runner.specs.Ending.{ending_seen};
-ghost use Rattle.script_runner.specs.Commanded.{NamedEnd, TakesSome, ScriptEnd, ReadEnd, AnswerEnd, FurtherPart, Reaches, ReachesPart};
+ghost use Rattle.script_runner.specs.Commanded.{NamedEnd, TakesSome, ScriptEnd, ReadEnd, AnswerEnd, ScriptPart, ReadPart, AnswerPart, Reaches, ReachesPart};
 
 use crate::ending::{Ending, bad, check, of_fault, replay, run, unread};
 use bundle_store::{Files, LoadFault};
@@ -35,7 +35,7 @@ fn of_replay<'a, F: Files>(
 ) -> Result<Ending<'a>, AllocError>
     requires { IsInForm script.now }
     ensures ends { IfOk result (λ e. NamedEnd (F.contents files.old) (Replay (named_seen named.now)) (named_seen named.now) script.now (record { loads = F.loads files.old; faults = F.read_faults files.old; bytes = F.bytes_read files.old }) (record { loads = F.loads files.new; faults = F.read_faults files.new; bytes = F.bytes_read files.new }) (ending_seen e)) }
-    ensures part { TakesSome (F.contents files.old) (named_seen named.now) (record { loads = F.loads files.old; faults = F.read_faults files.old; bytes = F.bytes_read files.old }) (record { loads = F.loads files.new; faults = F.read_faults files.new; bytes = F.bytes_read files.new }) }
+    ensures part { TakesSome (F.contents files.old) (named_seen named.now) script.now (record { loads = F.loads files.old; faults = F.read_faults files.old; bytes = F.bytes_read files.old }) (record { loads = F.loads files.new; faults = F.read_faults files.new; bytes = F.bytes_read files.new }) }
     ensures same { F.contents files.new ≡ F.contents files.old }
     ensures saves { F.saves files.new ≡ F.saves files.old }
     ensures writes { F.write_faults files.new ≡ F.write_faults files.old }
@@ -62,7 +62,7 @@ fn of_run<'a, R: Threads + Sync, F: Files, G: Gate + Sync>(
 ) -> Result<Ending<'a>, AllocError>
     requires { IsInForm script.now }
     ensures ends { IfOk result (λ e. NamedEnd (F.contents files.old) (Run (named_seen named.now)) (named_seen named.now) script.now (record { loads = F.loads files.old; faults = F.read_faults files.old; bytes = F.bytes_read files.old }) (record { loads = F.loads files.new; faults = F.read_faults files.new; bytes = F.bytes_read files.new }) (ending_seen e)) }
-    ensures part { TakesSome (F.contents files.old) (named_seen named.now) (record { loads = F.loads files.old; faults = F.read_faults files.old; bytes = F.bytes_read files.old }) (record { loads = F.loads files.new; faults = F.read_faults files.new; bytes = F.bytes_read files.new }) }
+    ensures part { TakesSome (F.contents files.old) (named_seen named.now) script.now (record { loads = F.loads files.old; faults = F.read_faults files.old; bytes = F.bytes_read files.old }) (record { loads = F.loads files.new; faults = F.read_faults files.new; bytes = F.bytes_read files.new }) }
     ensures same { F.contents files.new ≡ F.contents files.old }
     ensures saves { F.saves files.new ≡ F.saves files.old }
     ensures writes { F.write_faults files.new ≡ F.write_faults files.old }
@@ -89,7 +89,7 @@ fn of_script<'a, R: Threads + Sync, F: Files, G: Gate + Sync>(
 ) -> Result<Ending<'a>, AllocError>
     requires form { IsInForm script.now }
     ensures ends { IfOk result (λ e. ScriptEnd (F.contents files.old) (command_seen command.now) script.now (record { loads = F.loads files.old; faults = F.read_faults files.old; bytes = F.bytes_read files.old }) (record { loads = F.loads files.new; faults = F.read_faults files.new; bytes = F.bytes_read files.new }) (ending_seen e)) }
-    ensures part { FurtherPart (F.contents files.old) (command_seen command.now) (record { loads = F.loads files.old; faults = F.read_faults files.old; bytes = F.bytes_read files.old }) (record { loads = F.loads files.new; faults = F.read_faults files.new; bytes = F.bytes_read files.new }) }
+    ensures part { ScriptPart (F.contents files.old) (command_seen command.now) script.now (record { loads = F.loads files.old; faults = F.read_faults files.old; bytes = F.bytes_read files.old }) (record { loads = F.loads files.new; faults = F.read_faults files.new; bytes = F.bytes_read files.new }) }
     ensures same { F.contents files.new ≡ F.contents files.old }
     ensures saves { F.saves files.new ≡ F.saves files.old }
     ensures writes { F.write_faults files.new ≡ F.write_faults files.old }
@@ -116,7 +116,7 @@ fn of_bytes<'a, R: Threads + Sync, F: Files, G: Gate + Sync>(
     gate: &G,
 ) -> Result<Ending<'a>, AllocError>
     ensures ends { IfOk result (λ e. ReadEnd (F.contents files.old) (command_seen command.now) (record { loads = F.loads files.old; faults = F.read_faults files.old; bytes = F.bytes_read files.old }) (record { loads = F.loads files.new; faults = F.read_faults files.new; bytes = F.bytes_read files.new }) (read_of bytes.items) (ending_seen e)) }
-    ensures part { FurtherPart (F.contents files.old) (command_seen command.now) (record { loads = F.loads files.old; faults = F.read_faults files.old; bytes = F.bytes_read files.old }) (record { loads = F.loads files.new; faults = F.read_faults files.new; bytes = F.bytes_read files.new }) }
+    ensures part { ReadPart (F.contents files.old) (command_seen command.now) (record { loads = F.loads files.old; faults = F.read_faults files.old; bytes = F.bytes_read files.old }) (record { loads = F.loads files.new; faults = F.read_faults files.new; bytes = F.bytes_read files.new }) (read_of bytes.items) }
     ensures same { F.contents files.new ≡ F.contents files.old }
     ensures saves { F.saves files.new ≡ F.saves files.old }
     ensures writes { F.write_faults files.new ≡ F.write_faults files.old }
@@ -147,7 +147,7 @@ fn of_answer<'a, R: Threads + Sync, F: Files, G: Gate + Sync>(
     gate: &G,
 ) -> Result<Ending<'a>, AllocError>
     ensures ends { IfOk result (λ e. AnswerEnd (F.contents files.old) (command_seen command.now) (record { loads = F.loads files.old; faults = F.read_faults files.old; bytes = F.bytes_read files.old }) (record { loads = F.loads files.new; faults = F.read_faults files.new; bytes = F.bytes_read files.new }) answer (ending_seen e)) }
-    ensures part { FurtherPart (F.contents files.old) (command_seen command.now) (record { loads = F.loads files.old; faults = F.read_faults files.old; bytes = F.bytes_read files.old }) (record { loads = F.loads files.new; faults = F.read_faults files.new; bytes = F.bytes_read files.new }) }
+    ensures part { AnswerPart (F.contents files.old) (command_seen command.now) (record { loads = F.loads files.old; faults = F.read_faults files.old; bytes = F.bytes_read files.old }) (record { loads = F.loads files.new; faults = F.read_faults files.new; bytes = F.bytes_read files.new }) answer }
     ensures same { F.contents files.new ≡ F.contents files.old }
     ensures saves { F.saves files.new ≡ F.saves files.old }
     ensures writes { F.write_faults files.new ≡ F.write_faults files.old }

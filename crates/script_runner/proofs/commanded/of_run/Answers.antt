@@ -9,3 +9,9 @@ returns-in-Err-clause-ends g c =
 pub returns-in-Ok-clause-ends : goal.returns-in-Ok-clause-ends
 returns-in-Ok-clause-ends g c =
     run_ends _ (Run (named_seen c.args.named.now)) _ c.args.script.now _ _ c.in-Ok.inputs c.run.result (rw c.needs_keys.ensures at c.in-Ok.ensures.takes) c.run.ensures
+
+pub returns-in-Err-clause-part : goal.returns-in-Err-clause-part
+returns-in-Err-clause-part g c = (_, rw c.needs_keys.ensures at c.in-Err.ensures.takes)
+
+pub returns-in-Ok-clause-part : goal.returns-in-Ok-clause-part
+returns-in-Ok-clause-part g c = (_, rw c.needs_keys.ensures at c.in-Ok.ensures.takes)
