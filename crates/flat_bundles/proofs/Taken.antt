@@ -1,5 +1,5 @@
 -- What a row looks at of the bundles that have come in; and that a run goes by no others than its lines'.
-use Rattle.std.proofs.Common.{◌≡◌, refl, ◌∙◌, ap, subst, ℕ, ◌+◌, List, [], ◌∷◌, length, Option, Some, None, Bool, true, false}
+use Rattle.std.proofs.Common.{◌≡◌, refl, ◌∙◌, ap, subst, ℕ, ◌+◌, List, [], ◌∷◌, ◌++◌, length, Option, Some, None, Bool, true, false}
 use Rattle.std.specs.List.{All}
 use Rattle.std.specs.Prelude.{nat_le}
 use Rattle.std.proofs.lemmas.List.Elements.{All-head, All-drop}
@@ -18,17 +18,20 @@ use Rattle.flat_core.specs.ImportRows.{import_immutable, import_page, import_tok
 use Rattle.flat_core.specs.Guest.{operation_of}
 use Rattle.flat_core.specs.Event.{State, Event, start, event, after_event, event_for, line_event, entered_event, epoch_event, is_epoch_lock, guest_event, staying_event, due_event, operation_due, max_event, operation_event, lines_left, calls_of}
 use Rattle.flat_core.specs.Run.{play}
-use Rattle.flat_core.specs.Laws.{with_bundles}
-use Rattle.flat_bundles.specs.Taken.{TakesTheSame, CallsTakeTheirOwn, CallsNeedTheirOwn, RunsTakeTheirOwn}
+use Rattle.flat_core.specs.Laws.{reached}
+use Rattle.flat_bundles.specs.Taken.{TakesTheSame, CallsTakeTheirOwn, CallsNeedTheirOwn, RunsTakeTheirOwn, GoOnAlike, with_lines, RunsGoOnAlike}
+
+lines-take : (o : Opening) (calls : List (List Call)) (bundles : ℕ → Option Incoming) (me : ℕ) (c : Call) → TakesTheSame bundles o.bundles c → row_of (with_lines o calls bundles) me c ≡ row_of o me c
+lines-take o calls bundles me (call.ExportAbortByToken tdr slot) same = ap (λ (b : Option Incoming). abort_by_token o.machine b tdr slot) (same slot refl)
+lines-take o calls bundles me (call.ImportStateImmutable tdr slot) same = ap (λ (b : Option Incoming). import_immutable o.machine b tdr slot) (same slot refl)
+lines-take o calls bundles me (call.ImportMem tdr slot page) same = ap (λ (b : Option Incoming). import_page o.machine b tdr slot page) (same slot refl)
+lines-take o calls bundles me (call.ImportTrack tdr slot) same = ap (λ (b : Option Incoming). import_token o.machine b tdr slot) (same slot refl)
+lines-take o calls bundles me (call.ImportStateTd tdr slot) same = ap (λ (b : Option Incoming). import_td o.machine b tdr slot) (same slot refl)
+lines-take o calls bundles me (call.ImportStateVp tdr vp slot) same = ap (λ (b : Option Incoming). import_vp o.machine b tdr vp slot) (same slot refl)
+lines-take o calls bundles me _ same = refl
 
 pub calls-take : CallsTakeTheirOwn
-calls-take o bundles me (call.ExportAbortByToken tdr slot) same = ap (λ (b : Option Incoming). abort_by_token o.machine b tdr slot) (same slot refl)
-calls-take o bundles me (call.ImportStateImmutable tdr slot) same = ap (λ (b : Option Incoming). import_immutable o.machine b tdr slot) (same slot refl)
-calls-take o bundles me (call.ImportMem tdr slot page) same = ap (λ (b : Option Incoming). import_page o.machine b tdr slot page) (same slot refl)
-calls-take o bundles me (call.ImportTrack tdr slot) same = ap (λ (b : Option Incoming). import_token o.machine b tdr slot) (same slot refl)
-calls-take o bundles me (call.ImportStateTd tdr slot) same = ap (λ (b : Option Incoming). import_td o.machine b tdr slot) (same slot refl)
-calls-take o bundles me (call.ImportStateVp tdr vp slot) same = ap (λ (b : Option Incoming). import_vp o.machine b tdr vp slot) (same slot refl)
-calls-take o bundles me _ same = refl
+calls-take o bundles me c same = lines-take o o.calls bundles me c same
 
 -- where there is none, that there is one doesn't hold
 none-there : (bundles : ℕ → Option Incoming) (named slot : ℕ) → Some named ≡ Some slot → bundles slot ≡ None → (input_in (bundles named)).there ≡ true → ⊥
@@ -46,11 +49,11 @@ calls-need o me (call.ImportStateTd tdr named) slot w is none ps = none-there o.
 calls-need o me (call.ImportStateVp tdr vp named) slot w is none ps = none-there o.bundles named slot is none ps.1.1.1.0
 calls-need o me _ slot w is none ps = cc
 
-module _ (o : Opening) (bundles : ℕ → Option Incoming) where
+module _ (o : Opening) (calls : List (List Call)) (bundles : ℕ → Option Incoming) where
   abbrev q : Opening
-  q = with_bundles o bundles
+  q = with_lines o calls bundles
 
-  -- a guest's next event doesn't go by what has come in
+  -- a guest's next event goes neither by other lines nor by what has come in
   module _ (w : World) (lp : Lp) (g : Guest) where
     operation-same : (line : ℕ) (x : GuestOp) → operation_of q g.tdr g.vp line x ≡ operation_of o g.tdr g.vp line x
     operation-same line (op.Set r v) = refl
@@ -91,21 +94,37 @@ module _ (o : Opening) (bundles : ℕ → Option Incoming) where
   line-same w lp row None = refl
   line-same w lp row (Some g) = entered-same w lp g row lp.call.held
 
-  module _ (same : (p : ℕ) → All (TakesTheSame bundles o.bundles) (calls_of o.calls p)) where
-    lines-same : (w : World) (p : ℕ) (lp : Lp) (cs : List Call) → All (TakesTheSame bundles o.bundles) cs → event_for q w p lp cs ≡ event_for o w p lp cs
-    lines-same w p lp [] alike = refl
-    lines-same w p lp (c ∷ cs) alike =
-        ap (λ (row : Row). Some (line_event q w lp row lp.guest)) (calls-take o bundles p c (All-head (TakesTheSame bundles o.bundles) c cs alike))
-        ∙ ap (λ (e : Event). Some e) (line-same w lp (row_of o p c) lp.guest)
+  -- a line's event is that of the same line
+  lines-same : (w : World) (p : ℕ) (lp : Lp) (cs ds : List Call) → GoOnAlike bundles o.bundles cs ds → event_for q w p lp cs ≡ event_for o w p lp ds
+  lines-same w p lp [] [] h = refl
+  lines-same w p lp (c ∷ cs) (d ∷ ds) h =
+      ap (λ (row : Row). Some (line_event q w lp row lp.guest)) (lines-take o calls bundles p c h.1)
+      ∙ ap (λ (e : Event). Some e) (line-same w lp (row_of o p c) lp.guest)
+      ∙ ap (λ (x : Call). Some (line_event o w lp (row_of o p x) lp.guest)) h.0
+  lines-same w p lp [] (d ∷ ds) h = absurd h
+  lines-same w p lp (c ∷ cs) [] h = absurd h
 
-    event-same : (s : State) (p : ℕ) → event q s p ≡ event o s p
-    event-same s p =
-        ap (after_event p s)
-        (lines-same s.world p (s.lps p) (lines_left o p (s.lps p)) (All-drop (TakesTheSame bundles o.bundles) (length (s.lps p).replies) (calls_of o.calls p) (same p)))
+  so-far : (ps : List ℕ) (s : State)
+      → ((front : List ℕ) (p : ℕ) (back : List ℕ) → ps ≡ front ++ p ∷ back → let lp = (play o front s).lps p in GoOnAlike bundles o.bundles (lines_left q p lp) (lines_left o p lp)) → play q ps s ≡ play o ps s
+  so-far [] s h = refl
+  so-far (p ∷ ps) s h =
+      ap (λ (e : Option Event). play q ps (after_event p s e)) (lines-same s.world p (s.lps p) (lines_left q p (s.lps p)) (lines_left o p (s.lps p)) (h [] p ps refl))
+      ∙ so-far ps (event o s p) (λ front r back is. h (p ∷ front) r back (ap (λ (xs : List ℕ). p ∷ xs) is))
 
-    play-same : (ps : List ℕ) (s : State) → play q ps s ≡ play o ps s
-    play-same [] s = refl
-    play-same (p ∷ ps) s = ap (play q ps) (event-same s p) ∙ play-same ps (event o s p)
+  start-same : (ws : Option (List ℕ)) → length calls ≡ length o.calls → start q ws ≡ start o ws
+  start-same ws few = ap (λ (n : ℕ). record (start o ws) { lp_count = n }) few
+
+pub runs-go-on : RunsGoOnAlike
+runs-go-on o calls bundles ws schedule few h = ap (play (with_lines o calls bundles) schedule) (start-same o calls bundles ws few) ∙ so-far o calls bundles schedule (start o ws) h
+
+-- a list goes on as itself
+same-lines : (these those : ℕ → Option Incoming) (cs : List Call) → All (TakesTheSame these those) cs → GoOnAlike these those cs cs
+same-lines these those [] h = tt
+same-lines these those (c ∷ cs) h = (refl, All-head (TakesTheSame these those) c cs h)
 
 pub runs-take : RunsTakeTheirOwn
-runs-take o bundles ws schedule same = play-same o bundles same schedule (start o ws)
+runs-take o bundles ws schedule same =
+    runs-go-on o o.calls bundles ws schedule refl
+    (λ front p back is.
+    let lp : Lp = (reached o ws front).lps p in
+    same-lines bundles o.bundles (lines_left o p lp) (All-drop (TakesTheSame bundles o.bundles) (length lp.replies) (calls_of o.calls p) (same p)))

@@ -1,7 +1,7 @@
 //! The laws of the bundles of a run's lines, as the contracts of functions that do nothing.
 
 ghost use Rattle.flat_bundles.specs.Bundles.{CallsAddTheirOwn, BundlesAreOfLines};
-ghost use Rattle.flat_bundles.specs.Taken.{CallsTakeTheirOwn, CallsNeedTheirOwn, RunsTakeTheirOwn};
+ghost use Rattle.flat_bundles.specs.Taken.{CallsTakeTheirOwn, CallsNeedTheirOwn, RunsTakeTheirOwn, RunsGoOnAlike};
 ghost use Rattle.flat_bundles.specs.Formed.{EveryBundleIsFormed, FormsAreKept};
 
 /// The act of a call that names an output slot adds one bundle in that slot, of at most 512 words,
@@ -16,11 +16,15 @@ pub fn bundle_law()
 /// A call takes the bundle in the input slot that it names, and no other. Where that bundle is the same
 /// its row is the same, whatever is in the other slots, and so the row of a call that names no input slot
 /// always is; where there is none its conditions never all hold. So a run goes by the bundles in the
-/// slots that its lines name alone: where none names one, by nothing that comes in.
+/// slots that its lines name alone: where none names one, by nothing that comes in. And two runs under
+/// one schedule, with other lines and other bundles, are the same up to the first line that differs, or
+/// that takes another bundle. So a source that runs once more, with further lines and the token that came
+/// back, makes the same bundles up to the line that takes it.
 pub fn input_law()
     ensures calls { CallsTakeTheirOwn }
     ensures needs { CallsNeedTheirOwn }
     ensures runs { RunsTakeTheirOwn }
+    ensures alike { RunsGoOnAlike }
 {}
 
 /// Where no guest's code has more than 256 operations, each bundle that a run makes has the form of its

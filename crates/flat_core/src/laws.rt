@@ -90,8 +90,8 @@ pub fn guest_law()
 /// No stale translation is used: each cached translation that may still be used, and each walk under
 /// way, names the page that the secure EPT names there, at the start of every run, after each event,
 /// whatever bundles have come in, and so after any schedule. Where the entry allows less than the
-/// translation does, it was blocked at that epoch or later, or is of a page that went out without a
-/// block. So each access of a guest through a translation
+/// translation does, it was blocked at that epoch or later, or is of a page that may have gone out
+/// without a block. So each access of a guest through a translation
 /// reaches a private page of its own TD, which the TD's map names at that GPA page; a load gives the
 /// word that the guest knows from its own events; and what a store puts there is what it then knows.
 pub fn access_law()

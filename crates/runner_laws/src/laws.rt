@@ -5,7 +5,8 @@ ghost use Rattle.runner_laws.specs.Runner.{SentTdsRest, CommitsAreKept, NoneGive
 /// Of two hosts that both hold a TD, at most one runs it. Take any two runs, where each bundle of types 0
 /// to 5 that comes into the destination and opens, of whatever session, is made by the source in its run,
 /// and each of type 6 that comes into the source and opens is made by the destination in its run, soon or
-/// late: so it is unless a tag was forged, or a third run had the same key file. A TD that the source paused under a session, and one that the destination imported
+/// late: so it is unless a tag was forged, a third run had the same key file, or one of them both exported
+/// and imported under it. A TD that the source paused under a session, and one that the destination imported
 /// under it, neither torn down since, don't both have a guest on a processor, wherever the two runs stand.
 ///
 /// A TD with a start token rests: after one event of any processor it still does, or it is torn down, or

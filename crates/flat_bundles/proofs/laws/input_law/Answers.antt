@@ -1,4 +1,4 @@
-use Rattle.flat_bundles.proofs.Taken.{calls-take, calls-need, runs-take}
+use Rattle.flat_bundles.proofs.Taken.{calls-take, calls-need, runs-take, runs-go-on}
 use Rattle.flat_bundles.proofs.laws.input_law.Goals as goal
 
 pub returns-clause-calls : goal.returns-clause-calls
@@ -9,3 +9,6 @@ returns-clause-needs c = calls-need
 
 pub returns-clause-runs : goal.returns-clause-runs
 returns-clause-runs c = runs-take
+
+pub returns-clause-alike : goal.returns-clause-alike
+returns-clause-alike c = runs-go-on
