@@ -301,7 +301,7 @@ module _ (names : List (List ℕ)) (e : Ended) (few : length e.files ≤ length 
     record { bytes = e.text; answer = Ok tt } ∷ [],
     [],
     answer,
-    inr (named front f rest are, ran zero),
+    inr (named front f rest are, (ran zero).0, (ran zero).1),
     inl refl,
     last.noted ∙ ap (λ (x : List Put). x ++ record { bytes = memory_end.text; answer = answer } ∷ [])
         (ap (λ (x : Outputs). x.puts) same ∙ puts.noted ∙ sym (append-nil (o.puts ++ record { bytes = e.text; answer = Ok tt } ∷ []))),
@@ -310,7 +310,7 @@ module _ (names : List (List ℕ)) (e : Ended) (few : length e.files ≤ length 
     record { bytes = e.text; answer = Ok tt } ∷ [],
     _,
     answer,
-    inr (named front f rest are, ran zero),
+    inr (named front f rest are, (ran zero).0, (ran zero).1),
     inr ((unwritten_end f.name).text, refl),
     last.noted ∙ ap (λ (x : List Put). x ++ record { bytes = memory_end.text; answer = answer } ∷ [])
         (lost.noted ∙ ap (λ (x : List Put). x ++ record { bytes = (unwritten_end f.name).text; answer = Err put.OutOfMemory } ∷ []) puts.noted),
