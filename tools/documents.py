@@ -2,25 +2,13 @@
 
 Nothing of it is kept here. Where a document hasn't the form that is known, the tool ends with what is wrong."""
 
-import os
 import re
-import sys
 
+from outside import demand, text_of
 from runs import number
 
-TOP = os.path.dirname(os.path.dirname(os.path.realpath(__file__)))
-PROFILE, EVENTS, REFUSALS = "docs/profile.md", "docs/events.md", "docs/refusals.md"
+PROFILE, EVENTS, LOCKS, REFUSALS = "docs/profile.md", "docs/events.md", "docs/generated/locks.md", "docs/refusals.md"
 LOCK = r"(P\(\w+\)|O|T|E|R|K) (sh|ex)"
-
-
-def text_of(name):
-    with open(f"{TOP}/{name}", encoding="utf-8") as file:
-        return file.read()
-
-
-def demand(holds, what):
-    if not holds:
-        sys.exit(f"tools/{os.path.basename(sys.argv[0])}: {what}")
 
 
 def only(pattern, text, what):
@@ -67,6 +55,17 @@ def plain(text):
     return re.sub(r"[*`]", "", text.replace("\\|", "|"))
 
 
+def code_words(cell):
+    """What a cell has in the type of code, each once."""
+    return list(dict.fromkeys(re.findall(r"`([^`\s][^`]*)`", cell)))
+
+
+def number_in(cell, what):
+    """The number that a cell is."""
+    demand(re.fullmatch("[0-9]{1,9}", cell.strip()), f"{what}: {cell} is no number")
+    return int(cell)
+
+
 # The rows of the calls.
 
 
@@ -78,23 +77,33 @@ class Step:
 
 
 class Row:
-    """The row of a call: its form, and its steps in their order."""
+    """The row of a call: its form, its steps in their order, and the value that it shows where it succeeds."""
 
-    def __init__(self, form, steps):
-        self.form, self.name, self.arguments, self.steps = form, form.split()[0], form.split()[1:], steps
+    def __init__(self, form, steps, shows=""):
+        demand(form, "a row of a call has no form")
+        self.form, self.name, self.arguments, self.steps, self.shows = form, form.split()[0], form.split()[1:], steps, shows
+
+    def is_given(self, words):
+        """Whether a call line has as many arguments as this form."""
+        return len(words) == len(self.arguments) + 1
 
     def fits(self, words):
         """Whether a call line with these words has this form: what is no name of an argument stands as it is."""
         named = {}
-        return words[0] == self.name and len(words) == len(self.arguments) + 1 and all(
-            named.setdefault(argument, word) == word if is_argument(argument) else argument == word
+        return words[0] == self.name and self.is_given(words) and all(
+            is_same(named.setdefault(argument, word) if is_argument(argument) else argument, word)
             for argument, word in zip(self.arguments, words[1:])
         )
 
     def value(self, argument, words):
         """The number that a call line gives for an argument, or None."""
-        is_given = argument in self.arguments and is_argument(argument) and len(words) == len(self.arguments) + 1
-        return number(words[self.arguments.index(argument) + 1]) if is_given else None
+        is_there = argument in self.arguments and is_argument(argument) and self.is_given(words)
+        return number(words[self.arguments.index(argument) + 1]) if is_there else None
+
+
+def is_same(word, other):
+    """Whether two words of a script are the same word, or the same number."""
+    return word == other or (number(word) is not None and number(word) == number(other))
 
 
 def is_argument(word):
@@ -112,7 +121,8 @@ class Profile:
         self.beginnings = beginnings(table(calls, "written | stands for, in order"))
         rows = sum(rows_below(calls, "call | conditions and tries | effect | value"), [])
         rows += sum(rows_below(calls, "call | conditions and tries | effect"), [])
-        self.rows = [Row(row[0], self.steps_of(*row[:2])) for row in rows]
+        self.rows = [Row(row[0], self.steps_of(*row[:3]), *row[3:]) for row in rows]
+        self.replies = Replies()
         demand(len(self.rows) > 40, f"only {len(self.rows)} rows of calls in {PROFILE}")
 
     def op_names(self, braces):
@@ -122,10 +132,12 @@ class Profile:
         for part in only(r"\A\{([0-9, to]+)\}", braces[0], f"op states of {braces[0]}").split(","):
             first, *last = map(int, part.split(" to "))
             places += range(first, (last or [first])[0] + 1)
+        demand(ops.keys() >= set(places), f"{PROFILE} has no op states {braces[0]}")
         return " or ".join(", ".join(ops[place] for place in places).rsplit(", ", 1))
 
-    def steps_of(self, form, cell):
-        """The steps of a row, with its beginning written out."""
+    def steps_of(self, form, cell, effect):
+        """The steps of a row, with its beginning written out. Where op states are said of today, they are these."""
+        today = re.search(r"\[Today\]\([^)]*\) (\{[0-9,]+\}) alone", effect)
         steps = [Step("the arguments' rules, one after the other", ["OPERAND_INVALID"])]
         for item in cell.split("; "):
             found = re.match(r"\*\*([^*]+)\*\*(.*)$", item)
@@ -137,6 +149,7 @@ class Profile:
             if found[2]:
                 demand(steps[-1].statuses == ["OP_STATE_INCORRECT"], f"**{found[1]}** doesn't end with the op state")
                 ops = re.sub(r"\*\*[^*]*\*\* ?", "", found[2])
+                ops = re.sub(r"\{[^}]*\}", today[1], ops) + ", today" if today else ops
                 steps[-1] = Step("the op state is" + re.sub(r"\{[^}]*\}", self.op_names, ops), steps[-1].statuses)
         return steps
 
@@ -161,7 +174,13 @@ class Profile:
     def row_of(self, words):
         """The row of a call line: that with its literal words, or the first with so many arguments."""
         fitting = [row for row in self.rows if row.fits(words)]
-        return (fitting or [row for row in self.rows if row.name == words[0] and len(row.arguments) == len(words) - 1] or [None])[0]
+        return (fitting or [row for row in self.rows if row.name == words[0] and row.is_given(words)] or [None])[0]
+
+    def answers(self, row, words, reply, is_whole=True):
+        """Whether the call of a row may have that reply, or one that begins so."""
+        status, *shown = reply.split() or [""]
+        forms = self.replies.forms_of(row, status)
+        return is_one_of(forms, shown, is_whole) and (status in ("SUCCESS", "EXIT") or bool(refusing(row, words, reply)))
 
 
 def forms_written(written, means, fails):
@@ -205,29 +224,100 @@ def beginnings(rows):
     return found
 
 
+# What replies may be.
+
+
+class Replies:
+    """The forms of replies, each a pattern for every word behind the status."""
+
+    def __init__(self):
+        sets = table(section(PROFILE, "## Names and numbers"), "set | names, from number 0 | models")
+        self.names = {of: "|".join(re.findall(r"\b[A-Z][A-Z_]+\b", cell)) for of, cell, _ in sets}
+        shown = [row[1:3] for row in table(section(PROFILE, "## Replies"), "no. | status | shows | comes exactly where, in the order of the row")]
+        self.refusals = {status: self.shown(shows) for status, shows in shown if status != "SUCCESS"}
+        exits = [plain(row[0]) for row in table(section(PROFILE, "## Guest code"), "exit | exactly where")]
+        self.exits = sum((self.exit_forms(text) for text in exits), [])
+
+    def shown(self, shows):
+        """The forms of what is shown: a name of a set or of these, a lock, or numbers."""
+        if shows in self.names:
+            return [[self.names[shows]]]
+        if " or " in shows:
+            return [["|".join(re.split(", | or ", shows))]]
+        return LOCK_FORMS if shows == "lock" else [["[0-9]+"] * len(shows.split(", "))] if shows else [[]]
+
+    def exit_forms(self, text):
+        """The forms of an exit."""
+        kinds = {"value": [["[0-9]+"]], "gpa": [["0x[0-9a-f]+"]], "lock": LOCK_FORMS}
+        forms = [[]]
+        for word in text.replace(" or ", "|").split():
+            forms = [form + more for form in forms for more in kinds.get(word, [[word]])]
+        return forms
+
+    def value_forms(self, shows):
+        """The forms of the value that a row shows."""
+        kinds = {
+            "": [[]], "the word": [["[0-9]+"]], "TD_EPOCH": [["[0-9]+"]], "MRTD": [["[0-9a-f]{96}"]],
+            "kind, owner, BEPOCH": [[self.names["page kind"], "[0-9]+", "[0-9]+"]],
+            "state, and the page where it isn't FREE": [["FREE"], [self.names["entry state"], "[0-9]+"]],
+        }
+        shows = shows.split("; ")[0]
+        demand(shows in kinds or shows in self.names, f"{PROFILE} has no known form of the value `{shows}`")
+        return kinds.get(shows) or self.shown(shows)
+
+    def forms_of(self, row, status):
+        """The forms of what a call shows behind that status, where it may have it."""
+        enters = row.shows.startswith("EXIT")
+        if status in ("SUCCESS", "EXIT"):
+            return [] if enters == (status == "SUCCESS") else self.exits if enters else self.value_forms(row.shows)
+        return self.refusals.get(status, [])
+
+
+LOCK_FORMS = [["P", "[0-9]+"], ["[OTERK]"]]
+
+
+def is_one_of(forms, words, is_whole):
+    """Whether words have one of the forms, or begin so."""
+    return any((len(words) == len(form) or (not is_whole and len(words) < len(form))) and all(map(re.fullmatch, form, words)) for form in forms)
+
+
 # Which step of a row refused.
 
 
 def refusing(row, words, reply):
-    """The steps of a call's row that may answer a refusal."""
+    """The steps of a call's row that may answer a refusal, or one that begins so."""
     status, *shown = reply.split()
     steps = [step for step in row.steps if status in step.statuses]
-    narrower = NARROWER.get(status)
-    return (narrower and narrower(row, words, steps, shown)) or steps
+    return NARROWER[status](row, words, steps, shown) if shown and status in NARROWER else steps
+
+
+def by_place(row, words, steps, shown):
+    """The rules of arguments, where there is one of that place."""
+    return steps if any(f"{place}" == shown[0] and is_argument(it) for place, it in enumerate(row.arguments, 1)) else []
 
 
 def by_lock(row, words, steps, shown):
     """Of the tries those of that lock: a page's by its number, which an argument or an entry has."""
-    if shown[:1] != ["P"]:
-        return [step for step in steps if [step.lock] == shown]
-    named = [step for step in steps if f"{row.value(step.lock[2:-1], words)}" == shown[-1]]
-    return named or [step for step in steps if step.lock[2:3].islower()]
+    if shown[0] != "P":
+        return [step for step in steps if step.lock == shown[0]]
+    pages = [step for step in steps if step.lock.startswith("P(")]
+    if shown[1:] and row.is_given(words):
+        named = [step for step in pages if f"{row.value(step.lock[2:-1], words)}" == shown[1]]
+        return named or [step for step in pages if step.lock[2].islower()]
+    return pages
 
 
 def by_page(row, words, steps, shown):
     """Of the conditions on a page's metadata those on the page that has this number."""
+    if not row.is_given(words):
+        return steps
     pages = [argument for argument in row.arguments if f"{row.value(argument, words)}" == shown[0]]
     return [step for step in steps if any(re.match(rf"is {it}\b|(free|own)\({it}\)|(where [^:]*: )?{it} isn't", step.text) for it in pages)]
+
+
+def by_state(row, words, steps, shown):
+    """Of the conditions on a state those that don't allow it; or allow it to some bundles alone."""
+    return [step for step in steps if " where " in step.text or shown[0] not in re.findall("[A-Z_]+", step.text)]
 
 
 def by_word(row, words, steps, shown):
@@ -247,8 +337,9 @@ def by_counter(row, words, steps, shown):
 
 
 NARROWER = {
-    "OPERAND_BUSY": by_lock, "PAGE_METADATA_INCORRECT": by_page, "BUNDLE_HEADER": by_word, "COUNTER_LIMIT": by_counter,
-    "EPT_ENTRY_STATE_INCORRECT": by_entry,
+    "OPERAND_INVALID": by_place, "OPERAND_BUSY": by_lock, "PAGE_METADATA_INCORRECT": by_page, "BUNDLE_HEADER": by_word,
+    "COUNTER_LIMIT": by_counter, "EPT_ENTRY_STATE_INCORRECT": by_entry, "LIFECYCLE_STATE_INCORRECT": by_state,
+    "OP_STATE_INCORRECT": by_state,
 }
 
 
@@ -256,14 +347,14 @@ NARROWER = {
 
 
 class Events:
-    """How many events calls have, by docs/events.md and the rows of docs/profile.md."""
+    """How many events calls have, by docs/generated/locks.md, docs/events.md and the rows of docs/profile.md."""
 
     def __init__(self, profile):
-        document = "\n" + text_of(EVENTS)
         self.profile = profile
-        self.calls = [(Row(form, []), int(most), sum(map(int, events.split(" + ")))) for form, _, most, events in table(document, "call | locks, in order | n | events")]
+        rows = [(row[0], row[2], row[3].split(" + ")) for row in table(text_of(LOCKS), "call | locks, in order | n | events")]
+        self.calls = [(Row(form, []), number_in(most, form), sum(number_in(it, form) for it in parts)) for form, most, parts in rows]
         self.operations = {}
-        for names, _, events in table(document, "operation | locks, in order | events"):
+        for names, _, events in table(text_of(EVENTS), "operation | locks, in order | events"):
             numbers = [int(it) for it in re.findall(r"(?<![A-Za-z] )\b\d+\b(?! -)", events)]
             demand(numbers, f"{EVENTS} has no number of events of {names}")
             walk = re.search(r"else (\d+) of the walk and (\d+) of the access", events)
@@ -276,7 +367,7 @@ class Events:
         one of these."""
         status = reply.split()[0]
         fitting = [it for it in self.calls if it[0].fits(words)]
-        demand(fitting, f"{EVENTS} has no row of {' '.join(words)}")
+        demand(fitting, f"{LOCKS} has no row of {' '.join(words)}")
         _, most, events = min(fitting, key=lambda it: it[1])
         if status == "SUCCESS":
             return events

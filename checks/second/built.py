@@ -37,6 +37,17 @@ def in_memory():
 
 # In it each process that runs the program has a folder. It goes with the process that made it.
 FOLDERS = tempfile.TemporaryDirectory(prefix="tdx-runs-", dir=in_memory())
+OWNER = os.getpid()
+
+
+def leave(number, _frame):
+    """Ends a process that is told to end, and with it the folders that it has made."""
+    if os.getpid() == OWNER:
+        shutil.rmtree(FOLDERS.name, ignore_errors=True)
+    os._exit(128 + number)
+
+
+signal.signal(signal.SIGTERM, leave)
 
 
 class Folder:

@@ -25,6 +25,9 @@ class Ended(Exception):
     """An end in another status than 0, with its text."""
 
 
+FAULTS = (Ended, Fault, BadContainer)
+
+
 def processors_of(script, outside=None):
     """The processors of a script's machine, with their calls."""
     machine = Machine(*script.machine, outside)
@@ -62,12 +65,15 @@ def answer(words, load, late_pages=False):
     try:
         command, word, options = asked(words)
         return 0, *COMMANDS[command](word, options, load, late_pages)
-    except Ended as ended:
-        return *ended.args, {}, []
-    except Fault as fault:
-        return 2, f"{fault}\n", {}, []
-    except BadContainer as bad:
-        return 6, f"bundle file byte {bad}\n", {}, []
+    except FAULTS as fault:
+        return *end_of(fault), {}, []
+
+
+def end_of(fault):
+    """The status and the text in which a fault ends."""
+    if isinstance(fault, Ended):
+        return fault.args
+    return (2, f"{fault}\n") if isinstance(fault, Fault) else (6, f"bundle file byte {fault}\n")
 
 
 def file_at(name):

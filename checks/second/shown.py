@@ -1,25 +1,47 @@
-"""The scripts on which tdx_view's views are compared with the second model's."""
+"""The runs of which tdx_view's views are compared with the second model's."""
 
 import os
+import subprocess
 
 import built
 import generator
 import program
+from gallery import examples
 
 VIEW = os.path.join(built.TOP, "crates", "tdx_view", "out", "tdx_view")
-EXAMPLES = os.path.join(built.TOP, "examples")
 
 
 def cases(count, seed):
-    """The gallery's scripts and so many random ones of that seed, each under its name."""
-    for name in sorted(os.listdir(EXAMPLES)):
-        if os.path.isdir(os.path.join(EXAMPLES, name)):
-            yield name, program.file_at(os.path.join(EXAMPLES, name, "script"))
+    """The gallery's runs and so many of random scripts of that seed: the name of each, its words, and its files by name."""
+    for name, (command, *words), files, _ in examples():
+        if command == "replay":
+            yield name, inputs_of(words), files
     kinds = range(8, generator.KINDS_OF_A_ROUND)
     for place in range(count):
         round_, at = divmod(place, len(kinds))
-        _, files = generator.case(seed, round_ * generator.KINDS_OF_A_ROUND + kinds[at])
-        yield f"random script {place}", files["script"]
+        ((_, *words),), files = generator.case(seed, round_ * generator.KINDS_OF_A_ROUND + kinds[at])
+        yield f"random script {place}", inputs_of(words), files
+
+
+def inputs_of(words):
+    """These words without the files that are saved."""
+    (name,), options = program.options_of(words)
+    return [name, *(word for option in program.INPUTS if option in options for word in (option, options[option]))]
+
+
+def by_program(words, files):
+    """The lines that tdx_view answers to these words, in a folder with these files; where it ends in a fault its status too."""
+    folder = built.folder_of(os.getpid())
+    folder.look()
+    folder.put(files)
+    run = subprocess.run([VIEW, *words], cwd=folder.path, stdout=subprocess.PIPE, timeout=built.SECONDS, check=False)
+    return [f"status {run.returncode}"] * (run.returncode != 0) + run.stdout.decode().splitlines()
+
+
+def of_fault(fault):
+    """The same of a fault of the model."""
+    status, text = program.end_of(fault)
+    return [f"status {status}", *text.splitlines()]
 
 
 def is_built(which):

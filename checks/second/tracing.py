@@ -52,11 +52,21 @@ def events_of(script, lines, processors):
         yield event
 
 
-def trace_of(words, load):
-    """The events of `replay` with these words, which are in form with all that they name."""
+def given(words, load):
+    """The bytes of the script that these words name, the script, and the processors of its run with their input files. No
+    bundle is sealed, so keys are needed beside a container alone."""
     (name,), options = program.options_of(words)
-    files = {option: load(options[option]) for option in program.INPUTS if option in options}
-    files["--bundles"] = bundles_of(files["--bundles"]) if "--bundles" in files else {}
-    script = read(load(name))
-    processors = program.processors_of(script, program.outside_of(script, files))
-    return events_of(script, lines_of_calls(load(name)), processors)
+    text = program.loaded(name, load)
+    script = read(text)
+    files = {option: program.loaded(options[option], load) for option in program.INPUTS if option in options}
+    if "--bundles" in files:
+        files["--bundles"] = bundles_of(files["--bundles"])
+    else:
+        files = {"--bundles": {}, "--keys": bytes(64), **files}
+    return text, script, program.processors_of(script, program.outside_of(script, files))
+
+
+def trace_of(words, load):
+    """The events of the run of these words, or their fault."""
+    text, script, processors = given(words, load)
+    return events_of(script, lines_of_calls(text), processors)

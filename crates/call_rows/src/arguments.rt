@@ -144,7 +144,8 @@ fn arguments_are_judged_first(rt: HostRuntime) -> Result<(), Fail> {
         for lists in [*before, FAULTS, *behind] {
             row.extend_from_slice(lists)?;
         }
-        replays(&rt, rt.alloc(), "1 8 2", "", &[row.as_slice()])?;
+        let line = "replay s --keys k";
+        replays(&rt, rt.alloc(), line, "1 8 2", "", &[row.as_slice()])?;
     }
     Ok(())
 }

@@ -57,7 +57,7 @@ const STREAMS: &[&[&str]] = &[
 
 #[test]
 fn a_td_has_four_streams(rt: HostRuntime) -> Result<(), Fail> {
-    replay_each(&rt, rt.alloc(), "1 32 2", STREAMS)
+    replay_each(&rt, rt.alloc(), "replay s", "1 32 2", STREAMS)
 }
 
 const RESTORES: &[&[&str]] = &[
@@ -83,5 +83,5 @@ const RESTORES: &[&[&str]] = &[
 
 #[test]
 fn an_entry_that_was_not_exported_is_not_restored(rt: HostRuntime) -> Result<(), Fail> {
-    replay_each(&rt, rt.alloc(), "1 32 1", RESTORES)
+    replay_each(&rt, rt.alloc(), "replay s", "1 32 1", RESTORES)
 }

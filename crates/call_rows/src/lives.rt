@@ -110,10 +110,17 @@ const LIVES: &[&[&str]] = &[
 
 #[test]
 fn each_life_state_refuses_its_calls(rt: HostRuntime) -> Result<(), Fail> {
-    replay_each(&rt, rt.alloc(), "1 32 2", LIVES)
+    replay_each(&rt, rt.alloc(), "replay s --keys k", "1 32 2", LIVES)
 }
 
-const TDCX_PAGES: &[&[&str]] = &[
+const FIRST: &[&[&str]] = &[
+    &[
+        BUILT,
+        "SUCCESS TD_KEYS_CONFIGURED | MNG.RD 1 LIFE",
+        "SUCCESS INITIALIZED | MNG.RD 1 OP",
+        "SUCCESS 1 | MNG.RD 1 EPOCH",
+        "OP_STATE_INCORRECT INITIALIZED | MNG.RD 1 MRTD",
+    ],
     &[
         KEYS,
         "LIFECYCLE_STATE_INCORRECT TD_KEYS_CONFIGURED | MNG.KEY.CONFIG 1",
@@ -122,9 +129,16 @@ const TDCX_PAGES: &[&[&str]] = &[
         "SUCCESS | MNG.ADDCX 1 3",
         "TDCX_NUM_INCORRECT 2 | MNG.ADDCX 1 5",
     ],
-    &[
-        KEYS,
-        "TDCX_NUM_INCORRECT 0 | MNG.INIT 1 | MNG.RD 1 OP | MNG.RD 1 EPOCH | MNG.RD 1 MRTD \
+];
+
+#[test]
+fn a_td_is_built_step_by_step(rt: HostRuntime) -> Result<(), Fail> {
+    replay_each(&rt, rt.alloc(), "replay s", "1 32 1", FIRST)
+}
+
+const TDCX_PAGES: &[&[&str]] = &[&[
+    KEYS,
+    "TDCX_NUM_INCORRECT 0 | MNG.INIT 1 | MNG.RD 1 OP | MNG.RD 1 EPOCH | MNG.RD 1 MRTD \
             | MR.FINALIZE 1 | VP.CREATE 1 4 | VP.INIT 1 4 0 | MR.EXTEND 1 0 | MEM.SEPT.ADD 1 0 3 5 \
             | MEM.SEPT.RD 1 0 3 | MEM.PAGE.ADD 1 0 8 9 \
             | MEM.PAGE.AUG 1 0 8 | MIG.STREAM.CREATE 1 8 | EXPORT.BLOCKW 1 0 \
@@ -132,8 +146,8 @@ const TDCX_PAGES: &[&[&str]] = &[
             | EXPORT.STATE.IMMUTABLE 1 0 | EXPORT.TRACK 1 1 0 | EXPORT.TRACK 1 2 1 \
             | EXPORT.STATE.TD 1 3 | EXPORT.STATE.VP 1 4 4 | EXPORT.MEM 1 0 0 20 \
             | IMPORT.COMMIT 1 | IMPORT.END 1 | IMPORT.ABORT 1 30",
-        "SUCCESS | MNG.ADDCX 1 2",
-        "TDCX_NUM_INCORRECT 1 | MNG.INIT 1 | MNG.RD 1 OP | MNG.RD 1 EPOCH | MNG.RD 1 MRTD \
+    "SUCCESS | MNG.ADDCX 1 2",
+    "TDCX_NUM_INCORRECT 1 | MNG.INIT 1 | MNG.RD 1 OP | MNG.RD 1 EPOCH | MNG.RD 1 MRTD \
             | MR.FINALIZE 1 | VP.CREATE 1 4 | VP.INIT 1 4 0 | MR.EXTEND 1 0 | MEM.SEPT.ADD 1 0 3 5 \
             | MEM.SEPT.RD 1 0 3 | MEM.PAGE.ADD 1 0 8 9 \
             | MEM.PAGE.AUG 1 0 8 | MIG.STREAM.CREATE 1 8 | EXPORT.BLOCKW 1 0 \
@@ -141,20 +155,19 @@ const TDCX_PAGES: &[&[&str]] = &[
             | EXPORT.STATE.IMMUTABLE 1 5 | EXPORT.TRACK 1 6 0 | EXPORT.TRACK 1 7 1 \
             | EXPORT.STATE.TD 1 8 | EXPORT.STATE.VP 1 4 9 | EXPORT.MEM 1 0 0 21 \
             | IMPORT.COMMIT 1 | IMPORT.END 1 | IMPORT.ABORT 1 31",
-        "PAGE_METADATA_INCORRECT 2 | MNG.ADDCX 1 2",
-        "SUCCESS PT_TDCX 1 0 | PHYMEM.PAGE.RDMD 2",
-        "SUCCESS PT_NDA 0 0 | PHYMEM.PAGE.RDMD 3",
-        "SUCCESS | MNG.ADDCX 1 3",
-        // The number is judged before the page.
-        "TDCX_NUM_INCORRECT 2 | MNG.ADDCX 1 5 | MNG.ADDCX 1 2",
-        "SUCCESS PT_TDCX 1 0 | PHYMEM.PAGE.RDMD 2 | PHYMEM.PAGE.RDMD 3",
-        "SUCCESS UNINITIALIZED | MNG.RD 1 OP",
-    ],
-];
+    "PAGE_METADATA_INCORRECT 2 | MNG.ADDCX 1 2",
+    "SUCCESS PT_TDCX 1 0 | PHYMEM.PAGE.RDMD 2",
+    "SUCCESS PT_NDA 0 0 | PHYMEM.PAGE.RDMD 3",
+    "SUCCESS | MNG.ADDCX 1 3",
+    // The number is judged before the page.
+    "TDCX_NUM_INCORRECT 2 | MNG.ADDCX 1 5 | MNG.ADDCX 1 2",
+    "SUCCESS PT_TDCX 1 0 | PHYMEM.PAGE.RDMD 2 | PHYMEM.PAGE.RDMD 3",
+    "SUCCESS UNINITIALIZED | MNG.RD 1 OP",
+]];
 
 #[test]
 fn a_td_has_two_tdcx_pages(rt: HostRuntime) -> Result<(), Fail> {
-    replay_each(&rt, rt.alloc(), "1 32 1", TDCX_PAGES)
+    replay_each(&rt, rt.alloc(), "replay s --keys k", "1 32 1", TDCX_PAGES)
 }
 
 const OP_STATES: &[&[&str]] = &[
@@ -174,10 +187,7 @@ const OP_STATES: &[&[&str]] = &[
     ],
     &[
         BUILT,
-        "SUCCESS TD_KEYS_CONFIGURED | MNG.RD 1 LIFE",
-        "SUCCESS INITIALIZED | MNG.RD 1 OP",
-        "SUCCESS 1 | MNG.RD 1 EPOCH",
-        "OP_STATE_INCORRECT INITIALIZED | MNG.RD 1 MRTD | MNG.INIT 1 | MEM.PAGE.AUG 1 0 8 \
+        "OP_STATE_INCORRECT INITIALIZED | MNG.INIT 1 | MEM.PAGE.AUG 1 0 8 \
             | EXPORT.BLOCKW 1 0 | EXPORT.UNBLOCKW 1 0 | EXPORT.PAUSE 1 | EXPORT.ABORT 1 \
             | EXPORT.RESTORE 1 0 \
             | EXPORT.STATE.IMMUTABLE 1 0 | EXPORT.TRACK 1 1 0 | EXPORT.TRACK 1 2 1 \
@@ -209,5 +219,5 @@ const OP_STATES: &[&[&str]] = &[
 
 #[test]
 fn each_op_state_refuses_its_calls(rt: HostRuntime) -> Result<(), Fail> {
-    replay_each(&rt, rt.alloc(), "1 32 1", OP_STATES)
+    replay_each(&rt, rt.alloc(), "replay s --keys k", "1 32 1", OP_STATES)
 }

@@ -43,7 +43,7 @@ const PLACES: &[&[&str]] = &[
 
 #[test]
 fn pages_are_added_once(rt: HostRuntime) -> Result<(), Fail> {
-    replay_each(&rt, rt.alloc(), "1 32 2", PLACES)
+    replay_each(&rt, rt.alloc(), "replay s", "1 32 2", PLACES)
 }
 
 const AUGMENTED: &[&[&str]] = &[
@@ -104,7 +104,7 @@ const AUGMENTED: &[&[&str]] = &[
 
 #[test]
 fn pages_wait_for_their_guest(rt: HostRuntime) -> Result<(), Fail> {
-    replay_each(&rt, rt.alloc(), "1 32 2", AUGMENTED)
+    replay_each(&rt, rt.alloc(), "replay s", "1 32 2", AUGMENTED)
 }
 
 const CHUNKS: &str = "SUCCESS | MR.EXTEND 1 0 | MR.EXTEND 1 256 | MR.EXTEND 1 512 \
@@ -122,21 +122,23 @@ const WORDS: &str = "SUCCESS | HOST.WRITE 0 0 0x0102030405060708 \
 const ADDED: &str = "SUCCESS 8f3e9a8aca6784eab874f7aa4dda5d49104a88047f1f86695ef2a88f5691a90e34aac4\
     8ce45ffa1f5a23c7d62980d570 | MNG.RD 1 MRTD";
 
+// One page and its sixteen chunks: 49 records.
+const WHOLE: &[&[&str]] = &[&[
+    TREE,
+    "SUCCESS | HOST.WRITE 0 0 1 | MEM.PAGE.ADD 1 0 8 0",
+    CHUNKS,
+    "SUCCESS 0e00f6b7c3282838ff96f698adf84e2842b99c5832e39082e2a844a7fc565f2ce652ee28496af2357d\
+            09122040013a71 | MNG.RD 1 MRTD",
+]];
+
 const MEASURED: &[&[&str]] = &[
-    // One page and its sixteen chunks: 49 records. First a page of zeros.
+    // A page of zeros.
     &[
         TREE,
         "SUCCESS | MEM.PAGE.ADD 1 0 8 0",
         CHUNKS,
         "SUCCESS 236f0efa607ff8843f1855d7ef80dc3dda8fb455787a186b8787212951eab0096e3193bb26f817c2b6\
             3c21f5e10f9938 | MNG.RD 1 MRTD",
-    ],
-    &[
-        TREE,
-        "SUCCESS | HOST.WRITE 0 0 1 | MEM.PAGE.ADD 1 0 8 0",
-        CHUNKS,
-        "SUCCESS 0e00f6b7c3282838ff96f698adf84e2842b99c5832e39082e2a844a7fc565f2ce652ee28496af2357d\
-            09122040013a71 | MNG.RD 1 MRTD",
     ],
     // The words are those of the moment at which the page was added.
     &[
@@ -217,7 +219,8 @@ const MEASURED: &[&[&str]] = &[
 
 #[test]
 fn measurements_are_sha384_of_records(rt: HostRuntime) -> Result<(), Fail> {
-    replay_each(&rt, rt.alloc(), "1 32 2", MEASURED)
+    replay_each(&rt, rt.alloc(), "replay s ; run s", "1 32 1", WHOLE)?;
+    replay_each(&rt, rt.alloc(), "replay s", "1 32 2", MEASURED)
 }
 
 // Words of the pages of a tree, and of private pages, that weren't 0 while the pages were the TD's.
@@ -285,5 +288,5 @@ const ENDS: &[&[&str]] = &[
 
 #[test]
 fn private_pages_come_back_cleared(rt: HostRuntime) -> Result<(), Fail> {
-    replay_each(&rt, rt.alloc(), "1 32 2", ENDS)
+    replay_each(&rt, rt.alloc(), "replay s", "1 32 2", ENDS)
 }

@@ -3,16 +3,17 @@
 use row_replay::{BUILT, EMPTY, ENDED, replay_each};
 use std::test::Fail;
 
+const WHOLE: &[&[&str]] = &[&[
+    BUILT,
+    "SUCCESS | MNG.VPFLUSHDONE 1",
+    "CACHE_WB_NOT_DONE | MNG.KEY.FREEID 1",
+    "SUCCESS | PHYMEM.CACHE.WB | MNG.KEY.FREEID 1 | PHYMEM.PAGE.RECLAIM 1 2",
+    "PAGES_EXIST 1 | PHYMEM.PAGE.RECLAIM 1 1",
+    "SUCCESS | PHYMEM.PAGE.RECLAIM 1 3 | PHYMEM.PAGE.RECLAIM 1 1",
+    "SUCCESS PT_NDA 0 0 | PHYMEM.PAGE.RDMD 1",
+]];
+
 const ORDERS: &[&[&str]] = &[
-    &[
-        BUILT,
-        "SUCCESS | MNG.VPFLUSHDONE 1",
-        "CACHE_WB_NOT_DONE | MNG.KEY.FREEID 1",
-        "SUCCESS | PHYMEM.CACHE.WB | MNG.KEY.FREEID 1 | PHYMEM.PAGE.RECLAIM 1 2",
-        "PAGES_EXIST 1 | PHYMEM.PAGE.RECLAIM 1 1",
-        "SUCCESS | PHYMEM.PAGE.RECLAIM 1 3 | PHYMEM.PAGE.RECLAIM 1 1",
-        "SUCCESS PT_NDA 0 0 | PHYMEM.PAGE.RDMD 1",
-    ],
     // A TD that never had keys, and one that never had pages.
     &[
         "SUCCESS | MNG.CREATE 1 1",
@@ -55,7 +56,8 @@ const ORDERS: &[&[&str]] = &[
 
 #[test]
 fn pages_come_back_with_the_tdr_last(rt: HostRuntime) -> Result<(), Fail> {
-    replay_each(&rt, rt.alloc(), "1 32 2", ORDERS)
+    replay_each(&rt, rt.alloc(), "replay s ; run s", "1 32 1", WHOLE)?;
+    replay_each(&rt, rt.alloc(), "replay s", "1 32 2", ORDERS)
 }
 
 // Words of TDR, TDCS and TDVPR that weren't 0 while the pages were the TD's.
@@ -99,7 +101,7 @@ const CLEAN: &[&[&str]] = &[
 
 #[test]
 fn pages_come_back_cleared(rt: HostRuntime) -> Result<(), Fail> {
-    replay_each(&rt, rt.alloc(), "1 32 1", CLEAN)
+    replay_each(&rt, rt.alloc(), "replay s", "1 32 1", CLEAN)
 }
 
 // Another TD with HKID 1, and with HKID 2.
@@ -196,5 +198,5 @@ const HKIDS: &[&[&str]] = &[
 
 #[test]
 fn hkids_go_from_td_to_td(rt: HostRuntime) -> Result<(), Fail> {
-    replay_each(&rt, rt.alloc(), "1 32 3", HKIDS)
+    replay_each(&rt, rt.alloc(), "replay s", "1 32 3", HKIDS)
 }

@@ -3,15 +3,29 @@
 use row_replay::{BUILT, EMPTY, INITIALIZED, TREE, replay_each};
 use std::test::Fail;
 
+// What is read first of a tree without pages, where a walk ends, and which page isn't added.
+const FIRST: &[&[&str]] = &[
+    &[TREE, "SUCCESS NL_MAPPED 5 | MEM.SEPT.RD 1 0 3"],
+    &[TREE, "SUCCESS FREE | MEM.SEPT.RD 1 0 0"],
+    &[TREE, "EPT_WALK_FAILED 3 | MEM.SEPT.RD 1 0x8000000000 0"],
+    &[TREE, "OPERAND_INVALID 2 | MEM.SEPT.RD 1 0x800000000000 0"],
+    &[
+        TREE,
+        "EPT_ENTRY_STATE_INCORRECT NL_MAPPED | MEM.SEPT.ADD 1 0 1 11",
+    ],
+    &[TREE, "OPERAND_INVALID 2 | MEM.PAGE.ADD 1 1 8 0"],
+    &[TREE, "OPERAND_INVALID 4 | MEM.PAGE.ADD 1 0 8 8"],
+    &[TREE, "EPT_ENTRY_STATE_INCORRECT FREE | MR.EXTEND 1 0"],
+];
+
 const ENTRIES: &[&[&str]] = &[
     // Each level has its page at GPA 0, and is free beside it. A walk fails at the first level
     // where nothing is mapped, before the page that is to be taken is looked at.
     &[
         TREE,
-        "SUCCESS NL_MAPPED 5 | MEM.SEPT.RD 1 0 3",
         "SUCCESS NL_MAPPED 6 | MEM.SEPT.RD 1 0 2",
         "SUCCESS NL_MAPPED 7 | MEM.SEPT.RD 1 0 1",
-        "SUCCESS FREE | MEM.SEPT.RD 1 0 0 | MEM.SEPT.RD 1 0x1ff000 0 | MEM.SEPT.RD 1 0x200000 1 \
+        "SUCCESS FREE | MEM.SEPT.RD 1 0x1ff000 0 | MEM.SEPT.RD 1 0x200000 1 \
             | MEM.SEPT.RD 1 0x3fe00000 1 | MEM.SEPT.RD 1 0x40000000 2 \
             | MEM.SEPT.RD 1 0x7fc0000000 2 | MEM.SEPT.RD 1 0x8000000000 3 \
             | MEM.SEPT.RD 1 0x7f8000000000 3",
@@ -20,12 +34,12 @@ const ENTRIES: &[&[&str]] = &[
         "EPT_WALK_FAILED 2 | MEM.SEPT.RD 1 0x40000000 0 | MEM.SEPT.RD 1 0x40000000 1 \
             | MEM.SEPT.ADD 1 0x40000000 1 8 | MEM.SEPT.ADD 1 0x40000000 1 2 \
             | MEM.PAGE.ADD 1 0x40001000 8 0 | MR.EXTEND 1 0x40000000",
-        "EPT_WALK_FAILED 3 | MEM.SEPT.RD 1 0x8000000000 0 | MEM.SEPT.RD 1 0x8000000000 1 \
+        "EPT_WALK_FAILED 3 | MEM.SEPT.RD 1 0x8000000000 1 \
             | MEM.SEPT.RD 1 0x8000000000 2 | MEM.SEPT.ADD 1 0x8000000000 1 8 \
             | MEM.SEPT.ADD 1 0x8000000000 2 8 | MEM.PAGE.ADD 1 0x8000000000 8 0 \
             | MR.EXTEND 1 0x8000000000 | MEM.SEPT.RD 1 0x7ffffffff000 0",
         // The entry is judged before the page too.
-        "EPT_ENTRY_STATE_INCORRECT NL_MAPPED | MEM.SEPT.ADD 1 0 1 11 | MEM.SEPT.ADD 1 0 2 11 \
+        "EPT_ENTRY_STATE_INCORRECT NL_MAPPED | MEM.SEPT.ADD 1 0 2 11 \
             | MEM.SEPT.ADD 1 0 3 11 | MEM.SEPT.ADD 1 0 1 7 | MEM.SEPT.ADD 1 0 3 2",
         "PAGE_METADATA_INCORRECT 2 | MEM.SEPT.ADD 1 0x200000 1 2",
         "PAGE_METADATA_INCORRECT 4 | MEM.SEPT.ADD 1 0x40000000 2 4",
@@ -128,5 +142,6 @@ const ENTRIES: &[&[&str]] = &[
 
 #[test]
 fn walks_end_at_their_entry_or_above(rt: HostRuntime) -> Result<(), Fail> {
-    replay_each(&rt, rt.alloc(), "1 32 2", ENTRIES)
+    replay_each(&rt, rt.alloc(), "replay s", "1 32 1", FIRST)?;
+    replay_each(&rt, rt.alloc(), "replay s", "1 32 2", ENTRIES)
 }

@@ -6,19 +6,21 @@ use std::test::Fail;
 const EIGHT: &str = "SUCCESS | VP.CREATE 1 10 | VP.CREATE 1 11 | VP.CREATE 1 12 | VP.CREATE 1 13 \
     | VP.CREATE 1 14 | VP.CREATE 1 15 | VP.CREATE 1 16 | VP.CREATE 1 17";
 
-const ROWS: &[&[&str]] = &[
-    // The measurement of nothing is known before anything runs.
-    &[BUILT, "SUCCESS | MR.FINALIZE 1", EMPTY],
+// The measurement of nothing is known before anything runs.
+const NOTHING: &[&[&str]] = &[&[BUILT, "SUCCESS | MR.FINALIZE 1", EMPTY]];
+
+const FIRST: &[&[&str]] = &[
     &[
         BUILT,
         "SUCCESS | VP.CREATE 1 4",
         "VCPU_STATE_INCORRECT CREATED | MR.FINALIZE 1",
         "SUCCESS | VP.INIT 1 4 0",
         "VCPU_STATE_INCORRECT READY | VP.INIT 1 4 0",
-        "SUCCESS | MR.FINALIZE 1",
-        EMPTY,
     ],
     &[BUILT, EIGHT, "LIMIT VCPUS | VP.CREATE 1 18"],
+];
+
+const ROWS: &[&[&str]] = &[
     // The limit is judged before the page, and a refused VP.CREATE takes none.
     &[
         BUILT,
@@ -89,5 +91,8 @@ const ROWS: &[&[&str]] = &[
 
 #[test]
 fn vcpus_are_made_ready_one_by_one(rt: HostRuntime) -> Result<(), Fail> {
-    replay_each(&rt, rt.alloc(), "1 32 2", ROWS)
+    let alloc = rt.alloc();
+    replay_each(&rt, alloc, "replay s ; run s", "1 32 1", NOTHING)?;
+    replay_each(&rt, alloc, "replay s", "1 32 1", FIRST)?;
+    replay_each(&rt, alloc, "replay s", "1 32 2", ROWS)
 }

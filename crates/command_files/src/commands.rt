@@ -88,7 +88,7 @@ fn read_named<'a>(alloc: Global, rest: &'a [String]) -> Result<Option<Named<'a>>
     ensures { IfOk result (λ n. option_map named_seen n ≡ option_and_then named_in (found_in files_line (map string_bytes rest.now))) }
 {
     let line = files_line(alloc)?;
-    match read_line(line, rest)? {
+    match read_line(alloc, line, rest)? {
         Some(found) => Ok(named_in(&found)),
         None => Ok(None),
     }
@@ -98,7 +98,7 @@ fn read_script<'a>(alloc: Global, rest: &'a [String]) -> Result<Option<&'a str>,
     ensures { IfOk result (λ n. option_map (λ name. name.now) n ≡ option_and_then (first_of (codes "SCRIPT")) (found_in script_line (map string_bytes rest.now))) }
 {
     let line = script_line(alloc)?;
-    match read_line(line, rest)? {
+    match read_line(alloc, line, rest)? {
         Some(found) => Ok(value_of(&found, "SCRIPT")),
         None => Ok(None),
     }
@@ -109,7 +109,7 @@ fn read_pages(alloc: Global, rest: &[String]) -> Result<Option<u16>, OutOfMemory
     ensures few { IfOk result (λ o. IfSome o (λ n. (1 ≤ n) × (n ≤ 512))) }
 {
     let line = pages_line(alloc)?;
-    match read_line(line, rest)? {
+    match read_line(alloc, line, rest)? {
         Some(found) => match value_of(&found, "N") {
             Some(word) => Ok(pages_of(word)),
             None => Ok(None),

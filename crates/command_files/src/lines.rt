@@ -73,8 +73,9 @@ pub fn pages_line<'a>(alloc: Global) -> Result<Command<'a>, OutOfMemory>
     with_word(alloc, empty_line(alloc), "N")
 }
 
-/// What the library finds in the words of such a line.
+/// What the library finds in the words of such a line, which takes its memory along.
 pub fn read_line<'a>(
+    _alloc: Global,
     line: Command<'a>,
     words: &'a [String],
 ) -> Result<Option<ArgMatches<'a>>, OutOfMemory>

@@ -5,7 +5,8 @@ use bundle_store::read_container;
 use gcm_seal::open_in_place;
 use hex::FromHex;
 use row_replay::{
-    BUILT, DIRTIED, OTHER, PAGE, PAGES, RUNS, Row, SECOND, SENT, STREAM, TREE, container_of_row,
+    ALONE, Asked, BUILT, DIRTIED, End, GUEST, HANDED, OTHER, PAGE, PAGES, RUNS, Row, SECOND, SENT,
+    STREAM, TREE, Told, container_of_asked, container_of_row, replay_ends,
 };
 use std::alloc::Global;
 use std::test::Fail;
@@ -64,21 +65,42 @@ const ROWS: &[Row<'static>] = &[
         ],
         "",
     ),
-    // A whole source: a page that goes out twice, and two others, on two streams.
+];
+
+// A whole source: a page that goes out twice, and two others, on two streams.
+const SOURCE: Row<'static> = ("", &[GUEST], &[&[TREE, PAGES, SENT, DIRTIED, HANDED]], "");
+
+const WORKED: Asked<'static> = (
+    "replay s --keys k --out-bundles b ; run s --keys k --out-bundles b",
+    "1 32 1",
+    SOURCE,
+);
+
+const BOTH_OUTPUTS: Asked<'static> = (
+    "replay s --keys k --out-bundles b --guest-out g",
+    "1 32 1",
+    SOURCE,
+);
+
+// Its second save fails, the put of its replies does, and it has no keys.
+const ENDS: &[End<'static>] = &[
     (
-        "",
-        &["1 0 | set 1 44 | store 1 0 | load 2 0 | load 2 4096 | load 2 8192 | vmcall 2"],
-        &[&[
-            TREE,
-            PAGES,
-            SENT,
-            DIRTIED,
-            "SUCCESS | EXPORT.TRACK 1 2 0 | EXPORT.MEM 1 0 0 3 | EXPORT.MEM 1 4096 1 4 \
-                | EXPORT.MEM 1 8192 1 5 | EXPORT.STATE.TD 1 6 | EXPORT.STATE.VP 1 4 7 \
-                | EXPORT.TRACK 1 8 1",
-        ]],
+        "replay s --keys k --out-bundles b --guest-out g",
+        &[3],
+        &[],
+        4,
+        Told::Behind("cannot write g\n"),
+        "b",
+    ),
+    (
+        "replay s --keys k --out-bundles b --guest-out g",
+        &[],
+        &[0],
+        4,
+        Told::Alone(""),
         "",
     ),
+    ("replay s", &[], &[], 7, Told::Alone("key file\n"), ""),
 ];
 
 /// A bundle as it is sealed: its slot, its length, bytes 0 to 47, and its tag, which covers the payload.
@@ -189,7 +211,7 @@ const OF_TURNS: [Sealed; 4] = [
     },
 ];
 
-/// What the third row's container has.
+/// What the whole source's container has.
 const OF_PAGES: [Sealed; 9] = [
     Sealed {
         slot: 0,
@@ -285,15 +307,20 @@ fn compare(alloc: Global, container: &[u8], wanted: &[Sealed]) -> Result<(), Fai
 #[test]
 fn bundles_stand_in_their_slots(rt: HostRuntime) -> Result<(), Fail> {
     let alloc = rt.alloc();
-    for (row, wanted) in ROWS.iter().zip([
-        OF_SESSIONS.as_slice(),
-        OF_TURNS.as_slice(),
-        OF_PAGES.as_slice(),
-    ]) {
+    for (row, wanted) in ROWS
+        .iter()
+        .zip([OF_SESSIONS.as_slice(), OF_TURNS.as_slice()])
+    {
         let container = container_of_row(&rt, alloc, row)?;
         compare(alloc, &container, wanted)?;
     }
-    Ok(())
+    let container = container_of_asked(&rt, alloc, ALONE, &WORKED)?;
+    compare(alloc, &container, &OF_PAGES)
+}
+
+#[test]
+fn a_source_ends_without_its_keys_or_where_its_outside_fails(rt: HostRuntime) -> Result<(), Fail> {
+    replay_ends(&rt, rt.alloc(), ALONE, &BOTH_OUTPUTS, ENDS)
 }
 
 // That byte, or 0 where it isn't there.
@@ -335,7 +362,7 @@ fn pages_are_read_again(rt: HostRuntime) -> Result<(), Fail> {
         forward[i] = i as u8;
     }
     let key = Aes256::new(&forward);
-    let container = container_of_row(&rt, alloc, &ROWS[2])?;
+    let container = container_of_asked(&rt, alloc, ALONE, &WORKED)?;
     let bundles = read_container(alloc, &container)?;
     let mut count: usize = 0;
     for bundle in bundles.iter() {

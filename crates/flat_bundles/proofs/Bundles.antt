@@ -8,15 +8,16 @@ use Rattle.td_words.specs.declared.calls.Call.{Call}
 use Rattle.td_words.specs.Slots.{output_slots}
 use Rattle.flat_core.specs.World.{Made}
 use Rattle.flat_core.specs.Processor.{Lp}
-use Rattle.flat_core.specs.Opening.{Opening}
+use Rattle.flat_core.specs.Opening.{Opening, Incoming}
 use Rattle.flat_core.specs.Locks.{one_if}
-use Rattle.flat_core.specs.Event.{State, Event, start, calls_of, lp_after, is_granted, after_event}
+use Rattle.flat_core.specs.Event.{State, Event, start, calls_of, lp_after, is_granted, after_event, event}
+use Rattle.flat_core.specs.Laws.{with_bundles}
 use Rattle.flat_core.proofs.Tests.{by_test, put_here}
 use Rattle.flat_core.proofs.Due.{due_event_is}
-use Rattle.flat_core.proofs.Induction.{play_keeps}
-use Rattle.flat_bundles.specs.Bundles.{AddsBundle, AreOfLines, BundlesAreOfLines}
-use Rattle.flat_bundles.proofs.Times.{times, times-append, slots_of, times_left, all-left, less-left, one-less, once, once-apart, all-in}
-use Rattle.flat_bundles.proofs.Steps.{acted, Goes, stays, makes, event-goes}
+use Rattle.flat_core.proofs.Induction.{event_keeps, in_runs}
+use Rattle.flat_bundles.specs.Bundles.{AddsBundle, AreOfLines, BundlesAreOfLines, times, slots_of, acted, AreFitting, LinesAreKept}
+use Rattle.flat_bundles.proofs.Times.{times-append, all-left, less-left, one-less, once, once-apart, all-in}
+use Rattle.flat_bundles.proofs.Steps.{Goes, stays, makes, event-goes}
 
 abbrev IsPage : Made → Type 0
 IsPage m = length m.payload ≤ 512
@@ -24,11 +25,7 @@ IsPage m = length m.payload ≤ 512
 abbrev acted_in : State → ℕ → ℕ
 acted_in s q = acted (s.lps q)
 
-record Fits (o : Opening) (s : State) : Type 0 where
-  slots : (k : ℕ) → times k (slots_of s.world.outgoing.bundles) + times_left k o.calls (acted_in s) ≤ times k (output_slots o.calls)
-  pages : All IsPage s.world.outgoing.bundles
-
-module _ (o : Opening) (s : State) (p : ℕ) (e : Event) (h : Fits o s) where
+module _ (o : Opening) (s : State) (p : ℕ) (e : Event) (h : AreFitting o s) where
   abbrev lp : Lp
   lp = s.lps p
 
@@ -55,7 +52,7 @@ module _ (o : Opening) (s : State) (p : ℕ) (e : Event) (h : Fits o s) where
       last : times k (slots_of ms) + times k (a.bundle.slot ∷ []) ≡ times k (slots_of ms) + one_if (slot == k)
       last = let same = ap (λ (x : ℕ). one_if (x == k)) a.slot_is in omega (arith, same)
 
-  fits-after : Goes o s.world p lp (is_granted s e) e → Fits o after
+  fits-after : Goes o s.world p lp (is_granted s e) e → AreFitting o after
   fits-after (stays same le) = record {
     slots = λ k.
         let made = ap (λ (x : List Made). times k (slots_of x)) same in
@@ -63,7 +60,7 @@ module _ (o : Opening) (s : State) (p : ℕ) (e : Event) (h : Fits o s) where
     pages = subst (All IsPage) (sym same) h.pages;
   }
   fits-after (makes c cs slot line is adds now gone) =
-      let le : acted lp + 1 ≤ acted lp' = omega (arith, now, gone) in
+      let le : acted lp + 1 ≤ acted lp' = omega (arith, now, gone.more) in
       record {
         slots = λ k.
             omega (
@@ -76,10 +73,10 @@ module _ (o : Opening) (s : State) (p : ℕ) (e : Event) (h : Fits o s) where
         pages = subst (All IsPage) (sym adds.added) (All-push IsPage s.world.outgoing.bundles adds.bundle h.pages adds.page);
       }
 
-first-fits : (o : Opening) (ws : Option (List ℕ)) → Fits o (start o ws)
+first-fits : (o : Opening) (ws : Option (List ℕ)) → AreFitting o (start o ws)
 first-fits o ws = record { slots = λ k. omega (arith, all-left k o.calls); pages = All-nil IsPage }
 
-of-lines : (o : Opening) (s : State) → Fits o s → AreOfLines o.calls s.world.outgoing.bundles
+of-lines : (o : Opening) (s : State) → AreFitting o s → AreOfLines o.calls s.world.outgoing.bundles
 of-lines o s h = record {
   each = all-in (output_slots o.calls) s.world.outgoing.bundles (λ k. omega (arith, h.slots k));
   apart = λ apart. once-apart s.world.outgoing.bundles (λ k. omega (arith, h.slots k, once (output_slots o.calls) apart k));
@@ -91,6 +88,21 @@ pub slots-hold : (P : ℕ → Type 0) (calls : List (List Call)) (ms : List Made
 slots-hold P calls ms h all =
     All-weaker (λ m. Contains (output_slots calls) m.slot) (λ m. P m.slot) (λ m named. All-contains P (output_slots calls) m.slot all named) ms h.each
 
+abbrev AreTheirs : Opening → State → Type 0
+AreTheirs o s = AreFitting o s × AreOfLines o.calls s.world.outgoing.bundles
+
+pub lines_kept : LinesAreKept
+lines_kept = record { start = λ o ws. theirs o (start o ws) (first-fits o ws); event = λ o bundles s p h. step o bundles s p h.0 }
+  where
+    theirs : (o : Opening) (s : State) → AreFitting o s → AreTheirs o s
+    theirs o s h = (h, of-lines o s h)
+
+    step : (o : Opening) (bundles : ℕ → Option Incoming) (s : State) (p : ℕ) → AreFitting o s → AreTheirs o (event (with_bundles o bundles) s p)
+    step o bundles s p h =
+        let q : Opening = with_bundles o bundles in
+        let there : AreFitting q s = record { slots = h.slots; pages = h.pages } in
+        let after = event_keeps q (AreFitting q) (λ t r e is k. fits-after q t r e k (event-goes q t.world r (t.lps r) (is_granted t e) e (due_event_is q t r e is))) s p there in
+        theirs o (event q s p) (record { slots = after.slots; pages = after.pages })
+
 pub bundles-of-lines : BundlesAreOfLines
-bundles-of-lines o ws schedule =
-    of-lines o _ (play_keeps o (Fits o) (λ s p e is h. fits-after o s p e h (event-goes o s.world p (s.lps p) (is_granted s e) e (due_event_is o s p e is))) schedule (start o ws) (first-fits o ws))
+bundles-of-lines o ws schedule = (in_runs AreTheirs lines_kept o ws schedule).1

@@ -2,6 +2,9 @@ pub mod Times
 pub mod Rows
 pub mod Steps
 pub mod Bundles
+pub mod Ended
+pub mod OwnEnded
 pub mod Fills
 pub mod Formed
 pub mod Taken
+pub mod Counters

@@ -56,6 +56,23 @@ operation-adds o t v line op row w e =
     (λ r. refl)
     op row e
 
+-- and leave the words of streams
+pub operation-streams : (o : Opening) (t v line : ℕ) (op : GuestOp) (row : OperationRow) (w : World) → operation_of o t v line op ≡ ByRow row → (row.act w).streams ≡ w.streams
+operation-streams o t v line op row w e =
+    operation_row o t v line (λ x. (x.act w).streams ≡ w.streams)
+    (λ r x. refl)
+    (λ r s. refl)
+    (λ r gpa. refl)
+    (λ r gpa. refl)
+    (λ gpa. accepted (λ x. x.streams ≡ w.streams) (is_pending_at w t gpa) t gpa w (λ y. refl) (λ y. refl))
+    (λ i. refl)
+    (λ r. refl)
+    op row e
+
 pub reach-adds : (t v : ℕ) (access : Access) (r gpa page : ℕ) (w : World) → (reach t v access r gpa page w).outgoing.bundles ≡ w.outgoing.bundles
 reach-adds t v Read r gpa page w = refl
 reach-adds t v Write r gpa page w = refl
+
+pub reach-streams : (t v : ℕ) (access : Access) (r gpa page : ℕ) (w : World) → (reach t v access r gpa page w).streams ≡ w.streams
+reach-streams t v Read r gpa page w = refl
+reach-streams t v Write r gpa page w = refl

@@ -1,7 +1,7 @@
 -- How often slots are named: by bundles, and by lines whose calls are still to act.
-use Rattle.std.proofs.Common.{◌≡◌, ◌≢◌, refl, sym, ◌∙◌, ap, subst, ℕ, zero, suc, ◌+◌, ◌≤◌, List, [], ◌∷◌, ◌++◌, map, drop, Option, Some, None, true, false, ◌==◌, arith}
-use Rattle.std.specs.List.{All, AllPairs, Contains, filter_map, cons_option}
-use Rattle.std.proofs.lemmas.Bool.{eqb-true, ne_eqb}
+use Rattle.std.proofs.Common.{◌≡◌, ◌≢◌, ◌⊎◌, inl, inr, refl, sym, ◌∙◌, ap, subst, ℕ, zero, suc, ◌+◌, ◌<◌, ◌≤◌, List, [], ◌∷◌, ◌++◌, length, drop, Option, Some, None, true, false, ◌==◌, arith}
+use Rattle.std.specs.List.{All, AllPairs, Contains, cons_option}
+use Rattle.std.proofs.lemmas.Bool.{cases_lt, eqb-true, ne_eqb}
 use Rattle.std.proofs.lemmas.List.Elements.{All-nil, All-cons, All-head, All-tail, filter_map-append}
 use Rattle.std.proofs.lemmas.List.Kept.{AllPairs-cons}
 use Rattle.td_words.specs.declared.calls.Call.{Call}
@@ -10,11 +10,7 @@ use Rattle.flat_core.specs.World.{Made}
 use Rattle.flat_core.specs.Locks.{one_if}
 use Rattle.flat_core.specs.Event.{calls_of}
 use Rattle.flat_core.proofs.Tests.{by_test, same_self}
-
--- how often a slot is in a list
-abbrev pub times : ℕ → List ℕ → ℕ
-times k [] = 0
-times k (x ∷ xs) = one_if (x == k) + times k xs
+use Rattle.flat_bundles.specs.Bundles.{times, slots_of, slots_in, times_left}
 
 pub times-append : (k : ℕ) (xs ys : List ℕ) → times k (xs ++ ys) ≡ times k xs + times k ys
 times-append k [] ys = omega arith
@@ -52,10 +48,6 @@ once (x ∷ xs) h k = by_test (x == k)
     rw y (omega (arith, none, here)))
     (λ n. let rest = once xs (rest-apart x xs h) k in rw n (omega (arith, rest)))
 
--- of bundles, by their slots
-abbrev pub slots_of : List Made → List ℕ
-slots_of ms = map (λ m. m.slot) ms
-
 others : (k : ℕ) (ms : List Made) → times k (slots_of ms) ≡ 0 → All (λ n. k ≢ n.slot) ms
 others k [] h = All-nil (λ n. k ≢ n.slot)
 others k (m ∷ ms) h =
@@ -74,10 +66,6 @@ all-in slots (m ∷ ms) h =
     All-cons (λ m. Contains slots m.slot) m ms
     (is-in m.slot slots (let here = h m.slot in let same = same_self m.slot in let some = rw same at here in omega (arith, some)))
     (all-in slots ms (λ k. let few = h k in omega (arith, few)))
-
--- of the calls of a processor
-abbrev pub slots_in : List Call → List ℕ
-slots_in cs = filter_map output_slot cs
 
 none-left : (n : ℕ) → drop {A = Call} n [] ≡ []
 none-left zero = refl
@@ -107,18 +95,36 @@ one-later k slot zero (suc b) (d ∷ ds) c cs le line is =
     (omega (arith, later k zero b ds (omega arith)))
 one-later k slot (suc a) (suc b) (d ∷ ds) c cs le line is = one-later k slot a b ds c cs (omega (arith, le)) line is
 
--- of processors with these calls, of each of which so many have acted
-abbrev pub times_left : ℕ → List (List Call) → (ℕ → ℕ) → ℕ
-times_left k [] acted = 0
-times_left k (cs ∷ css) acted = times k (slots_in (drop (acted 0) cs)) + times_left k css (λ p. acted (suc p))
+-- of the first processor and of the others
+of-both : (k : ℕ) (cs : List Call) (css : List (List Call)) → times k (output_slots (cs ∷ css)) ≡ times k (slots_in cs) + times k (output_slots css)
+of-both k cs css = ap (times k) (filter_map-append output_slot cs (all_calls css)) ∙ times-append k (slots_in cs) (output_slots css)
 
 pub all-left : (k : ℕ) (css : List (List Call)) → times_left k css (λ p. 0) ≡ times k (output_slots css)
 all-left k [] = refl
-all-left k (cs ∷ css) =
-    let rest = all-left k css in
-    let all : output_slots (cs ∷ css) ≡ slots_in cs ++ output_slots css = filter_map-append output_slot cs (all_calls css) in
-    let here = ap (times k) all in
-    omega (arith, rest, here, times-append k (slots_in cs) (output_slots css))
+all-left k (cs ∷ css) = omega (arith, all-left k css, of-both k cs css)
+
+-- what one processor names, and what two do, all name
+of-one : (k : ℕ) (css : List (List Call)) (p : ℕ) → times k (slots_in (calls_of css p)) ≤ times k (output_slots css)
+of-one k [] p = omega arith
+of-one k (cs ∷ css) zero = omega (arith, of-both k cs css)
+of-one k (cs ∷ css) (suc p) = omega (arith, of-both k cs css, of-one k css p)
+
+pub of-two : (k : ℕ) (css : List (List Call)) (p q : ℕ) → p ≢ q → times k (slots_in (calls_of css p)) + times k (slots_in (calls_of css q)) ≤ times k (output_slots css)
+of-two k [] p q ne = omega arith
+of-two k (cs ∷ css) zero zero ne = absurd (ne refl)
+of-two k (cs ∷ css) zero (suc q) ne = omega (arith, of-both k cs css, of-one k css q)
+of-two k (cs ∷ css) (suc p) zero ne = omega (arith, of-both k cs css, of-one k css p)
+of-two k (cs ∷ css) (suc p) (suc q) ne = omega (arith, of-both k cs css, of-two k css p q (λ e. ne (ap suc e)))
+
+-- and what all name one does
+pub by-one : (k : ℕ) (css : List (List Call)) → 1 ≤ times k (output_slots css) → (p : ℕ) × (p < length css) × (1 ≤ times k (slots_in (calls_of css p)))
+by-one k [] h = absurd (omega (arith, h))
+by-one k (cs ∷ css) h = by (λ some. by-one k css some) (cases_lt 0 (times k (slots_in cs)))
+  where
+    by : (1 ≤ times k (output_slots css) → (p : ℕ) × (p < length css) × (1 ≤ times k (slots_in (calls_of css p)))) → (0 < times k (slots_in cs)) ⊎ (times k (slots_in cs) ≤ 0)
+        → (p : ℕ) × (p < length (cs ∷ css)) × (1 ≤ times k (slots_in (calls_of (cs ∷ css) p)))
+    by further (inl some) = (0, omega arith, omega (arith, some))
+    by further (inr none) = (let at = further (omega (arith, h, none, of-both k cs css)) in (suc at.0, omega (arith, at.1), at.2))
 
 pub less-left : (k : ℕ) (css : List (List Call)) (before after : ℕ → ℕ) → ((q : ℕ) → before q ≤ after q) → times_left k css after ≤ times_left k css before
 less-left k [] before after le = omega arith
@@ -133,3 +139,9 @@ one-less k slot (ds ∷ css) zero before after c cs le more line is =
     omega (arith, one-later k slot (before 0) (after 0) ds c cs more line is, less-left k css (λ p. before (suc p)) (λ p. after (suc p)) (λ q. le (suc q)))
 one-less k slot (ds ∷ css) (suc p) before after c cs le more line is =
     omega (arith, later k (before 0) (after 0) ds (le 0), one-less k slot css p (λ p. before (suc p)) (λ p. after (suc p)) c cs (λ q. le (suc q)) more line is)
+
+-- of one processor no more than of all
+pub left-of-one : (k : ℕ) (css : List (List Call)) (acted : ℕ → ℕ) (p : ℕ) → times k (slots_in (drop (acted p) (calls_of css p))) ≤ times_left k css acted
+left-of-one k [] acted p = let none = ap (λ (cs : List Call). times k (slots_in cs)) (none-left (acted p)) in omega (arith, none)
+left-of-one k (cs ∷ css) acted zero = omega arith
+left-of-one k (cs ∷ css) acted (suc p) = let rest = left-of-one k css (λ q. acted (suc q)) p in omega (arith, rest)

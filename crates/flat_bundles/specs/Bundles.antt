@@ -1,13 +1,17 @@
 -- The bundles that a run makes are of its lines (TD Migration Architecture, "Migration Bundles").
-use Rattle.std.specs.Prelude.{◌≡◌, ◌≢◌, ◌≤◌, ℕ, List, [], ◌∷◌, ◌++◌, length, Option, Some, None, All, AllPairs}
+use Rattle.std.specs.Prelude.{◌≡◌, ◌≢◌, ◌≤◌, ℕ, suc, ◌+◌, List, [], ◌∷◌, ◌++◌, length, map, drop, filter_map, Option, Some, None, ◌==◌, All, AllPairs}
 use Rattle.std.specs.List.{Contains}
 use Rattle.td_words.specs.declared.calls.Call.{Call}
+use Rattle.td_words.specs.declared.replies.Reply.{Reply}
 use Rattle.td_words.specs.Slots.{output_slot, output_slots}
 use Rattle.flat_core.specs.World.{World, Made}
+use Rattle.flat_core.specs.Processor.{Phase, Answered, Lp}
+use Rattle.flat_core.specs.Locks.{one_if}
 use Rattle.flat_core.specs.Opening.{Opening}
+use Rattle.flat_core.specs.Event.{State}
 use Rattle.flat_core.specs.Table.{row_of}
 use Rattle.flat_core.specs.Run.{bundles_in}
-use Rattle.flat_core.specs.Laws.{HoldsInRuns}
+use Rattle.flat_core.specs.Laws.{IsKept, HoldsInRuns}
 
 -- a bundle comes behind those before, in that slot, with a payload of at most a page
 pub record AddsBundle (slot : ℕ) (before after : List Made) : Type 0 where
@@ -35,3 +39,39 @@ pub record AreOfLines (calls : List (List Call)) (bundles : List Made) : Type 0 
 -- The bundles that every run has made, at its end and in every state before it, are of its lines.
 abbrev pub BundlesAreOfLines : Type 0
 BundlesAreOfLines = HoldsInRuns (λ o s. AreOfLines o.calls (bundles_in s))
+
+-- Why it is so, event by event
+
+-- how often a slot is in a list
+abbrev pub times : ℕ → List ℕ → ℕ
+times k [] = 0
+times k (x ∷ xs) = one_if (x == k) + times k xs
+
+-- of bundles, by their slots; and of the calls of a processor
+abbrev pub slots_of : List Made → List ℕ
+slots_of ms = map (λ m. m.slot) ms
+
+abbrev pub slots_in : List Call → List ℕ
+slots_in cs = filter_map output_slot cs
+
+-- of processors with these calls, of each of which so many have acted
+abbrev pub times_left : ℕ → List (List Call) → (ℕ → ℕ) → ℕ
+times_left k [] acted = 0
+times_left k (cs ∷ css) acted = times k (slots_in (drop (acted 0) cs)) + times_left k css (λ p. acted (suc p))
+
+-- how many calls of a processor have acted, or were refused: a guest's is in its guest until it leaves
+abbrev pub answered : Phase Reply → ℕ
+answered (Answered r) = 1
+answered _ = 0
+
+abbrev pub acted : Lp → ℕ
+acted lp = answered lp.call.phase + length lp.replies
+
+-- the bundles that were made and the calls that are still to act name no slot oftener than all calls do
+pub record AreFitting (o : Opening) (s : State) : Type 0 where
+  pub slots : (k : ℕ) → times k (slots_of (bundles_in s)) + times_left k o.calls (λ p. acted (s.lps p)) ≤ times k (output_slots o.calls)
+  pub pages : All (λ m. length m.payload ≤ 512) (bundles_in s)
+
+-- One event keeps it, whatever bundles have come in; so it keeps that they are of these lines.
+abbrev pub LinesAreKept : Type 0
+LinesAreKept = IsKept (λ o s. AreFitting o s × AreOfLines o.calls (bundles_in s))

@@ -1,3 +1,5 @@
 pub mod Bundles
+pub mod Ended
 pub mod Taken
 pub mod Formed
+pub mod Counters

@@ -1,11 +1,14 @@
 //! Pages that wait for their guest.
 
-use row_replay::{PAGE, RUNS, Row, SECOND, TREE, replay_rows};
+use row_replay::{
+    ALONE, Asked, End, PAGE, RUNS, Row, SECOND, TREE, Told, replay_ends, replay_rows,
+};
 use std::test::Fail;
 
-const ROWS: &[Row<'static>] = &[
-    // A page that waits is accepted with zeros, whatever the host wrote; one that is mapped keeps
-    // its words.
+// A page that waits is accepted with zeros, whatever the host wrote.
+const WAITED: Asked<'static> = (
+    "replay s --guest-out g ; run s --guest-out g",
+    "1 32 1",
     (
         "",
         &["1 0 | accept 0 | load 1 0"],
@@ -19,6 +22,12 @@ const ROWS: &[Row<'static>] = &[
         ]],
         "0.15 load 0x0 0",
     ),
+);
+
+const CHECKED: &[End<'static>] = &[("check s", &[], &[], 0, Told::Alone("ok 1 16 2 0\n"), "")];
+
+const ROWS: &[Row<'static>] = &[
+    // A page that is mapped keeps its words.
     (
         "",
         &["1 0 | set 1 7 | store 1 0 | accept 0 | load 2 0"],
@@ -154,5 +163,6 @@ const ROWS: &[Row<'static>] = &[
 
 #[test]
 fn a_page_is_accepted_once(rt: HostRuntime) -> Result<(), Fail> {
+    replay_ends(&rt, rt.alloc(), ALONE, &WAITED, CHECKED)?;
     replay_rows(&rt, rt.alloc(), ROWS)
 }

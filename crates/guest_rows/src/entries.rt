@@ -1,7 +1,39 @@
 //! Entering a VCPU, and letting it go.
 
-use row_replay::{RUNS, Row, TREE, replay_rows};
+use row_replay::{ALONE, Asked, RUNS, Row, TREE, replay_asked, replay_rows};
 use std::test::Fail;
+
+const WORKED: &[Asked<'static>] = &[
+    // A VCPU is let go by the processor that has entered it, and once.
+    (
+        "replay s",
+        "2 32 1",
+        (
+            "0*79",
+            &[],
+            &[
+                &[TREE, RUNS, "EXIT STOP | VP.ENTER 1 4 9"],
+                &["VCPU_ASSOCIATED 0 | VP.FLUSH 1 4"],
+            ],
+            "",
+        ),
+    ),
+    (
+        "replay s",
+        "1 32 1",
+        (
+            "",
+            &[],
+            &[&[
+                TREE,
+                RUNS,
+                "EXIT STOP | VP.ENTER 1 4 9",
+                "SUCCESS | VP.FLUSH 1 4 ; VCPU_NOT_ASSOCIATED | VP.FLUSH 1 4",
+            ]],
+            "",
+        ),
+    ),
+];
 
 const ROWS: &[Row<'static>] = &[
     // Arguments: each range, the page named twice, and which of two counts.
@@ -65,26 +97,13 @@ const ROWS: &[Row<'static>] = &[
         ]],
         "",
     ),
-    // A VCPU that was entered is let go once.
-    (
-        "",
-        &[],
-        &[&[
-            TREE,
-            RUNS,
-            "EXIT STOP | VP.ENTER 1 4 9",
-            "SUCCESS | VP.FLUSH 1 4",
-            "VCPU_NOT_ASSOCIATED | VP.FLUSH 1 4",
-        ]],
-        "",
-    ),
     // A VCPU that another processor has entered.
     (
         "0*79",
         &[],
         &[
             &[TREE, RUNS, "EXIT STOP | VP.ENTER 1 4 9"],
-            &["VCPU_ASSOCIATED 0 | VP.FLUSH 1 4 | VP.ENTER 1 4 9"],
+            &["VCPU_ASSOCIATED 0 | VP.ENTER 1 4 9"],
         ],
         "",
     ),
@@ -101,5 +120,6 @@ const ROWS: &[Row<'static>] = &[
 
 #[test]
 fn entries_are_refused_in_order(rt: HostRuntime) -> Result<(), Fail> {
+    replay_asked(&rt, rt.alloc(), ALONE, WORKED)?;
     replay_rows(&rt, rt.alloc(), ROWS)
 }

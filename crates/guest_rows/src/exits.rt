@@ -1,22 +1,29 @@
 //! Why a guest leaves, where no memory is in play.
 
-use row_replay::{BUILT, RUNS, Row, TREE, replay_rows};
+use row_replay::{ALONE, Asked, BUILT, RUNS, Row, TREE, replay_asked, replay_rows};
 use std::test::Fail;
 
-const ROWS: &[Row<'static>] = &[
-    // MAX is tested behind each operation, an exit by vmcall is neither STOP nor MAX, and STOP
-    // comes first.
+const WORKED: &[Asked<'static>] = &[
+    // MAX is tested behind each operation, an exit by vmcall is neither STOP nor MAX, and STOP comes first.
     (
-        "",
-        &["1 0 | set 1 7 | vmcall 1"],
-        &[&[
-            TREE,
-            RUNS,
-            "EXIT MAX | VP.ENTER 1 4 1 ; EXIT VMCALL 7 | VP.ENTER 1 4 1 ; EXIT STOP \
-                    | VP.ENTER 1 4 1",
-        ]],
-        "",
+        "replay s",
+        "1 32 1",
+        (
+            "",
+            &["1 0 | set 1 7 | vmcall 1"],
+            &[&[
+                TREE,
+                RUNS,
+                "EXIT MAX | VP.ENTER 1 4 1 ; EXIT VMCALL 7 | VP.ENTER 1 4 1",
+                "EXIT STOP | VP.ENTER 1 4 1",
+            ]],
+            "",
+        ),
     ),
+];
+
+const ROWS: &[Row<'static>] = &[
+    // STOP comes before MAX.
     (
         "",
         &["1 0 | set 1 7 | add 1 1"],
@@ -64,5 +71,6 @@ const ROWS: &[Row<'static>] = &[
 
 #[test]
 fn each_exit_has_its_cause(rt: HostRuntime) -> Result<(), Fail> {
+    replay_asked(&rt, rt.alloc(), ALONE, WORKED)?;
     replay_rows(&rt, rt.alloc(), ROWS)
 }

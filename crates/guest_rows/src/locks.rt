@@ -1,7 +1,38 @@
 //! Locks that a guest holds until it is out.
 
-use row_replay::{RUNS, Row, TREE, replay_rows};
+use row_replay::{ALONE, Asked, RUNS, Row, TREE, replay_asked, replay_rows};
 use std::test::Fail;
+
+const WORKED: &[Asked<'static>] = &[
+    // P of the VCPU is held alone.
+    (
+        "replay s",
+        "2 32 1",
+        (
+            "0*75 1*2",
+            &[],
+            &[
+                &[TREE, RUNS, "EXIT STOP | VP.ENTER 1 4 9"],
+                &["OPERAND_BUSY P 4 | VP.FLUSH 1 4"],
+            ],
+            "",
+        ),
+    ),
+    // Once its guest is out the VCPU's association is left.
+    (
+        "replay s",
+        "2 32 1",
+        (
+            "0*79",
+            &[],
+            &[
+                &[TREE, RUNS, "EXIT STOP | VP.ENTER 1 4 9"],
+                &["FLUSHVP_NOT_DONE 1 | MNG.VPFLUSHDONE 1"],
+            ],
+            "",
+        ),
+    ),
+];
 
 const ROWS: &[Row<'static>] = &[
     // The TDR page is shared up to the last event of the entry.
@@ -11,16 +42,6 @@ const ROWS: &[Row<'static>] = &[
         &[
             &[TREE, RUNS, "EXIT STOP | VP.ENTER 1 4 9"],
             &["OPERAND_BUSY P 1 | MNG.VPFLUSHDONE 1"],
-        ],
-        "",
-    ),
-    // Then its association is left.
-    (
-        "0*79",
-        &[],
-        &[
-            &[TREE, RUNS, "EXIT STOP | VP.ENTER 1 4 9"],
-            &["FLUSHVP_NOT_DONE 1 | MNG.VPFLUSHDONE 1"],
         ],
         "",
     ),
@@ -43,16 +64,7 @@ const ROWS: &[Row<'static>] = &[
         ],
         "",
     ),
-    // P of the VCPU is held alone.
-    (
-        "0*75 1*2",
-        &[],
-        &[
-            &[TREE, RUNS, "EXIT STOP | VP.ENTER 1 4 9"],
-            &["OPERAND_BUSY P 4 | VP.FLUSH 1 4"],
-        ],
-        "",
-    ),
+    // P of the VCPU is held alone up to the exit's second event.
     (
         "0*76 1*5",
         &[],
@@ -62,16 +74,7 @@ const ROWS: &[Row<'static>] = &[
         ],
         "",
     ),
-    // The epoch is shared from the fourth try to the sixth event.
-    (
-        "0*73 1*3",
-        &[],
-        &[
-            &[TREE, RUNS, "EXIT STOP | VP.ENTER 1 4 9"],
-            &["OPERAND_BUSY E | MEM.TRACK 1"],
-        ],
-        "",
-    ),
+    // The epoch is shared up to the sixth event.
     (
         "0*74 1*3",
         &[],
@@ -85,5 +88,6 @@ const ROWS: &[Row<'static>] = &[
 
 #[test]
 fn a_guest_holds_its_locks(rt: HostRuntime) -> Result<(), Fail> {
+    replay_asked(&rt, rt.alloc(), ALONE, WORKED)?;
     replay_rows(&rt, rt.alloc(), ROWS)
 }

@@ -1,29 +1,82 @@
 //! Secret words, each row in two worlds or more: what a guest keeps of them is in the guest file alone,
 //! and what it tells is in the replies.
 
-use row_replay::{OTHER, PAGE, RUNS, SECOND, SecretRow, TREE, replay_secret_rows};
+use row_replay::{
+    ALONE, Asked, Beside, End, OTHER, PAGE, RUNS, SECOND, SecretRow, TREE, Told, World,
+    replay_ends, replay_secret_rows, replay_worlds,
+};
 use std::test::Fail;
 
-const ROWS: &[SecretRow<'static>] = &[
-    // A secret is stored into a private page, and loaded again.
+const LINES: &str = "replay s --secrets z --guest-out g ; run s --secrets z --guest-out g";
+
+const KEPT: &[&str] = &["1 0 | secret 1 0 | store 1 8 | load 2 8"];
+
+const TOLD: &[&str] = &["1 0 | secret 1 0 | store 1 8 | load 2 8 | vmcall 1"];
+
+const STOPS: &[&[&str]] = &[&[TREE, PAGE, RUNS, "EXIT STOP | VP.ENTER 1 4 100"]];
+
+// A secret is stored into a private page, and loaded again; and it is told besides.
+const WORLDS: &[World<'static>] = &[
     (
         &[5],
-        (
-            "",
-            &["1 0 | secret 1 0 | store 1 8 | load 2 8"],
-            &[&[TREE, PAGE, RUNS, "EXIT STOP | VP.ENTER 1 4 100"]],
-            "0.13 load 0x8 5",
-        ),
+        &[
+            (LINES, "1 32 1", ("", KEPT, STOPS, "0.13 load 0x8 5")),
+            (
+                LINES,
+                "1 32 1",
+                (
+                    "",
+                    TOLD,
+                    &[&[TREE, PAGE, RUNS, "EXIT VMCALL 5 | VP.ENTER 1 4 100"]],
+                    "0.13 load 0x8 5",
+                ),
+            ),
+        ],
     ),
     (
         &[6],
-        (
-            "",
-            &["1 0 | secret 1 0 | store 1 8 | load 2 8"],
-            &[&[TREE, PAGE, RUNS, "EXIT STOP | VP.ENTER 1 4 100"]],
-            "0.13 load 0x8 6",
-        ),
+        &[
+            (LINES, "1 32 1", ("", KEPT, STOPS, "0.13 load 0x8 6")),
+            (
+                LINES,
+                "1 32 1",
+                (
+                    "",
+                    TOLD,
+                    &[&[TREE, PAGE, RUNS, "EXIT VMCALL 6 | VP.ENTER 1 4 100"]],
+                    "0.13 load 0x8 6",
+                ),
+            ),
+        ],
     ),
+];
+
+// Without a secrets file all secrets are 0; and there has to be one where one is named, of its length.
+const WITHOUT: Asked<'static> = (
+    "replay s --guest-out g",
+    "1 32 1",
+    ("", KEPT, STOPS, "0.13 load 0x8 0"),
+);
+
+const ABSENT: &[End<'static>] = &[(
+    "replay s --secrets z --guest-out g",
+    &[],
+    &[],
+    3,
+    Told::Alone("cannot read z\n"),
+    "",
+)];
+
+const CUT: &[End<'static>] = &[(
+    "replay s --secrets z4095 --guest-out g",
+    &[],
+    &[],
+    7,
+    Told::Alone("secrets file\n"),
+    "",
+)];
+
+const ROWS: &[SecretRow<'static>] = &[
     // The file may be all zeros.
     (
         &[],
@@ -32,25 +85,6 @@ const ROWS: &[SecretRow<'static>] = &[
             &["1 0 | set 1 7 | secret 1 511 | store 1 8 | load 2 8"],
             &[&[TREE, PAGE, RUNS, "EXIT STOP | VP.ENTER 1 4 100"]],
             "0.13 load 0x8 0",
-        ),
-    ),
-    // It is told besides.
-    (
-        &[5],
-        (
-            "",
-            &["1 0 | secret 1 0 | store 1 8 | load 2 8 | vmcall 1"],
-            &[&[TREE, PAGE, RUNS, "EXIT VMCALL 5 | VP.ENTER 1 4 100"]],
-            "0.13 load 0x8 5",
-        ),
-    ),
-    (
-        &[6],
-        (
-            "",
-            &["1 0 | secret 1 0 | store 1 8 | load 2 8 | vmcall 1"],
-            &[&[TREE, PAGE, RUNS, "EXIT VMCALL 6 | VP.ENTER 1 4 100"]],
-            "0.13 load 0x8 6",
         ),
     ),
     // Words stand with their lowest byte first, one behind another; a register keeps its word between
@@ -196,5 +230,16 @@ const ROWS: &[SecretRow<'static>] = &[
 
 #[test]
 fn a_secret_is_told_or_kept(rt: HostRuntime) -> Result<(), Fail> {
+    replay_worlds(&rt, rt.alloc(), WORLDS)?;
     replay_secret_rows(&rt, rt.alloc(), ROWS)
+}
+
+#[test]
+fn a_secrets_file_is_there_in_its_length(rt: HostRuntime) -> Result<(), Fail> {
+    replay_ends(&rt, rt.alloc(), ALONE, &WITHOUT, ABSENT)?;
+    let zeros = Beside {
+        secrets: Some(&[]),
+        bundles: None,
+    };
+    replay_ends(&rt, rt.alloc(), zeros, &WITHOUT, CUT)
 }

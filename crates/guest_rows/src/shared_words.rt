@@ -1,7 +1,40 @@
 //! Words of the host's pages, which guests reach by shared GPAs.
 
-use row_replay::{PAGE, RUNS, Row, TREE, replay_rows};
+use row_replay::{ALONE, Asked, PAGE, RUNS, Row, TREE, replay_asked, replay_rows};
 use std::test::Fail;
+
+const WORKED: &[Asked<'static>] = &[
+    // The host's page of that number, before and behind the access that isn't allowed.
+    (
+        "replay s ; run s",
+        "1 32 1",
+        (
+            "",
+            &["1 0 | set 1 7 | store 1 0x800000014008 | load 2 0x800000001000"],
+            &[&[
+                TREE,
+                RUNS,
+                "EXIT EPT_VIOLATION 0x800000001000 READ | VP.ENTER 1 4 9",
+                "SUCCESS 7 | HOST.READ 20 1",
+            ]],
+            "",
+        ),
+    ),
+    // A page that is held: the try, its undo, and the four events of the exit.
+    (
+        "replay s",
+        "2 32 1",
+        (
+            "0*75 1 0*2",
+            &["1 0 | load 1 0x800000014000"],
+            &[
+                &[TREE, RUNS, "EXIT BUSY P 20 | VP.ENTER 1 4 9"],
+                &["HKID_NOT_FREE | MNG.CREATE 20 1"],
+            ],
+            "",
+        ),
+    ),
+];
 
 const ROWS: &[Row<'static>] = &[
     // The host's words that were added, the first and the last; and shared words, which both may
@@ -22,18 +55,6 @@ const ROWS: &[Row<'static>] = &[
             "SUCCESS 22 | HOST.READ 15 0",
         ]],
         "0.16 load 0x0 11 | 0.16 load 0xff8 22 | 0.16 load 0x80000000fff8 33",
-    ),
-    // The host's page of that number, before and behind the access that isn't allowed.
-    (
-        "",
-        &["1 0 | set 1 7 | store 1 0x800000014008 | load 2 0x800000001000"],
-        &[&[
-            TREE,
-            RUNS,
-            "EXIT EPT_VIOLATION 0x800000001000 READ | VP.ENTER 1 4 9",
-            "SUCCESS 7 | HOST.READ 20 1",
-        ]],
-        "",
     ),
     // Shared pages: its own TDVPR page, another VCPU's, the secure EPT, the first that the machine
     // hasn't, and the last GPA.
@@ -60,17 +81,7 @@ const ROWS: &[Row<'static>] = &[
         ]],
         "",
     ),
-    // A page that is held: the try, its undo, and the four events of the exit; then it is the
-    // host's.
-    (
-        "0*75 1 0*2",
-        &["1 0 | load 1 0x800000014000"],
-        &[
-            &[TREE, RUNS, "EXIT BUSY P 20 | VP.ENTER 1 4 9"],
-            &["HKID_NOT_FREE | MNG.CREATE 20 1"],
-        ],
-        "",
-    ),
+    // A page that was held is tried again by the next entry.
     (
         "0*75 1 0*6 1*4",
         &["1 0 | load 1 0x800000014000"],
@@ -130,5 +141,6 @@ const ROWS: &[Row<'static>] = &[
 
 #[test]
 fn a_shared_word_is_the_hosts(rt: HostRuntime) -> Result<(), Fail> {
+    replay_asked(&rt, rt.alloc(), ALONE, WORKED)?;
     replay_rows(&rt, rt.alloc(), ROWS)
 }

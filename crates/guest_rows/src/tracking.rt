@@ -1,34 +1,44 @@
 //! Memory that is taken from a TD whose guests run.
 
-use row_replay::{PAGE, RUNS, Row, SECOND, TREE, replay_rows};
+use row_replay::{ALONE, Asked, PAGE, RUNS, Row, SECOND, TREE, replay_asked, replay_rows};
 use std::test::Fail;
 
-const ROWS: &[Row<'static>] = &[
+const WORKED: &[Asked<'static>] = &[
     // A reader is left alone until it is out: blocked, tracked, removed, cleared.
     (
-        "0*91 1*40 0*5",
-        &["1 0 | load 1 0 | set 2 5"],
-        &[
-            &[TREE, PAGE, RUNS, "EXIT STOP | VP.ENTER 1 4 100"],
+        "replay s",
+        "2 32 1",
+        (
+            "0*91 1*40 0*5",
+            &["1 0 | load 1 0 | set 2 5"],
             &[
-                "SUCCESS | MEM.RANGE.BLOCK 1 0 0 ; TLB_TRACKING_NOT_DONE \
-                    | MEM.PAGE.REMOVE 1 0",
-                "SUCCESS | MEM.TRACK 1 ; TLB_TRACKING_NOT_DONE | MEM.PAGE.REMOVE 1 0",
-                "SUCCESS | MEM.PAGE.REMOVE 1 0 ; SUCCESS 0 | HOST.READ 8 0",
+                &[TREE, PAGE, RUNS, "EXIT STOP | VP.ENTER 1 4 100"],
+                &[
+                    "SUCCESS | MEM.RANGE.BLOCK 1 0 0 ; TLB_TRACKING_NOT_DONE | MEM.PAGE.REMOVE 1 0",
+                    "SUCCESS | MEM.TRACK 1 ; TLB_TRACKING_NOT_DONE | MEM.PAGE.REMOVE 1 0",
+                    "SUCCESS | MEM.PAGE.REMOVE 1 0 ; SUCCESS 0 | HOST.READ 8 0",
+                ],
             ],
-        ],
-        "0.13 load 0x0 0",
+            "",
+        ),
     ),
     // The epoch may not advance twice while a VCPU of the epoch before is in guest.
     (
-        "0*91 1*14",
-        &["1 0 | load 1 0 | set 2 5"],
-        &[
-            &[TREE, PAGE, RUNS, "EXIT STOP | VP.ENTER 1 4 100"],
-            &["SUCCESS | MEM.TRACK 1 ; PREVIOUS_TLB_EPOCH_BUSY 1 | MEM.TRACK 1"],
-        ],
-        "0.13 load 0x0 0",
+        "replay s",
+        "2 32 1",
+        (
+            "0*91 1*14",
+            &["1 0 | load 1 0 | set 2 5"],
+            &[
+                &[TREE, PAGE, RUNS, "EXIT STOP | VP.ENTER 1 4 100"],
+                &["SUCCESS | MEM.TRACK 1 ; PREVIOUS_TLB_EPOCH_BUSY 1 | MEM.TRACK 1"],
+            ],
+            "",
+        ),
     ),
+];
+
+const ROWS: &[Row<'static>] = &[
     // A page is removed beside a guest that entered behind the block's tracking, which may stay in.
     (
         "0*104 1*11",
@@ -105,5 +115,6 @@ const ROWS: &[Row<'static>] = &[
 
 #[test]
 fn no_page_is_taken_from_a_guest_that_may_use_it(rt: HostRuntime) -> Result<(), Fail> {
+    replay_asked(&rt, rt.alloc(), ALONE, WORKED)?;
     replay_rows(&rt, rt.alloc(), ROWS)
 }

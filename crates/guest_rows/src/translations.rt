@@ -1,32 +1,39 @@
 //! What a processor keeps of cached translations, and what it drops.
 
-use row_replay::{OTHER, PAGE, RUNS, Row, SECOND, TREE, replay_rows};
+use row_replay::{ALONE, Asked, OTHER, PAGE, RUNS, Row, SECOND, TREE, replay_asked, replay_rows};
 use std::test::Fail;
 
-const ROWS: &[Row<'static>] = &[
+const WORKED: &[Asked<'static>] = &[
     // A new association drops what the processor has cached of the TD.
     (
-        "0*94 1*15 0*45",
-        &["1 0 | set 2 1 | load 1 0", "1 1 | load 1 0"],
-        &[
+        "replay s",
+        "2 32 1",
+        (
+            "0*94 1*15 0*45",
+            &["1 0 | set 2 1 | load 1 0", "1 1 | load 1 0"],
             &[
-                TREE,
-                SECOND,
-                PAGE,
-                RUNS,
-                "SUCCESS | MEM.RANGE.BLOCK 1 0 0 | MEM.TRACK 1 | MEM.PAGE.REMOVE 1 0",
-                "EXIT MAX | VP.ENTER 1 4 1",
-                "SUCCESS | VP.FLUSH 1 4",
+                &[
+                    TREE,
+                    SECOND,
+                    PAGE,
+                    RUNS,
+                    "SUCCESS | MEM.RANGE.BLOCK 1 0 0 | MEM.TRACK 1 | MEM.PAGE.REMOVE 1 0",
+                    "EXIT MAX | VP.ENTER 1 4 1",
+                    "SUCCESS | VP.FLUSH 1 4",
+                ],
+                &[
+                    "EXIT STOP | VP.ENTER 1 9 1",
+                    "EXIT EPT_VIOLATION 0x0 READ | VP.ENTER 1 4 1",
+                ],
             ],
-            &[
-                "EXIT STOP | VP.ENTER 1 9 1",
-                "EXIT EPT_VIOLATION 0x0 READ | VP.ENTER 1 4 1",
-            ],
-        ],
-        "1.1 load 0x0 0",
+            "",
+        ),
     ),
-    // An old association drops them where the epoch isn't that of the last entry, and keeps them
-    // else.
+];
+
+const ROWS: &[Row<'static>] = &[
+    // An old association drops what the processor has cached of the TD where the epoch isn't that of
+    // the last entry, and keeps it else.
     (
         "",
         &["1 0 | load 1 0 | load 2 0 | load 3 0 | load 4 0"],
@@ -218,5 +225,6 @@ const ROWS: &[Row<'static>] = &[
 
 #[test]
 fn stale_translations_are_dropped_at_an_entry(rt: HostRuntime) -> Result<(), Fail> {
+    replay_asked(&rt, rt.alloc(), ALONE, WORKED)?;
     replay_rows(&rt, rt.alloc(), ROWS)
 }

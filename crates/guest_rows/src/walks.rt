@@ -1,7 +1,28 @@
 //! Walks of the secure EPT, whose entries change meanwhile.
 
-use row_replay::{BUILT, PAGE, RUNS, Row, SECOND, TREE, replay_rows};
+use row_replay::{ALONE, Asked, BUILT, PAGE, RUNS, Row, SECOND, TREE, replay_asked, replay_rows};
 use std::test::Fail;
+
+const WORKED: &[Asked<'static>] = &[
+    // A walk through a page of the secure EPT, which isn't removed under it.
+    (
+        "replay s",
+        "2 32 1",
+        (
+            "0*78 1*29",
+            &["1 0 | load 1 0"],
+            &[
+                &[TREE, RUNS, "EXIT EPT_VIOLATION 0x0 READ | VP.ENTER 1 4 9"],
+                &[
+                    "SUCCESS | MEM.RANGE.BLOCK 1 0 1 | MEM.TRACK 1",
+                    "TLB_TRACKING_NOT_DONE | MEM.SEPT.REMOVE 1 0 1",
+                    "SUCCESS | MEM.SEPT.REMOVE 1 0 1 ; SUCCESS 0 | HOST.READ 7 0",
+                ],
+            ],
+            "",
+        ),
+    ),
+];
 
 const ROWS: &[Row<'static>] = &[
     // An operation that isn't completed is tried again: what is missing comes level by level.
@@ -155,24 +176,10 @@ const ROWS: &[Row<'static>] = &[
         ],
         "",
     ),
-    // A walk through a page of the secure EPT, which isn't removed under it.
-    (
-        "0*78 1*29",
-        &["1 0 | load 1 0"],
-        &[
-            &[TREE, RUNS, "EXIT EPT_VIOLATION 0x0 READ | VP.ENTER 1 4 9"],
-            &[
-                "SUCCESS | MEM.RANGE.BLOCK 1 0 1 | MEM.TRACK 1 ; TLB_TRACKING_NOT_DONE \
-                    | MEM.SEPT.REMOVE 1 0 1",
-                "SUCCESS | MEM.SEPT.REMOVE 1 0 1",
-                "SUCCESS 0 | HOST.READ 7 0",
-            ],
-        ],
-        "",
-    ),
 ];
 
 #[test]
 fn a_walk_is_four_loads(rt: HostRuntime) -> Result<(), Fail> {
+    replay_asked(&rt, rt.alloc(), ALONE, WORKED)?;
     replay_rows(&rt, rt.alloc(), ROWS)
 }

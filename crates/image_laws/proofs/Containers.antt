@@ -1,5 +1,5 @@
 -- What a run has sealed comes in as it was made, so nothing of it is forged.
-use Rattle.std.proofs.Common.{◌≡◌, ◌≢◌, ◌<◌, refl, sym, ◌∙◌, ap, subst, ℕ, List, [], ◌∷◌, ◌++◌, map, get_or, Option, Some, Ok, Result, ◌==◌, nat_le, arith}
+use Rattle.std.proofs.Common.{◌≡◌, ◌≢◌, ◌<◌, refl, sym, ◌∙◌, ap, subst, ℕ, List, [], ◌∷◌, ◌++◌, map, get_or, Some, Ok, Result, ◌==◌, nat_le, lit<, arith}
 use Rattle.std.specs.Prelude.{IfSome, AllPairs}
 use Rattle.std.specs.List.{All}
 use Rattle.std.proofs.lemmas.Bool.{eq-eqb, ne_eqb}
@@ -8,16 +8,17 @@ use Rattle.std.proofs.lemmas.List.Sorted.{All-permutation, IsPermutation-sym}
 use Rattle.td_words.specs.declared.names.HeaderField.{HeaderField}
 use Rattle.flat_core.specs.World.{ClearHeader, Made}
 use Rattle.flat_core.specs.Opening.{Opening, Incoming}
-use Rattle.flat_core.specs.Run.{bundles_in}
-use Rattle.flat_core.specs.Laws.{reached}
+use Rattle.flat_core.specs.Event.{State, start, event}
+use Rattle.flat_core.specs.Run.{play, bundles_in}
+use Rattle.flat_core.specs.Laws.{with_bundles, reached}
 use Rattle.flat_core.proofs.Tests.{by_test}
-use Rattle.flat_words.specs.Words.{BringsWords, GivesWords, AreToTell, HasWords}
-use Rattle.flat_words.proofs.Words.{bundles_have_words}
-use Rattle.flat_bundles.specs.Formed.{IsFormed, AreCodesShort}
-use Rattle.flat_bundles.proofs.Formed.{every_bundle_is_formed}
+use Rattle.flat_words.specs.Words.{IsWord, AreWords, BringsWords, HasWords}
+use Rattle.flat_words.proofs.Words.{events_keep_words}
+use Rattle.flat_bundles.specs.Formed.{IsFormed}
+use Rattle.flat_bundles.proofs.Formed.{forms_kept}
 use Rattle.mig_laws.specs.Image.{IsMade, Unforged}
 use Rattle.mig_laws.proofs.Places.{by_places, at_place}
-use Rattle.mig_laws.proofs.Destination.{starts_from_its_pause}
+use Rattle.mig_laws.proofs.Destination.{destination_kept, starts_from_its_pause}
 use Rattle.bundle_texts.specs.Sealed.{key_of, iv_bytes, additional_bytes, sealed_payload, tag_of, sealed_bytes, sealed}
 use Rattle.bundle_texts.specs.Ordered.{put_in, in_slot_order}
 use Rattle.bundle_texts.proofs.Order.{Rise, order_moves, order_rises}
@@ -27,7 +28,7 @@ use Rattle.incoming.specs.Opened.{opened}
 use Rattle.incoming.specs.Arrivals.{incoming_in, at_slot}
 use Rattle.incoming.specs.Laws.{IsWhole}
 use Rattle.incoming.proofs.Sealed.{sealed-comes-in}
-use Rattle.image_laws.specs.Containers.{brought, as_made, ContainersBringBundles, NothingIsForged, ContainersBringImages, ContainersBringWords}
+use Rattle.image_laws.specs.Containers.{brought, as_made, AreWhole, MakesWhole, WholeIsKept, RunsMakeWhole, ContainersBringBundles, ComeOf, NothingIsForged, ContainersBringWords, ImagesAreKept, ContainersBringImages}
 
 -- what holds of bundles holds of them in the order of their slots
 put_holds : (P : Made → Type 0) (m : Made) (ns : List Made) → P m → All P ns → All P (put_in m ns)
@@ -36,7 +37,7 @@ put_holds P m (n ∷ ns) p h = by_test (nat_le m.slot n.slot)
     (λ y. rw y (All-cons P m (n ∷ ns) p h))
     (λ y. rw y (All-cons P n (put_in m ns) (All-head P n ns h) (put_holds P m ns p (All-tail P n ns h))))
 
-order_holds : (P : Made → Type 0) (ms : List Made) → All P ms → All P (in_slot_order ms)
+pub order_holds : (P : Made → Type 0) (ms : List Made) → All P ms → All P (in_slot_order ms)
 order_holds P [] h = All-nil P
 order_holds P (m ∷ ms) h = put_holds P m (in_slot_order ms) (All-head P m ms h) (order_holds P ms (All-tail P m ms h))
 
@@ -103,33 +104,61 @@ module _ (forward backward : List ℕ) (made : List Made) where
       (λ y. let own = All-head Whole m ms whole in rw y (subst BringsWords (sym (sealed-comes-in forward backward m own)) own.words))
       (λ y. rw y (brings ms (All-tail Whole m ms whole) slot))
 
-module _ (forward backward : List ℕ) (q : Opening) (to_tell : Option (List ℕ)) (schedule : List ℕ) (short : AreCodesShort q) (gives : GivesWords q) (telling : AreToTell to_tell) where
-  abbrev made : List Made
-  made = bundles_in (reached q to_tell schedule)
+  pub all_whole : AreWhole made → All Whole made
+  all_whole are = each_whole are.forms are.words
 
-  all_whole : All (Whole forward backward made) made
-  all_whole = each_whole forward backward made (every_bundle_is_formed q to_tell schedule short) (bundles_have_words q to_tell schedule gives telling)
-
-  arrive : AllPairs (λ m n. m.slot ≢ n.slot) made → All (λ m. brought forward backward made m.slot ≡ Some (as_made m)) made
-  arrive apart =
+  pub arrive : AreWhole made → AllPairs (λ m n. m.slot ≢ n.slot) made → All (λ m. brought forward backward made m.slot ≡ Some (as_made m)) made
+  arrive are apart =
       All-permutation (λ m. brought forward backward made m.slot ≡ Some (as_made m)) (in_slot_order made) made (IsPermutation-sym made (in_slot_order made) (order_moves made))
-      (stand_in forward backward made (in_slot_order made) (order_holds (Whole forward backward made) made all_whole) (order_rises made apart))
+      (stand_in (in_slot_order made) (order_holds Whole made (all_whole are)) (order_rises made apart))
 
-  unforged : (o : Opening) → ((slot : ℕ) → o.bundles slot ≡ brought forward backward made slot) → Unforged o made
-  unforged o same slot b h is has opens kind =
-      come_in forward backward made (in_slot_order made) (order_holds (Opens forward backward made) made (each_opens forward backward made all_whole)) slot b h (sym (same slot) ∙ is) has
+  pub unforged : AreWhole made → (o : Opening) → ComeOf forward backward made o.bundles → Unforged o made
+  unforged are o of slot b h is has opens kind =
+      come_in (in_slot_order made) (order_holds Opens made (each_opens (all_whole are))) slot b h (of slot b is) has
+
+  pub bring_words : AreWhole made → (slot : ℕ) → IfSome (brought forward backward made slot) BringsWords
+  bring_words are = brings (in_slot_order made) (order_holds Whole made (all_whole are))
+
+-- ---- what a run makes
+
+none_told : AreWords (λ i. 0)
+none_told i = lit< tt
+
+pub whole_is_kept : WholeIsKept
+whole_is_kept = record {
+  bundles = λ o s h. record { forms = h.forms.formed; words = h.words.made };
+  start = λ o ws short telling. record {
+    timely = (forms_kept.start o ws).0;
+    forms = (forms_kept.start o ws).1 short;
+    words = record { memory = λ p. none_told; registers = λ v. none_told; rtmrs = λ t. none_told; mrtds = λ t. none_told; known = λ t g. tt; told = All-nil IsWord; to_tell = telling; made = All-nil HasWords };
+  };
+  event = λ o bundles s p short gives h. (let next = forms_kept.event o bundles s p (h.timely, λ given. h.forms) in
+      record { timely = next.0; forms = next.1 short; words = events_keep_words (with_bundles o bundles) s p gives h.words });
+}
+
+pub runs_make_whole : RunsMakeWhole
+runs_make_whole o ws schedule short gives telling = whole_is_kept.bundles o (reached o ws schedule) (by schedule (start o ws) (whole_is_kept.start o ws short telling))
+  where
+    by : (ps : List ℕ) (s : State) → MakesWhole o s → MakesWhole o (play o ps s)
+    by [] s h = h
+    by (p ∷ ps) s h = by ps (event o s p) (whole_is_kept.event o o.bundles s p short gives h)
+
+-- ---- what their container brings over
 
 pub containers_bring_bundles : ContainersBringBundles
-containers_bring_bundles forward backward q to_tell schedule short gives telling = arrive forward backward q to_tell schedule short gives telling
+containers_bring_bundles = arrive
 
 pub nothing_is_forged : NothingIsForged
-nothing_is_forged forward backward q to_tell schedule short gives telling = unforged forward backward q to_tell schedule short gives telling
-
-pub containers_bring_images : ContainersBringImages
-containers_bring_images forward backward q to_tell schedule short gives telling o ws events same =
-    starts_from_its_pause q to_tell schedule o ws events (unforged forward backward q to_tell schedule short gives telling o same)
+nothing_is_forged = unforged
 
 pub containers_bring_words : ContainersBringWords
-containers_bring_words forward backward q to_tell schedule short gives telling =
-    let made : List Made = bundles_in (reached q to_tell schedule) in
-    brings forward backward made (in_slot_order made) (order_holds (Whole forward backward made) made (all_whole forward backward q to_tell schedule short gives telling))
+containers_bring_words = bring_words
+
+pub images_are_kept : ImagesAreKept
+images_are_kept forward backward source src whole =
+    let kept = destination_kept source src in
+    record { start = kept.start; event = λ o bundles s p of h. kept.event o bundles s p (unforged forward backward source.outgoing.bundles whole (with_bundles o bundles) of) h }
+
+pub containers_bring_images : ContainersBringImages
+containers_bring_images forward backward q to_tell schedule short whole o ws events of session start e =
+    (starts_from_its_pause q to_tell schedule o ws events (unforged forward backward (bundles_in (reached q to_tell schedule)) whole o of) session start e).exact short

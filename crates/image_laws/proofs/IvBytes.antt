@@ -5,13 +5,14 @@ use Rattle.std.proofs.lemmas.List.Elements.{All-weaker}
 use Rattle.byteorder.specs.Endian.{little_bytes, little_number}
 use Rattle.byteorder.specs.Numbers.{little_number-reads_back}
 use Rattle.flat_core.specs.World.{Made}
+use Rattle.flat_core.specs.Event.{start, event}
 use Rattle.flat_core.specs.Run.{bundles_in}
-use Rattle.flat_core.specs.Laws.{reached}
+use Rattle.flat_core.specs.Laws.{with_bundles, reached}
 use Rattle.flat_core.proofs.Tests.{by_test}
 use Rattle.mig_laws.specs.Ivs.{is_forward, FitsIv, iv_of, AreSealedOnce, HaveOwnIvs}
-use Rattle.mig_laws.proofs.Source.{no_iv_comes_twice}
+use Rattle.mig_laws.proofs.Source.{source_kept, own_ivs, no_iv_comes_twice}
 use Rattle.bundle_texts.specs.Sealed.{key_of, iv_bytes}
-use Rattle.image_laws.specs.IvBytes.{KeysGoByType, IvsAreNumbers, UseIvsOnce, NoIvIsUsedTwice}
+use Rattle.image_laws.specs.IvBytes.{KeysGoByType, UseIvsOnce, HaveOwnIvBytes, IvBytesAreKept, NoIvIsUsedTwice}
 
 -- the bytes of a number of 96 bits, of which the stream is the lowest 16, the session the next 16, and the iv the rest
 parts : (stream session iv : ℕ) → stream < 2 ^ 8 → session < 2 ^ 16
@@ -56,10 +57,17 @@ used_once forward backward differ bundles h own i j d less within key same =
     own i j d less within (same_way forward backward a b differ key)
     (sym (number_back a (h.fit i d (omega (arith, less, within)))) ∙ ap (little_number 12) same ∙ number_back b (h.fit j d within))
 
-pub ivs_are_numbers : IvsAreNumbers
-ivs_are_numbers o ws schedule =
-    All-weaker FitsIv (λ m. iv_bytes m.header ≡ little_bytes 12 (iv_of m)) number_bytes (bundles_in (reached o ws schedule)) (no_iv_comes_twice o ws schedule).0.fit
+own_bytes : (bundles : List Made) → AreSealedOnce bundles → HaveOwnIvBytes bundles
+own_bytes bundles h = record {
+  numbers = All-weaker FitsIv (λ m. iv_bytes m.header ≡ little_bytes 12 (iv_of m)) number_bytes bundles h.fit;
+  once = λ forward backward differ. used_once forward backward differ bundles h (own_ivs bundles h);
+}
+
+pub iv_bytes_are_kept : IvBytesAreKept
+iv_bytes_are_kept = record {
+  start = λ o ws. (let h = source_kept.start o ws in (h, own_bytes (bundles_in (start o ws)) h.1.ivs.sealed));
+  event = λ o bundles s p h. (let next = source_kept.event o bundles s p h.0 in (next, own_bytes (bundles_in (event (with_bundles o bundles) s p)) next.1.ivs.sealed));
+}
 
 pub no_iv_is_used_twice : NoIvIsUsedTwice
-no_iv_is_used_twice forward backward differ o ws schedule =
-    let h = no_iv_comes_twice o ws schedule in used_once forward backward differ (bundles_in (reached o ws schedule)) h.0 h.1
+no_iv_is_used_twice o ws schedule = own_bytes (bundles_in (reached o ws schedule)) (no_iv_comes_twice o ws schedule).0

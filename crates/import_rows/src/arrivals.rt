@@ -1,28 +1,30 @@
 //! The destination of a migration, from the session's beginning to a TD that runs.
 
-use crate::sources::{LATER, SOURCE, arrive};
-use row_replay::{ArrivalRow, FILLED, GUEST, OPENED, STARTED, WAITS};
+use crate::sources::{LATER, SOURCE, arrive, sent, with_bundles};
+use row_replay::{ArrivalRow, Asked, FILLED, GUEST, OPENED, STARTED, WAITS, replay_asked};
 use std::test::Fail;
 
-const ROWS: &[ArrivalRow<'static>] = &[
-    // The whole destination: its guest goes on where the source's has stopped.
+// The whole destination: its guest goes on where the source's has stopped.
+const WORKED: &[Asked<'static>] = &[(
+    "replay s --keys k --bundles c --guest-out g ; run s --keys k --bundles c --guest-out g",
+    "1 32 1",
     (
-        &[],
-        (
-            "",
-            &[GUEST],
-            &[&[
-                WAITS,
-                OPENED,
-                FILLED,
-                STARTED,
-                "SUCCESS | IMPORT.COMMIT 1",
-                "EXIT VMCALL 33 | VP.ENTER 1 4 10",
-                "SUCCESS | IMPORT.END 1",
-            ]],
-            "0.21 load 0x0 44 | 0.21 load 0x1000 22 | 0.21 load 0x2000 33",
-        ),
+        "",
+        &[GUEST],
+        &[&[
+            WAITS,
+            OPENED,
+            FILLED,
+            STARTED,
+            "SUCCESS | IMPORT.COMMIT 1",
+            "EXIT VMCALL 33 | VP.ENTER 1 4 10",
+            "SUCCESS | IMPORT.END 1",
+        ]],
+        "0.21 load 0x0 44 | 0.21 load 0x1000 22 | 0.21 load 0x2000 33",
     ),
+)];
+
+const ROWS: &[ArrivalRow<'static>] = &[
     // What the TD has then: MRTD, its epoch, the pages that each entry names; and a page that is
     // replaced stays.
     (
@@ -213,6 +215,8 @@ const LATE: &[ArrivalRow<'static>] = &[
 #[test]
 fn a_td_goes_on_where_it_was_paused(rt: HostRuntime) -> Result<(), Fail> {
     let alloc = rt.alloc();
+    let container = sent(&rt, alloc)?;
+    replay_asked(&rt, alloc, with_bundles(&container), WORKED)?;
     arrive(&rt, alloc, &SOURCE, ROWS)?;
     arrive(&rt, alloc, &LATER, LATE)
 }

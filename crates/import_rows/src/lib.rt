@@ -8,6 +8,8 @@ mod arrivals;
 #[cfg(test)]
 mod failing;
 #[cfg(test)]
+mod soaks;
+#[cfg(test)]
 mod sources;
 #[cfg(test)]
 mod tokens;

@@ -2,8 +2,9 @@
 //! serve `checks/second/arrivals` alone, whose rows the built program is tried by.
 
 use row_replay::{
-    ArrivalRow, BUILT, DIRTIED, FILLED, GUEST, HANDED, OPENED, PAGES, RUNS, Row, SECOND, SENT,
-    STARTED, STREAM, TREE, WAITS, container_of_arrival, container_of_row, replay_arrivals,
+    ALONE, ArrivalRow, Asked, BUILT, Beside, DIRTIED, FILLED, GUEST, HANDED, OPENED, PAGES, RUNS,
+    Row, SECOND, SENT, STARTED, STREAM, TREE, WAITS, container_of_arrival, container_of_asked,
+    container_of_row, replay_arrivals,
 };
 use std::alloc::Global;
 use std::test::Fail;
@@ -118,6 +119,40 @@ pub const RESUMED: Row<'static> = (
     ]],
     "0.37 load 0x0 44 | 0.37 load 0x1000 22 | 0.37 load 0x2000 33",
 );
+
+/// SOURCE, GIVENUP and RESUMED as they are asked for.
+pub const SENDER: Asked<'static> = ("replay s --keys k --out-bundles b", "1 32 1", SOURCE);
+
+pub const GIVER: Asked<'static> = (
+    "replay s --keys k --bundles c --out-bundles b",
+    "1 32 1",
+    GIVENUP,
+);
+
+pub const RESUMER: Asked<'static> = (
+    "replay s --bundles c --keys k --secrets z --out-bundles b --guest-out g",
+    "1 32 1",
+    RESUMED,
+);
+
+/// What SENDER saves.
+pub fn sent<R: Threads + Sync>(threads: &R, alloc: Global) -> Result<Vec<u8>, Fail> {
+    container_of_asked(threads, alloc, ALONE, &SENDER)
+}
+
+/// What GIVER saves, to which that comes.
+pub fn given_up<R: Threads + Sync>(threads: &R, alloc: Global) -> Result<Vec<u8>, Fail> {
+    let container = sent(threads, alloc)?;
+    container_of_asked(threads, alloc, with_bundles(&container), &GIVER)
+}
+
+/// A container beside a script.
+pub fn with_bundles(container: &[u8]) -> Beside<'_> {
+    Beside {
+        secrets: None,
+        bundles: Some(container),
+    }
+}
 
 /// Replays rows to which the bundles of a source come, turned as each says.
 pub fn arrive<R: Threads + Sync>(

@@ -1,8 +1,9 @@
 //! An import that is given up, and its token, which comes back to the source.
 
-use crate::sources::{GIVENUP, RESUMED, SOURCE, arrive, come_back, sent_back};
+use crate::sources::{GIVENUP, SOURCE, arrive, come_back, given_up};
 use row_replay::{
-    ArrivalRow, DIRTIED, Edit, FILLED, GUEST, HANDED, OPENED, PAGES, SENT, STARTED, TREE, WAITS,
+    ArrivalRow, DIRTIED, Edit, FILLED, ForgedRow, GUEST, HANDED, OPENED, PAGES, SENT, STARTED,
+    TREE, WAITS, replay_forged,
 };
 use std::test::Fail;
 
@@ -79,28 +80,80 @@ const ROWS: &[ArrivalRow<'static>] = &[
     ),
 ];
 
-const ENDS: &[ArrivalRow<'static>] = &[
-    // The token comes back: the TD runs on, with all that it had.
-    (&[], RESUMED),
-    // Once.
+// The token comes back, once: the TD runs on, with all that it had. It is turned, and the source stays where it is.
+const LINE: &str = "replay s --keys k --bundles c";
+
+const BACK: &[ForgedRow<'static>] = &[
     (
         &[],
-        (
-            "",
-            &[GUEST],
-            &[&[
-                TREE,
-                PAGES,
-                SENT,
-                DIRTIED,
-                HANDED,
-                "SUCCESS | EXPORT.ABORT 1 40",
-                "OP_STATE_INCORRECT RUNNABLE | EXPORT.ABORT 1 40",
-                "SUCCESS RUNNABLE | MNG.RD 1 OP",
-            ]],
-            "",
-        ),
+        &[
+            TREE,
+            PAGES,
+            SENT,
+            DIRTIED,
+            HANDED,
+            "OP_STATE_INCORRECT POST_EXPORT | EXPORT.ABORT 1",
+            "SUCCESS | EXPORT.ABORT 1 40",
+            "EXIT VMCALL 33 | VP.ENTER 1 4 10",
+            "SUCCESS | EXPORT.RESTORE 1 0",
+        ],
     ),
+    (
+        &[],
+        &[
+            TREE,
+            PAGES,
+            SENT,
+            DIRTIED,
+            HANDED,
+            "OP_STATE_INCORRECT POST_EXPORT | EXPORT.ABORT 1",
+            "SUCCESS | EXPORT.ABORT 1 40 ; OP_STATE_INCORRECT RUNNABLE | EXPORT.ABORT 1 40",
+            "EXIT VMCALL 33 | VP.ENTER 1 4 10",
+            "SUCCESS | EXPORT.RESTORE 1 0",
+        ],
+    ),
+    (
+        &[(40, 40, &[Edit::Put(8, 1), Edit::Put(16, 1)])],
+        &[
+            TREE,
+            PAGES,
+            SENT,
+            DIRTIED,
+            HANDED,
+            "OP_STATE_INCORRECT POST_EXPORT | EXPORT.ABORT 1",
+            "BUNDLE_COUNTER 0 1 | EXPORT.ABORT 1 40",
+            "OP_STATE_INCORRECT POST_EXPORT | VP.ENTER 1 4 10 | EXPORT.RESTORE 1 0",
+        ],
+    ),
+    (
+        &[(40, 40, &[Edit::Put(24, 2)])],
+        &[
+            TREE,
+            PAGES,
+            SENT,
+            DIRTIED,
+            HANDED,
+            "OP_STATE_INCORRECT POST_EXPORT | EXPORT.ABORT 1",
+            "BUNDLE_HEADER SESSION | EXPORT.ABORT 1 40",
+            "OP_STATE_INCORRECT POST_EXPORT | VP.ENTER 1 4 10 | EXPORT.RESTORE 1 0",
+        ],
+    ),
+    (
+        &[(40, 40, &[Edit::Turn(48)])],
+        &[
+            TREE,
+            PAGES,
+            SENT,
+            DIRTIED,
+            HANDED,
+            "OP_STATE_INCORRECT POST_EXPORT | EXPORT.ABORT 1",
+            "BUNDLE_TAG | EXPORT.ABORT 1 40",
+            "OP_STATE_INCORRECT POST_EXPORT | VP.ENTER 1 4 10 | EXPORT.RESTORE 1 0",
+        ],
+    ),
+];
+
+const ENDS: &[ArrivalRow<'static>] = &[
     // It ends no export that hasn't sent its start token.
     (
         &[],
@@ -126,9 +179,6 @@ const ENDS: &[ArrivalRow<'static>] = &[
     // Tokens that somebody has turned, and none.
     (
         &[
-            (40, 41, &[Edit::Put(8, 1), Edit::Put(16, 1)]),
-            (40, 42, &[Edit::Put(24, 2)]),
-            (40, 43, &[Edit::Turn(48)]),
             (40, 44, &[Edit::Length(63)]),
             (40, 45, &[Edit::Put(0, 65)]),
             (40, 46, &[Edit::Put(2, 3)]),
@@ -161,9 +211,6 @@ const ENDS: &[ArrivalRow<'static>] = &[
                 DIRTIED,
                 HANDED,
                 "NO_BUNDLE 39 | EXPORT.ABORT 1 39",
-                "BUNDLE_COUNTER 0 1 | EXPORT.ABORT 1 41",
-                "BUNDLE_HEADER SESSION | EXPORT.ABORT 1 42",
-                "BUNDLE_TAG | EXPORT.ABORT 1 43",
                 "BUNDLE_HEADER SHORT | EXPORT.ABORT 1 44",
                 "BUNDLE_HEADER SIZE | EXPORT.ABORT 1 45",
                 "BUNDLE_HEADER VERSION | EXPORT.ABORT 1 46",
@@ -303,13 +350,15 @@ fn an_import_is_given_up_before_it_is_committed(rt: HostRuntime) -> Result<(), F
 #[test]
 fn a_source_goes_on_by_the_token_of_its_destination(rt: HostRuntime) -> Result<(), Fail> {
     let alloc = rt.alloc();
+    let token = given_up(&rt, alloc)?;
+    replay_forged(&rt, alloc, &token, LINE, "1 32 1", &[GUEST], BACK)?;
     come_back(&rt, alloc, &SOURCE, &GIVENUP, ENDS)
 }
 
 #[test]
 fn the_token_is_sealed_with_the_key_back(rt: HostRuntime) -> Result<(), Fail> {
     let alloc = rt.alloc();
-    let token = sent_back(&rt, alloc, &SOURCE, &GIVENUP)?;
+    let token = given_up(&rt, alloc)?;
     assert_eq!(rt; token.as_slice(), TOKEN_BYTES);
     Ok(())
 }

@@ -85,8 +85,8 @@ impl IncomingBundles {
         }
     }
 
-    /// Adds a bundle whose slot is above all others.
-    pub fn push(&mut self, slot: u16, bundle: Incoming<'_>) -> Result<(), OutOfMemory>
+    // Adds a bundle whose slot is above all others.
+    pub(crate) fn push(&mut self, slot: u16, bundle: Incoming<'_>) -> Result<(), OutOfMemory>
         requires { All (λ n. n < slot) (map (λ b. b.slot) self.old) }
         ensures added { OnOk result (self.new ≡ self.old ++ record { slot = slot; bundle = bundle.entry } ∷ []) }
         ensures same { OnErr result (self.new ≡ self.old) }

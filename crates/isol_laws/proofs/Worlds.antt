@@ -1,8 +1,10 @@
 -- Two runs side by side that differ in private words alone end alike, and so print the same.
-use Rattle.std.proofs.Common.{◌≡◌, refl, sym, ◌∙◌, ap, ℕ, zero, suc, ◌+◌, List, [], ◌∷◌, ◌++◌, map, Option, Some, None, option_map, Result, Ok, Err, Bool, true, false, if◌then◌else◌, append_assoc}
+use Rattle.std.proofs.Common.{◌≡◌, refl, sym, ◌∙◌, ap, subst, ℕ, zero, suc, ◌+◌, List, [], ◌∷◌, ◌++◌, length, map, Option, Some, None, option_map, Result, Ok, Err, Bool, true, false, if◌then◌else◌, append_assoc}
 use Rattle.std.proofs.lemmas.List.{append-nil}
 use Rattle.std.specs.List.{concat}
 use Rattle.td_words.specs.declared.names.HeaderField.{HeaderField}
+use Rattle.td_words.specs.declared.machines.Machine.{Machine}
+use Rattle.td_words.specs.declared.calls.Call.{Call}
 use Rattle.flat_core.specs.World.{ClearHeader}
 use Rattle.flat_core.specs.Processor.{Lp}
 use Rattle.flat_core.specs.Opening.{Opening, Incoming, Agree, blind, blind_bundle, blind_words, is_private_kind}
@@ -10,10 +12,11 @@ use Rattle.flat_core.specs.Event.{State, start, next_event, event}
 use Rattle.flat_core.specs.Run.{play, run, run_told, to_the_end, told_in}
 use Rattle.report_text.specs.Lines.{reply_lines}
 use Rattle.flat_core.specs.HostText.{host_text, text_of, lines_from}
-use Rattle.flat_core.specs.Laws.{IsKept}
+use Rattle.flat_core.specs.Laws.{IsKept, with_bundles}
 use Rattle.flat_core.specs.AccessLaw.{IsGuarded}
 use Rattle.flat_core.specs.TwoWorlds.{AreSameButNotes, AreAlikeStates, EventsAreBlind, EventsTellTheirWords, words_told}
-use Rattle.isol_laws.specs.Worlds.{blind_run, public_bundles, BlindRunsAreAlike, BlindRunsPrintTheSame, BlindRunsMakeTheSameBundles, AgreeingRunsShowTheSame, SecretsArePrivate}
+use Rattle.flat_core.proofs.Ends.{timely_rebundled}
+use Rattle.isol_laws.specs.Worlds.{StandAlike, WorldsAreKept, blind_run, public_bundles, BlindRunsAreAlike, BlindRunsPrintTheSame, BlindRunsMakeTheSameBundles, AgreeingRunsShowTheSame, SecretsArePrivate}
 
 -- what is given of a bundle to anyone is given once
 abbrev hidden : List ℕ → List ℕ
@@ -72,28 +75,44 @@ module _ (guarded : IsKept IsGuarded) (alike : EventsAreBlind) (tell : EventsTel
       ∙ (ap (λ (xs : List ℕ). xs ++ told_from o ps (event o s p)) (tell o s p)
       ∙ append_assoc (told_in s) (words_told s.world (next_event o s p)) (told_from o ps (event o s p)))
 
+  rebundled : (o : Opening) (bundles : ℕ → Option Incoming) (s : State) → IsGuarded o s → IsGuarded (with_bundles o bundles) s
+  rebundled o bundles s h = record { timely = timely_rebundled o bundles s h.timely; access = h.access }
+
+  pub worlds_are_kept : WorldsAreKept
+  worlds_are_kept = record {
+    start = λ o q words agree. record {
+      here = guarded.start o None;
+      there = guarded.start q (Some words);
+      alike = record {
+        worlds = record {
+          alike = record { size = ap (λ (m : Machine). m.pages) agree.machine; pages = refl; words = λ p i h. refl; tds = refl; vps = refl; streams = refl; key_table = refl; told = refl; bundles = refl };
+          own = refl;
+          given = refl;
+        };
+        lps = λ p. refl;
+        count = ap (λ (cs : List (List Call)). length cs) agree.calls;
+      };
+    };
+    event = λ o q bundles others s t p rest agree h. record {
+      here = guarded.event o bundles s p h.here;
+      there = guarded.event q others t p h.there;
+      alike = alike (with_bundles o bundles) (with_bundles q others) s t p rest agree (rebundled o bundles s h.here) h.there.timely.lawful h.alike;
+    };
+  }
+
   -- The rest of two runs: the second has the words to tell that the first one tells from here on.
-  both_go : (o q : Opening) → Agree o q → (ps : List ℕ) (s t : State) → IsGuarded o s → IsGuarded q t → AreAlikeStates s t (told_from o ps s) → AreAlikeStates (play o ps s) (play q ps t) []
-  both_go o q agree [] s t here there h = h
-  both_go o q agree (p ∷ ps) s t here there h =
-      both_go o q agree ps (event o s p) (event q t p) (guarded.event o o.bundles s p here) (guarded.event q q.bundles t p there)
-      (alike o q s t p (told_from o ps (event o s p)) agree here there.timely.lawful h)
+  both_go : (o q : Opening) → Agree o q → (ps : List ℕ) (s t : State) → StandAlike o q s t (told_from o ps s) → AreAlikeStates (play o ps s) (play q ps t) []
+  both_go o q agree [] s t h = h.alike
+  both_go o q agree (p ∷ ps) s t h =
+      both_go o q agree ps (event o s p) (event q t p) (worlds_are_kept.event o q o.bundles q.bundles s t p (told_from o ps (event o s p)) agree h)
 
   -- the two runs at their end
   pub blind_alike : BlindRunsAreAlike
   blind_alike o schedule =
       let words : List ℕ = told_in (run o schedule) in
       let ps : List ℕ = schedule ++ to_the_end 0 o.calls in
-      let begin : AreAlikeStates (start o None) (start (blind o) (Some words)) (told_from o ps (start o None)) = record {
-        worlds = record {
-          alike = record { size = refl; pages = refl; words = λ p i h. refl; tds = refl; vps = refl; streams = refl; key_table = refl; told = refl; bundles = refl };
-          own = refl;
-          given = ap (λ (xs : List ℕ). Some xs) (run_grows o ps (start o None));
-        };
-        lps = λ p. refl;
-        count = refl;
-      } in
-      both_go o (blind o) (agrees_blind o) ps (start o None) (start (blind o) (Some words)) (guarded.start o None) (guarded.start (blind o) (Some words)) begin
+      both_go o (blind o) (agrees_blind o) ps (start o None) (start (blind o) (Some words))
+      (subst (StandAlike o (blind o) (start o None) (start (blind o) (Some words))) (run_grows o ps (start o None)) (worlds_are_kept.start o (blind o) words (agrees_blind o)))
 
   pub blind_prints : BlindRunsPrintTheSame
   unfolding host_text

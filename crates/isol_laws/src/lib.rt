@@ -2,8 +2,8 @@
 //! guests tell.
 //!
 //! Stands on flat_core, which says it beside each row, operation and event, of two states side by side;
-//! here it is said of runs, under every schedule. Nothing that is run uses this crate. A layer above may
-//! use `two_world_law`.
+//! here it is said of two runs: event by event, whatever bundles have come in, and under every schedule.
+//! Nothing that is run uses this crate. A layer above may use `two_world_law`.
 #![tactic(auto)]
 
 mod laws;

@@ -34,36 +34,45 @@ step-begins given p t v n s = begins (step_ends t n s) (step_task given p t v n 
 
 -- a step that is made at once
 
-once-turned : {B : Type 0} (did : List Taken → B → Type 0) (m : Machine) (e : Ends) (t : Tree) (bench : B) (reply : Reply) (kept : Option Standing) (Keeps : Type 0) (result : LeafTurn)
-    → Begins e (standing (settle t) Trying [] None) → e.makes ≡ None → MadeAtOnce did m t bench reply → kept ≡ None → Keeps → result ≡ record { event = event.Act; act = Some reply; reply = Some reply }
-    → LeafTurned did m e (standing (settle t) Trying [] None) bench kept Keeps result []
-once-turned did m e t bench reply kept Keeps result b none made gone keeps is =
+-- with what its items show
+once-turned : {B : Type 0} (did : List Taken → B → Type 0) (m : Machine) (e : Ends) (t : Tree) (bench : B) (reply : Reply) (kept : Option Standing) (Keeps : Type 0) (result : LeafTurn) (P : List Taken → Type 0)
+    → Begins e (standing (settle t) Trying [] None) → e.makes ≡ None → (made : MadeAtOnce did m t bench reply) → kept ≡ None → Keeps → result ≡ record { event = event.Act; act = Some reply; reply = Some reply } → P made.1.0
+    → (t : LeafTurned did m e (standing (settle t) Trying [] None) bench kept Keeps result []) × P t.turned.0
+once-turned did m e t bench reply kept Keeps result P b none made gone keeps is shows =
     let s : Standing = standing (settle t) Trying [] None in
     let s' : Standing = standing made.0 (Answered reply) [] None in
     let gives : Gives e s s' event.Act = turn-gives m e s s' made.1.0 event.Act b.few_tries b.fits b.oldest made.1.2.turn in
-    subst (λ (k : Option Standing). LeafTurned did m e s bench k Keeps result []) (sym gone)
-    (subst (λ (r : LeafTurn). LeafTurned did m e s bench None Keeps r []) (sym is)
-    (record {
-      going = refl;
-      few_tries = b.few_tries;
-      fits = b.fits;
-      oldest = b.oldest;
-      stands = s';
-      turned = made.1;
-      act_is = refl;
-      made_is = sym (subst (λ (o : Option ℕ). AreMade o (bundles_made event.Act made.0)) none gives.made);
-      seen = refl;
-      under_way = keeps;
-    }))
+    subst (λ (k : Option Standing). (t : LeafTurned did m e s bench k Keeps result []) × P t.turned.0) (sym gone)
+    (subst (λ (r : LeafTurn). (t : LeafTurned did m e s bench None Keeps r []) × P t.turned.0) (sym is) (
+      record {
+        going = refl;
+        few_tries = b.few_tries;
+        fits = b.fits;
+        oldest = b.oldest;
+        stands = s';
+        turned = made.1;
+        act_is = refl;
+        made_is = sym (subst (λ (o : Option ℕ). AreMade o (bundles_made event.Act made.0)) none gives.made);
+        seen = refl;
+        under_way = keeps;
+      },
+      shows,
+    ))
+
+pub step-with : {B : Type 0} (did : List Taken → B → Type 0) (given : Given) (p : Place) (t v n : ℕ) (step s : Step) (bench : B) (reply : Reply) (kept : StepRun) (result : LeafTurn) (P : Step → List Taken → Type 0)
+    → step ≡ s → (made : MadeAtOnce did p.machine (step_task given p t v n s).tree bench reply) → (kept.shared ≡ None) × (kept.other ≡ None) → result ≡ record { event = event.Act; act = Some reply; reply = Some reply } → P s made.1.0
+    → (x : StepTurned did p.machine (step_ends t n step) (running (step_task given p t v n step) None) bench kept result) × P step x.turned.0
+step-with did given p t v n step s bench reply kept result P same made none is shows =
+    let gone : step_run_seen kept ≡ None = nothing-kept standing_of IsIn kept.shared kept.other none.0 none.1 in
+    subst (λ (z : Step). (x : StepTurned did p.machine (step_ends t n z) (running (step_task given p t v n z) None) bench kept result) × P z x.turned.0) (sym same)
+    (once-turned did p.machine (step_ends t n s) (step_task given p t v n s).tree bench reply (step_run_seen kept) (IsStepRunOf p.machine (step_ends t n s) kept) result (P s) (step-begins given p t v n s) refl made gone
+    (no-run-of standing_of IsIn p.machine (step_ends t n s) kept.shared kept.other gone) is shows)
 
 pub step-once : {B : Type 0} (did : List Taken → B → Type 0) (given : Given) (p : Place) (m : Machine) (t v n : ℕ) (step s : Step) (bench : B) (reply : Reply) (kept : StepRun) (result : LeafTurn)
     → p.machine ≡ m → step ≡ s → MadeAtOnce did m (step_task given p t v n s).tree bench reply → (kept.shared ≡ None) × (kept.other ≡ None) → result ≡ record { event = event.Act; act = Some reply; reply = Some reply }
     → StepTurned did p.machine (step_ends t n step) (running (step_task given p t v n step) None) bench kept result
 step-once did given p m t v n step s bench reply kept result at same made none is =
-    let gone : step_run_seen kept ≡ None = nothing-kept standing_of IsIn kept.shared kept.other none.0 none.1 in
-    subst (λ (z : Step). StepTurned did p.machine (step_ends t n z) (running (step_task given p t v n z) None) bench kept result) (sym same)
-    (once-turned did p.machine (step_ends t n s) (step_task given p t v n s).tree bench reply (step_run_seen kept) (IsStepRunOf p.machine (step_ends t n s) kept) result (step-begins given p t v n s) refl
-    (subst (λ (k : Machine). MadeAtOnce did k (step_task given p t v n s).tree bench reply) (sym at) made) gone (no-run-of standing_of IsIn p.machine (step_ends t n s) kept.shared kept.other gone) is)
+    (step-with did given p t v n step s bench reply kept result (λ z xs. Unit {0}) same (subst (λ (k : Machine). MadeAtOnce did k (step_task given p t v n s).tree bench reply) (sym at) made) none is tt).0
 
 -- a shared access that begins
 pub shared-begins : {B : Type 0} (did : List Taken → B → Type 0) (given : Given) (p : Place) (m : Machine) (t v n : ℕ) (o o' : GuestOp) (access : Access) (r gpa : ℕ) (bench : B) (kept : Option SharedRun) (other : Option Running) (result : LeafTurn)

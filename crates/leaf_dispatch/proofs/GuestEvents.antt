@@ -1,5 +1,5 @@
 -- An event of a guest's step is an event of its processor.
-use Rattle.std.proofs.Common.{◌≡◌, ◌∙◌, ℕ, zero, suc, ◌+◌, ◌-◌, ◌<◌, ◌≤◌, Bool, true, false, ◌==◌, ◌&&◌, if◌then◌else◌, List, [], ◌∷◌, length, Option, Some, None, option_map, is_none, is_some, IfSome, refl, ap, sym, subst, arith}
+use Rattle.std.proofs.Common.{◌≡◌, ◌∙◌, ℕ, zero, suc, ◌+◌, ◌-◌, ◌%◌, ◌<◌, ◌≤◌, Bool, true, false, ◌==◌, ◌&&◌, if◌then◌else◌, List, [], ◌∷◌, length, Option, Some, None, option_map, is_none, is_some, IfSome, refl, ap, sym, subst, arith}
 use Rattle.std.specs.Prelude.{nat_lt}
 use Rattle.std.proofs.lemmas.Bool.{ltb-false, ltb-true}
 use Rattle.td_words.specs.Seen.{CodeSeen}
@@ -15,6 +15,7 @@ use Rattle.flat_core.specs.World.{Made}
 use Rattle.flat_core.specs.Processor.{Translation, Note}
 use Rattle.step_core.specs.declared.items.Taken.{Taken}
 use Rattle.leaf_engine.specs.declared.needs.Place.{Place}
+use Rattle.leaf_engine.specs.declared.events.Event.{Event}
 use Rattle.leaf_engine.specs.declared.events.Stage.TheVariants as stages
 use Rattle.leaf_engine.specs.Trees.{added}
 use Rattle.leaf_engine.specs.Besides.{Beside}
@@ -22,6 +23,7 @@ use Rattle.leaf_engine.specs.Guests.{WordGuest, Step, Operates, Accesses, Loads,
 use Rattle.leaf_engine.specs.Merges.{IsStepOf}
 use Rattle.leaf_engine.specs.Turns.{Standing}
 use Rattle.leaf_engine.specs.OwnLists.{TurnsInPieces, WordLp, running, after_step, line_after, EnteredTurn}
+use Rattle.trace_laws.specs.Told.{step_told, event_told}
 use Rattle.leaf_table.specs.Ends.{Ends, step_answer, step_ends, step_tries}
 use Rattle.guest_turns.specs.Turns.{kept_after}
 use Rattle.leaf_dispatch.specs.Answers.{beside_by, cached_by, notes_by, tells_by}
@@ -32,6 +34,8 @@ use Rattle.leaf_dispatch.specs.NoteRooms.{longest_in, stage_made, run_made, gues
 use Rattle.leaf_dispatch.specs.Running.{standing_of, run_seen, IsAnswered}
 use Rattle.leaf_table.specs.Given.{Given}
 use Rattle.leaf_table.specs.Table.{code_in, step_task, place_table}
+use Rattle.leaf_dispatch.specs.Exits.{IsCounted}
+use Rattle.leaf_dispatch.specs.Shown.{event_as, epoch_loaded}
 use Rattle.leaf_dispatch.specs.StepRuns.{step_run_seen, IsStepRunOf, StepTurned}
 use Rattle.leaf_dispatch.specs.declared.step_runs.StepRun.{StepRun}
 use Rattle.leaf_dispatch.specs.declared.guests.GuestAt.{GuestAt}
@@ -39,6 +43,7 @@ use Rattle.leaf_dispatch.specs.declared.running.Running.{Running}
 use Rattle.guest_turns.specs.declared.runs.LeafTurn.{LeafTurn}
 use Rattle.leaf_dispatch.proofs.Lowering.{Gives}
 use Rattle.leaf_dispatch.proofs.Turning.{line-gives, Moved}
+use Rattle.leaf_dispatch.proofs.Shown.{counted-as}
 use Rattle.leaf_dispatch.proofs.StepTurns.{step-is, guest-moves, cached-stays}
 use Rattle.leaf_dispatch.proofs.Fewer.{run-same, Counts, IsLowStep, step-fewer}
 use Rattle.leaf_dispatch.proofs.Replying.{reply-fits, first-trying}
@@ -231,15 +236,26 @@ module _ (p : Place) (given : Given) (codes : List CodeSeen) (c : Call) (cs : Li
           (step-fewer (code_in codes) c cs (standing_of r) x rs besides turned.beside g.tdr at_line was t.stands result.event s step-at counted (low-step s low) refl used first gives
           (cached ∙ ap (λ (a : Option Reply). cached_by ends.answer a ts) t.act_is) result.reply t.turned.2.reply)
 
-      pub guest-moved : TurnsInPieces → gives_epoch_back r.run.held.items ≡ false → Moved given (code_in codes) did bench p before turned result.event
-      guest-moved law back =
+      -- what is told of it
+      abbrev pub tells : ℕ → Event
+      tells parity = event_as parity (event_told (step_told s) result.event)
+
+      tells-so : (parity : ℕ) → IsCounted s parity t.turned.0 → tells parity ≡ event_as (epoch_loaded t.turned.0 % 2) (event_told (step_told (step_of (code_in codes) ts x)) result.event)
+      tells-so parity counts =
+          counted-as s result.event parity t.turned.0 counts
+          ∙ ap (λ (z : Step). event_as (epoch_loaded t.turned.0 % 2) (event_told (step_told z) result.event)) (sym step-at)
+
+      pub guest-moved : TurnsInPieces → gives_epoch_back r.run.held.items ≡ false → (parity : ℕ) → IsCounted s parity t.turned.0 → Moved given (code_in codes) did bench p before turned result.event (event_as parity (event_told (step_told s) result.event))
+      guest-moved law back parity counts =
           let moved =
-          guest-moves law did bench p given (code_in codes) c cs (standing_of r) x rs besides kept turned result s step-at t
+          guest-moves law did bench p given (code_in codes) c cs (standing_of r) x rs besides kept turned result (λ (xs : List Taken). tells parity ≡ event_as (epoch_loaded xs % 2) (event_told (step_told (step_of (code_in codes) ts x)) result.event)) s step-at t
+          (tells-so parity counts)
           (after ∙ ap (λ (b : Beside). after_step c cs (standing_of r) x rs b s t.stands result.reply) besides-are) in
           record {
             pieces = moved.pieces;
             did_them = moved.did_them;
             turn = subst (λ (b : Bool). EnteredTurn (place_table p given (code_in codes)) p.machine c cs (standing_of r) x rs besides result.event moved.pieces turned b) (sym back) moved.turn;
+            tells = moved.shows;
             fewer = fewer;
           }
 

@@ -18,5 +18,9 @@ pub mod GuestEvents
 pub mod StateEvents
 pub mod ShortRuns
 pub mod AtOnce
+pub mod Counting
+pub mod Shown
+pub mod Epochs
+pub mod EndedCalls
 pub mod CallTurns
 pub mod Firsts

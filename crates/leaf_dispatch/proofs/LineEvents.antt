@@ -1,5 +1,5 @@
 -- An event of the present line's own leaf is an event of its processor.
-use Rattle.std.proofs.Common.{◌≡◌, ◌∙◌, ℕ, ◌+◌, ◌*◌, ◌<◌, ◌≤◌, Bool, true, false, List, [], ◌∷◌, ◌++◌, length, Option, Some, None, option_map, is_none, IfSome, refl, ap, sym, subst, arith, length-append}
+use Rattle.std.proofs.Common.{◌≡◌, ◌∙◌, ℕ, ◌+◌, ◌*◌, ◌%◌, ◌<◌, ◌≤◌, Bool, true, false, List, [], ◌∷◌, ◌++◌, length, Option, Some, None, option_map, is_none, IfSome, refl, ap, sym, subst, arith, length-append}
 use Rattle.td_words.specs.Seen.{CodeSeen}
 use Rattle.td_words.specs.declared.machines.Machine.{Machine}
 use Rattle.td_words.specs.declared.calls.Call.{Call}
@@ -18,9 +18,10 @@ use Rattle.leaf_engine.specs.declared.events.Stage.{Stage}
 use Rattle.leaf_engine.specs.declared.events.Stage.TheVariants as stages
 use Rattle.leaf_engine.specs.Trees.{added}
 use Rattle.leaf_engine.specs.Besides.{Beside}
-use Rattle.leaf_engine.specs.Guests.{WordGuest, gives_epoch_back, guest_entered, or_else}
+use Rattle.leaf_engine.specs.Guests.{WordGuest, gives_epoch_back, guest_entered, or_else, step_of}
 use Rattle.leaf_engine.specs.Turns.{Standing, TurnBy}
-use Rattle.leaf_engine.specs.OwnLists.{TurnsInPieces, WordLp, running, after_turn, EnteredTurn}
+use Rattle.leaf_engine.specs.OwnLists.{taken_in, TurnsInPieces, WordLp, running, after_turn, EnteredTurn}
+use Rattle.trace_laws.specs.Told.{step_told}
 use Rattle.leaf_table.specs.Ends.{Ends, call_answer, call_ends, step_ends}
 use Rattle.guest_turns.specs.Turns.{act_of, kept_after}
 use Rattle.leaf_dispatch.specs.Answers.{beside_by, guest_by, cached_by}
@@ -30,6 +31,7 @@ use Rattle.leaf_dispatch.specs.Inside.{unless_gives, entered_or, IsGuestKept, Ke
 use Rattle.leaf_dispatch.specs.NoteRooms.{least, call_room, lines_room, stage_room, run_room, room_of, room_left}
 use Rattle.leaf_dispatch.specs.Running.{IsAnsweredBy, standing_of}
 use Rattle.leaf_dispatch.specs.CallRuns.{CallTurned}
+use Rattle.leaf_dispatch.specs.Shown.{epoch_loaded}
 use Rattle.leaf_dispatch.specs.ShortRuns.{seen_by}
 use Rattle.leaf_table.specs.Given.{Given}
 use Rattle.leaf_table.specs.Table.{code_in, task_of, place_table}
@@ -52,6 +54,7 @@ use Rattle.leaf_dispatch.proofs.Turning.{line-gives, line-moves, LineMoved, Move
 use Rattle.leaf_dispatch.proofs.Fewer.{enters-fewer, releases-fewer}
 use Rattle.leaf_dispatch.proofs.Making.{room-before, less-stage}
 use Rattle.leaf_dispatch.proofs.ShortRuns.{none-is, no-run-of}
+use Rattle.leaf_dispatch.proofs.Shown.{run-makes, frees, outside-tells, free-tells}
 
 -- a call answers its reply, what it makes of the cached translations, and the bundles that it makes
 abbrev told_quietly : List Translation → List Made → Beside → Beside
@@ -173,10 +176,16 @@ module _ (p : Place) (given : Given) (codes : List CodeSeen) (c : Call) (cs : Li
               let e = enters result.act x refl is in
               enters-fewer (code_in codes) ts c cs ends (was run) t.stands result.event x rs (besides us ns) e.0 refl e.2.events e.2.completed gives e.1
 
-      pub outside-moves : TurnsInPieces → (G : Option WordGuest) → G ≡ guest_by (call_answer c) result.act None → Moved given (code_in codes) did bench p (before run None) (turned G t.stands result.reply) result.event
+      pub outside-moves : TurnsInPieces → (G : Option WordGuest) → G ≡ guest_by (call_answer c) result.act None → Moved given (code_in codes) did bench p (before run None) (turned G t.stands result.reply) result.event result.event
       outside-moves law G is =
           let moved = line-moved law None G is in
-          record { pieces = moved.pieces; did_them = moved.did_them; turn = moved.turn; fewer = outside-fewer G is result.reply }
+          record {
+            pieces = moved.pieces;
+            did_them = moved.did_them;
+            turn = moved.turn;
+            tells = outside-tells (epoch_loaded (taken_in moved.pieces) % 2) result.event (run-makes (was run).stage p.machine (was run) t.turned.0 t.stands result.event t.turned.2.turn);
+            fewer = outside-fewer G is result.reply;
+          }
 
       run-before : (n : ℕ) → run_room n run ≡ stage_room n (was run).stage
       run-before n = sym (room-before n (task_of given p c) run)
@@ -244,13 +253,15 @@ module _ (p : Place) (given : Given) (codes : List CodeSeen) (c : Call) (cs : Li
           subst (λ (ys : List Translation). events_left (code_in codes) (record { lines = c ∷ cs; run = Some t.stands; guest = Some x; replies = rs; beside = besides ys ns }) < events_left (code_in codes) (before (Some (standing_of r)) (Some x))) (sym inside-cached)
           (releases-fewer (code_in codes) c cs (standing_of r) t.stands x rs (besides ts ms) (held-less r.run.stage refl answered t.turned.2.turn))
 
-      pub inside-moves : TurnsInPieces → gives_epoch_back r.run.held.items ≡ true → Moved given (code_in codes) did bench p (before (Some (standing_of r)) (Some x)) (turned (Some x) t.stands result.reply) result.event
+      pub inside-moves : TurnsInPieces → gives_epoch_back r.run.held.items ≡ true → Moved given (code_in codes) did bench p (before (Some (standing_of r)) (Some x)) (turned (Some x) t.stands result.reply) result.event result.event
       inside-moves law back =
+          let free = frees r.run.stage p.machine (standing_of r) t.turned.0 t.stands result.event answered t.turned.2.turn in
           let moved = line-moved (Some (standing_of r)) t law (Some x) (Some x) stays in
           record {
             pieces = moved.pieces;
             did_them = moved.did_them;
             turn = subst (λ (b : Bool). EnteredTurn (place_table p given (code_in codes)) p.machine c cs (standing_of r) x rs (besides ts ms) result.event moved.pieces (turned (Some x) t.stands result.reply) b) (sym back) moved.turn;
+            tells = free-tells (epoch_loaded (taken_in moved.pieces) % 2) (step_told (step_of (code_in codes) ts x)) free.0 result.event free.1;
             fewer = inside-fewer result.reply;
           }
 

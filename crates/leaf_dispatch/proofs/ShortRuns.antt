@@ -55,6 +55,14 @@ module _ {A : Type 0} (at : A → Standing) (IsAt : Machine → A → Type 0) wh
   no-run-of m e None (Some r) none = cc
   no-run-of m e (Some r) other none = cc
 
+  -- a run is kept
+  pub short-is : (short : Option A) (other : Option Running) (r : A) → short ≡ Some r → is_none (seen_by at short other) ≡ true → ⊥
+  short-is None other r e none = cc
+  short-is (Some k) other r e none = cc
+
+  pub other-is : (short : Option A) (other : Option Running) (r : Running) → short ≡ None → other ≡ Some r → is_none (seen_by at short other) ≡ true → ⊥
+  other-is short other r no_short e none = (let same = ap (λ (z : Option A). seen_by at z other) no_short ∙ ap run_seen e in cc)
+
   -- a turn of one in a small record
 
   stands-so : (r : A) (s : Standing) (reply : Option Reply) → Some (at r) ≡ kept_after reply s → (reply ≡ None) × (s ≡ at r)

@@ -31,6 +31,9 @@ use Rattle.host_turns.specs.declared.runs.HostRun.{HostRun}
 use Rattle.leaf_dispatch.specs.declared.guests.GuestAt.{GuestAt}
 use Rattle.leaf_dispatch.specs.declared.running.Running.{Running}
 use Rattle.guest_turns.specs.declared.runs.LeafTurn.{LeafTurn}
+use Rattle.leaf_dispatch.specs.Exits.{IsCounted}
+use Rattle.leaf_dispatch.specs.Shown.{event_as}
+use Rattle.trace_laws.specs.Told.{step_told, event_told}
 use Rattle.leaf_dispatch.proofs.Turning.{Moved}
 use Rattle.leaf_dispatch.proofs.ShortRuns.{none-is}
 use Rattle.leaf_dispatch.proofs.LineEvents.{gives-back, outside-moves, outside-room, outside-keeps, acts-once, inside-moves, inside-room, inside-keeps}
@@ -44,12 +47,12 @@ module _ (p : Place) (given : Given) (codes : List CodeSeen) (c : Call) (cs : Li
   module _ {B : Type 0} (did : List Taken → B → Type 0) (bench : B) (kept : CallRun) (result : LeafTurn) (made : List Made) where
     -- of a line that goes on, and of one that has its reply: the event, what is kept of the guest, and the room
     pub record GoesOn (then-guest : Option GuestAt) (lines : List Call) (guest : Option GuestAt) (host : Option HostRun) (run : Option Running) (step : StepRun) : Type 0 where
-      pub moved : Moved given (code_in codes) did bench p (at lines (seen_by host_standing host run) (guest_in guest step) rs ts ms) (at lines (call_run_seen kept) (guest_in then-guest step) rs us ns) result.event
+      pub moved : Moved given (code_in codes) did bench p (at lines (seen_by host_standing host run) (guest_in guest step) rs ts ms) (at lines (call_run_seen kept) (guest_in then-guest step) rs us ns) result.event result.event
       pub keeps : KeepsGuest p.machine codes us (length rs + 1) then-guest kept.other step
       pub room : (longest : ℕ) → room_of longest lines (call_run_seen kept) (guest_in then-guest step) ≤ room_of longest lines (seen_by host_standing host run) (guest_in guest step)
 
     pub record HasEnded (replies : List Reply) (lines : List Call) (guest : Option GuestAt) (host : Option HostRun) (run : Option Running) (step : StepRun) : Type 0 where
-      pub moved : Moved given (code_in codes) did bench p (at lines (seen_by host_standing host run) (guest_in guest step) rs ts ms) (at cs (call_run_seen kept) None replies us ns) result.event
+      pub moved : Moved given (code_in codes) did bench p (at lines (seen_by host_standing host run) (guest_in guest step) rs ts ms) (at cs (call_run_seen kept) None replies us ns) result.event result.event
       pub room : (longest : ℕ) → room_of longest cs (call_run_seen kept) None ≤ room_of longest lines (seen_by host_standing host run) (guest_in guest step)
 
     module _ (law : TurnsInPieces) (ent : Option GuestAt) (lines : List Call) (guest : Option GuestAt) (host : Option HostRun) (run : Option Running) (step : StepRun) (is : lines ≡ c ∷ cs)
@@ -72,7 +75,7 @@ module _ (p : Place) (given : Given) (codes : List CodeSeen) (c : Call) (cs : Li
               let seen : guest_in (entered_or ent None) step ≡ option_map (λ (g : GuestAt). guest_seen g None) ent = guest-alone (entered_or ent None) step (none-is (step_run_seen step) nothing) ∙ nobody-else ent in
               let same = then-is t.stands t.seen (guest_in (entered_or ent None) step) in
               record {
-                moved = subst (λ (q : WordLp). Moved given (code_in codes) did bench p (at (c ∷ cs) (seen_by host_standing host run) None rs ts ms) q result.event) same
+                moved = subst (λ (q : WordLp). Moved given (code_in codes) did bench p (at (c ∷ cs) (seen_by host_standing host run) None rs ts ms) q result.event result.event) same
                     (outside-moves p given codes c cs ts us rs notes told ms ns did bench kept result made cached adds (seen_by host_standing host run) t law (guest_in (entered_or ent None) step) (seen ∙ entered));
                 keeps = outside-keeps p given codes c cs ts us rs notes told ms ns did bench kept result made cached adds (seen_by host_standing host run) t ent entered inside none step nothing;
                 room = λ longest. subst (λ (q : WordLp). room_of longest q.lines q.run q.guest ≤ room_of longest (c ∷ cs) (seen_by host_standing host run) None) same
@@ -99,7 +102,7 @@ module _ (p : Place) (given : Given) (codes : List CodeSeen) (c : Call) (cs : Li
               let same = then-is t.stands t.seen (Some x) in
               let goes : GoesOn (Some g) (c ∷ cs) (Some g) None (Some r) step =
               record {
-                moved = subst (λ (q : WordLp). Moved given (code_in codes) did bench p (at (c ∷ cs) (Some (standing_of r)) (Some x) rs ts ms) q result.event) same
+                moved = subst (λ (q : WordLp). Moved given (code_in codes) did bench p (at (c ∷ cs) (Some (standing_of r)) (Some x) rs ts ms) q result.event result.event) same
                     (inside-moves p given codes c cs ts us rs notes told ms ns did bench kept result made cached adds r x keeps.0 t law (gives-back (gives_epoch_back r.run.held.items) g own));
                 keeps = inside-keeps p given codes c cs ts us rs notes told ms ns did bench kept result made cached adds r x keeps.0 t g step (stays refl) keeps.1 none;
                 room = λ longest. subst (λ (q : WordLp). room_of longest q.lines q.run q.guest ≤ room_of longest (c ∷ cs) (Some (standing_of r)) (Some x)) same
@@ -125,7 +128,7 @@ module _ (p : Place) (given : Given) (codes : List CodeSeen) (c : Call) (cs : Li
               let G = guest_by (call_answer c) result.act None in
               let same = then-is t.stands t.seen G in
               record {
-                moved = subst (λ (q : WordLp). Moved given (code_in codes) did bench p (at (c ∷ cs) (seen_by host_standing host run) None rs ts ms) q result.event) same
+                moved = subst (λ (q : WordLp). Moved given (code_in codes) did bench p (at (c ∷ cs) (seen_by host_standing host run) None rs ts ms) q result.event result.event) same
                     (outside-moves p given codes c cs ts us rs notes told ms ns did bench kept result made cached adds (seen_by host_standing host run) t law G refl);
                 room = λ longest. subst (λ (q : WordLp). room_of longest q.lines q.run q.guest ≤ room_of longest (c ∷ cs) (seen_by host_standing host run) None) same
                     (outside-room p given codes c cs ts us rs notes told ms ns did bench kept result made cached adds (seen_by host_standing host run) t longest G refl result.reply);
@@ -140,7 +143,7 @@ module _ (p : Place) (given : Given) (codes : List CodeSeen) (c : Call) (cs : Li
               let x : WordGuest = guest_seen g (step_run_seen step) in
               let same = then-is t.stands t.seen (Some x) in
               record {
-                moved = subst (λ (q : WordLp). Moved given (code_in codes) did bench p (at (c ∷ cs) (Some (standing_of r)) (Some x) rs ts ms) q result.event) same
+                moved = subst (λ (q : WordLp). Moved given (code_in codes) did bench p (at (c ∷ cs) (Some (standing_of r)) (Some x) rs ts ms) q result.event result.event) same
                     (inside-moves p given codes c cs ts us rs notes told ms ns did bench kept result made cached adds r x keeps.0 t law (gives-back (gives_epoch_back r.run.held.items) g own));
                 room = λ longest. subst (λ (q : WordLp). room_of longest q.lines q.run q.guest ≤ room_of longest (c ∷ cs) (Some (standing_of r)) (Some x)) same
                     (inside-room p given codes c cs ts us rs notes told ms ns did bench kept result made cached adds r x keeps.0 t longest result.reply);
@@ -155,13 +158,14 @@ module _ (p : Place) (given : Given) (codes : List CodeSeen) (rs : List Reply) (
   abbrev pub inside : List Call → Option Standing → Option WordGuest → List Translation → List Note → List ℕ → WordLp
   inside lines run g xs ns words = record { lines = lines; run = run; guest = g; replies = rs; beside = record { cached = xs; notes = ns; told = words; bundles = ms } }
 
-  module _ {B : Type 0} (did : List Taken → B → Type 0) (bench : B) (kept : StepRun) (result : LeafTurn) (us : List Translation) (s : Step) (g : GuestAt) (h : Option GuestAt) (step : StepRun) where
+  module _ {B : Type 0} (did : List Taken → B → Type 0) (bench : B) (kept : StepRun) (result : LeafTurn) (us : List Translation) (s : Step) (g : GuestAt) (h : Option GuestAt) (step : StepRun) (parity : ℕ) where
     -- the turn of its step at a line
     pub record StepsAt (line : ℕ) : Type 0 where
       pub counts : CanCount g s
       pub low : IsStepOf s
       pub is : next_in ts g None ≡ s
       pub turned : StepTurned did p.machine (step_ends g.tdr line s) (running (step_task given p g.tdr g.vp line s) (step_run_seen step)) bench kept result
+      pub counted : IsCounted s parity turned.turned.0
       pub cached : us ≡ cached_by (step_answer g.tdr line s) result.act ts
       pub next : IsNextGuest g s result.reply h
 
@@ -185,7 +189,7 @@ module _ (p : Place) (given : Given) (codes : List CodeSeen) (rs : List Reply) (
     module _ (run' : Option Running) (notes' : List Note) (told' : List ℕ) where
       -- the event, what is kept of the guest, and the room
       pub record HasStepped (lines : List Call) (guest : Option GuestAt) (host : Option HostRun) (run : Option Running) : Type 0 where
-        pub moved : Moved given (code_in codes) did bench p (inside lines (seen_by host_standing host run) (guest_in guest step) ts notes told) (inside lines (seen_by host_standing host run') (guest_in h kept) us notes' told') result.event
+        pub moved : Moved given (code_in codes) did bench p (inside lines (seen_by host_standing host run) (guest_in guest step) ts notes told) (inside lines (seen_by host_standing host run') (guest_in h kept) us notes' told') result.event (event_as parity (event_told (step_told s) result.event))
         pub keeps : KeepsGuest p.machine codes us (length rs + 1) h run' kept
         pub room : (made : ℕ) → made ≤ 1 → (result.act ≡ None → made ≡ 0) → MakesNone s made
             → room_of (longest_in codes) lines (seen_by host_standing host run') (guest_in h kept) + made ≤ room_of (longest_in codes) lines (seen_by host_standing host run) (guest_in guest step)
@@ -218,9 +222,9 @@ module _ (p : Place) (given : Given) (codes : List CodeSeen) (rs : List Reply) (
               where
                 on : (r : Running) → gives_epoch_back r.run.held.items ≡ false → KeepsGuest p.machine codes ts (length rs + 1) (Some g) (Some r) step → run_seen run' ≡ line_then s result.reply (Some (standing_of r)) → HasStepped (c ∷ cs) (Some g) None (Some r)
                 on r back keeps seen = record {
-                  moved = subst (λ (z : Option Standing). Moved given (code_in codes) did bench p (inside (c ∷ cs) (Some (standing_of r)) (guest_in (Some g) step) ts notes told) (inside (c ∷ cs) z (guest_in h kept) us notes' told') result.event) (sym seen)
-                      (subst (λ (q : WordLp). Moved given (code_in codes) did bench p (inside (c ∷ cs) (Some (standing_of r)) (guest_in (Some g) step) ts notes told) (record { lines = c ∷ cs; run = line_then s result.reply (Some (standing_of r)); guest = guest_in h kept; replies = rs; beside = q.beside }) result.event) (sym then-are)
-                      (guest-moved p given codes c cs r g step ts us rs notes told ms did bench kept result s h t.is keeps.1 t.counts t.low t.turned t.cached t.next law back));
+                  moved = subst (λ (z : Option Standing). Moved given (code_in codes) did bench p (inside (c ∷ cs) (Some (standing_of r)) (guest_in (Some g) step) ts notes told) (inside (c ∷ cs) z (guest_in h kept) us notes' told') result.event (event_as parity (event_told (step_told s) result.event))) (sym seen)
+                      (subst (λ (q : WordLp). Moved given (code_in codes) did bench p (inside (c ∷ cs) (Some (standing_of r)) (guest_in (Some g) step) ts notes told) (record { lines = c ∷ cs; run = line_then s result.reply (Some (standing_of r)); guest = guest_in h kept; replies = rs; beside = q.beside }) result.event (event_as parity (event_told (step_told s) result.event))) (sym then-are)
+                      (guest-moved p given codes c cs r g step ts us rs notes told ms did bench kept result s h t.is keeps.1 t.counts t.low t.turned t.cached t.next law back parity t.counted));
                   keeps = guest-keeps p given codes c cs r g step ts us rs notes told ms did bench kept result s h t.is keeps.1 t.counts t.low t.turned t.cached t.next run' seen answered list;
                   room = λ made few none makes. subst (λ (z : Option Standing). room_of (longest_in codes) (c ∷ cs) z (guest_in h kept) + made ≤ room_of (longest_in codes) (c ∷ cs) (Some (standing_of r)) (guest_in (Some g) step)) (sym seen)
                       (guest-fits p given codes c cs r g step ts us rs notes told ms did bench kept result s h t.is keeps.1 t.counts t.low t.turned t.cached t.next (longest_in codes) made refl few none makes);

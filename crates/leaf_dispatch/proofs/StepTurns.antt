@@ -38,15 +38,16 @@ staying-is codes ts x list (Some out) same = refl
 pub step-is : (codes : ℕ → ℕ → List GuestOp) (ts : List Translation) (g : GuestAt) (run : Option Standing) → codes g.tdr g.index ≡ g.list.now → step_of codes ts (guest_seen g run) ≡ next_in ts g run
 step-is codes ts g run same = staying-is codes ts (guest_seen g run) g.list.now g.leaving same
 
-pub record GuestMoved {B : Type 0} (did : List Taken → B → Type 0) (bench : B) (p : Place) (given : Given) (codes : ℕ → ℕ → List GuestOp) (c : Call) (cs : List Call) (line : Standing) (g : WordGuest) (rs : List Reply) (b : Beside) (q : WordLp) (result : LeafTurn) : Type 0 where
+pub record GuestMoved {B : Type 0} (did : List Taken → B → Type 0) (bench : B) (p : Place) (given : Given) (codes : ℕ → ℕ → List GuestOp) (c : Call) (cs : List Call) (line : Standing) (g : WordGuest) (rs : List Reply) (b : Beside) (q : WordLp) (result : LeafTurn) (P : List Taken → Type 0) : Type 0 where
   pub pieces : List Piece
   pub did_them : did (taken_in pieces) bench
   pub turn : GuestTurn (place_table p given codes) p.machine c cs line g rs b result.event pieces q
+  pub shows : P (taken_in pieces)
 
-guest-moves-at : TurnsInPieces → {B : Type 0} (did : List Taken → B → Type 0) (bench : B) (p : Place) (given : Given) (codes : ℕ → ℕ → List GuestOp) (c : Call) (cs : List Call) (line : Standing) (g : WordGuest) (rs : List Reply) (b : Beside) (kept : StepRun) (q : WordLp) (result : LeafTurn)
+guest-moves-at : TurnsInPieces → {B : Type 0} (did : List Taken → B → Type 0) (bench : B) (p : Place) (given : Given) (codes : ℕ → ℕ → List GuestOp) (c : Call) (cs : List Call) (line : Standing) (g : WordGuest) (rs : List Reply) (b : Beside) (kept : StepRun) (q : WordLp) (result : LeafTurn) (P : List Taken → Type 0)
     → let s = step_of codes b.cached g in let e = step_ends g.tdr (length rs + 1) s in (t : StepTurned did p.machine e (running (step_task given p g.tdr g.vp (length rs + 1) s) g.run) bench kept result)
-    → q ≡ after_step c cs line g rs (beside_by e.answer [] result.act b) s t.stands result.reply → GuestMoved did bench p given codes c cs line g rs b q result
-guest-moves-at law did bench p given codes c cs line g rs b kept q result t after =
+    → P t.turned.0 → q ≡ after_step c cs line g rs (beside_by e.answer [] result.act b) s t.stands result.reply → GuestMoved did bench p given codes c cs line g rs b q result P
+guest-moves-at law did bench p given codes c cs line g rs b kept q result P t made after =
     let s : Step = step_of codes b.cached g in
     let e : Ends = step_ends g.tdr (length rs + 1) s in
     let run : Standing = running (step_task given p g.tdr g.vp (length rs + 1) s) g.run in
@@ -65,18 +66,19 @@ guest-moves-at law did bench p given codes c cs line g rs b kept q result t afte
             ∙ (ap (λ (z : Beside). after_step c cs line g rs z s t.stands result.reply) besides
             ∙ ap (after_step c cs line g rs (beside_after result.event t.stands.rest b) s t.stands) t.turned.2.reply);
       };
+      shows = subst P (sym told.2) made;
     }
 
 -- whatever its step is
-pub guest-moves : TurnsInPieces → {B : Type 0} (did : List Taken → B → Type 0) (bench : B) (p : Place) (given : Given) (codes : ℕ → ℕ → List GuestOp) (c : Call) (cs : List Call) (line : Standing) (g : WordGuest) (rs : List Reply) (b : Beside) (kept : StepRun) (q : WordLp) (result : LeafTurn)
+pub guest-moves : TurnsInPieces → {B : Type 0} (did : List Taken → B → Type 0) (bench : B) (p : Place) (given : Given) (codes : ℕ → ℕ → List GuestOp) (c : Call) (cs : List Call) (line : Standing) (g : WordGuest) (rs : List Reply) (b : Beside) (kept : StepRun) (q : WordLp) (result : LeafTurn) (P : List Taken → Type 0)
     (s : Step) → step_of codes b.cached g ≡ s → let e = step_ends g.tdr (length rs + 1) s in (t : StepTurned did p.machine e (running (step_task given p g.tdr g.vp (length rs + 1) s) g.run) bench kept result)
-    → q ≡ after_step c cs line g rs (beside_by e.answer [] result.act b) s t.stands result.reply → GuestMoved did bench p given codes c cs line g rs b q result
-guest-moves law did bench p given codes c cs line g rs b kept q result s is =
+    → P t.turned.0 → q ≡ after_step c cs line g rs (beside_by e.answer [] result.act b) s t.stands result.reply → GuestMoved did bench p given codes c cs line g rs b q result P
+guest-moves law did bench p given codes c cs line g rs b kept q result P s is =
     subst
-    (λ (z : Step). let e = step_ends g.tdr (length rs + 1) z in (t : StepTurned did p.machine e (running (step_task given p g.tdr g.vp (length rs + 1) z) g.run) bench kept result) → q ≡ after_step c cs line g rs (beside_by e.answer [] result.act b) z t.stands result.reply
-    → GuestMoved did bench p given codes c cs line g rs b q result)
+    (λ (z : Step). let e = step_ends g.tdr (length rs + 1) z in (t : StepTurned did p.machine e (running (step_task given p g.tdr g.vp (length rs + 1) z) g.run) bench kept result) → P t.turned.0 → q ≡ after_step c cs line g rs (beside_by e.answer [] result.act b) z t.stands result.reply
+    → GuestMoved did bench p given codes c cs line g rs b q result P)
     is
-    (guest-moves-at law did bench p given codes c cs line g rs b kept q result)
+    (guest-moves-at law did bench p given codes c cs line g rs b kept q result P)
 
 -- an operation leaves what is cached
 pub cached-stays : (t line : ℕ) (o : GuestOp) (r : Reply) (ts : List Translation) → (step_answer t line (Operates o) r).cached ts ≡ ts

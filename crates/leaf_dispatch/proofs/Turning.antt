@@ -1,5 +1,5 @@
 -- A turn of the run of the present line is a turn of its processor.
-use Rattle.std.proofs.Common.{◌≡◌, ℕ, ◌+◌, ◌<◌, ◌≤◌, List, [], ◌∷◌, ◌++◌, length, Option, Some, None, refl, ap, sym, ◌∙◌, subst, arith}
+use Rattle.std.proofs.Common.{◌≡◌, ℕ, ◌+◌, ◌%◌, ◌<◌, ◌≤◌, List, [], ◌∷◌, ◌++◌, length, Option, Some, None, refl, ap, sym, ◌∙◌, subst, arith}
 use Rattle.td_words.specs.declared.machines.Machine.{Machine}
 use Rattle.td_words.specs.declared.calls.Call.{Call}
 use Rattle.td_words.specs.declared.calls.GuestOp.{GuestOp}
@@ -21,6 +21,8 @@ use Rattle.leaf_dispatch.specs.Bounds.{stage_left, run_left, events_left}
 use Rattle.leaf_table.specs.Given.{Given}
 use Rattle.leaf_table.specs.Table.{task_of, place_table}
 use Rattle.leaf_dispatch.specs.Running.{LeafTurned}
+use Rattle.leaf_dispatch.specs.Shown.{event_as, epoch_loaded}
+use Rattle.trace_laws.specs.Told.{told}
 use Rattle.guest_turns.specs.declared.runs.LeafTurn.{LeafTurn}
 use Rattle.leaf_dispatch.proofs.Lowering.{Gives, turn-gives}
 
@@ -71,10 +73,11 @@ pub none-begun : (codes : ℕ → ℕ → List GuestOp) (cs : List Call) (rs : L
 none-begun codes [] rs b = omega arith
 none-begun codes (c ∷ cs) rs b = omega arith
 
-pub record Moved {B : Type 0} (given : Given) (codes : ℕ → ℕ → List GuestOp) (did : List Taken → B → Type 0) (bench : B) (place : Place) (p q : WordLp) (event : Event) : Type 0 where
+pub record Moved {B : Type 0} (given : Given) (codes : ℕ → ℕ → List GuestOp) (did : List Taken → B → Type 0) (bench : B) (place : Place) (p q : WordLp) (event shown : Event) : Type 0 where
   pub pieces : List Piece
   pub did_them : did (taken_in pieces) bench
   pub turn : LpTurns (place_table place given codes) place.machine p event pieces q
+  pub tells : shown ≡ event_as (epoch_loaded (taken_in pieces) % 2) (told codes p event)
   pub fewer : events_left codes q < events_left codes p
 
 pub bound-after : (codes : ℕ → ℕ → List GuestOp) (c : Call) (cs : List Call) (rs : List Reply) (b : Beside) (s : Standing) (reply : Option Reply) (x : ℕ) → stage_left (most_tries c) (guest_events c) s.stage (length s.held) < x

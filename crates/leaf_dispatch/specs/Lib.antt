@@ -8,7 +8,10 @@ pub mod StepRuns
 pub mod CallRuns
 pub mod Guests
 pub mod Inside
+pub mod Shown
 pub mod States
+pub mod Exits
+pub mod Ended
 pub mod Due
 pub mod Follows
 pub mod NoteRooms

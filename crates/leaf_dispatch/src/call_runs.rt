@@ -1,10 +1,11 @@
 //! The run of a call.
 
 ghost use Rattle.std.specs.Prelude.{◌≡◌};
+ghost use Rattle.leaf_dispatch.specs.Ended.{made_by_run};
 ghost use Rattle.leaf_dispatch.specs.Held.{held_by};
 ghost use Rattle.leaf_dispatch.specs.CallRuns.{call_run_seen};
 
-use crate::running::{Running, held_of};
+use crate::running::{Running, held_of, made_by_run};
 use host_turns::HostRun;
 use leaf_engine::HeldLock;
 
@@ -22,5 +23,15 @@ pub fn call_held_of<'b>(kept: &'b CallRun<'_>) -> &'b [HeldLock]
     match kept.host {
         Some(_) => host_turns::held_of(&kept.host),
         None => held_of(&kept.other),
+    }
+}
+
+/// How many bundles it has made: none, if it is of a host access.
+pub fn made_by_call(kept: &CallRun<'_>) -> usize
+    ensures { result ≡ made_by_run (call_run_seen kept.now) }
+{
+    match kept.host {
+        Some(_) => 0,
+        None => made_by_run(&kept.other),
     }
 }

@@ -4,6 +4,7 @@ ghost use Rattle.std.specs.Prelude.{◌≡◌, ℕ, ◌<◌, ◌≤◌, true, le
 ghost use Rattle.td_words.specs.declared.machines.Machine.{Machine};
 ghost use Rattle.td_words.specs.Limits.{IsMachine};
 ghost use Rattle.flat_core.specs.World.{Made};
+ghost use Rattle.bundles.specs.Made.{made_in};
 ghost use Rattle.leaf_engine.specs.Turns.{Standing};
 ghost use Rattle.leaf_engine.specs.OwnLists.{running};
 ghost use Rattle.leaf_engine.specs.Merges.{IsStepOf};
@@ -15,11 +16,12 @@ ghost use Rattle.guest_turns.specs.Turns.{turn_of, act_of};
 ghost use Rattle.leaf_dispatch.specs.NoteRooms.{run_room};
 ghost use Rattle.leaf_dispatch.specs.BundleRooms.{count_of, words_of, payload_words, HasAdded};
 ghost use Rattle.leaf_table.specs.PageRooms.{is_spare, leaf_room};
+ghost use Rattle.leaf_dispatch.specs.Ended.{made_by_run};
 ghost use Rattle.leaf_dispatch.specs.Held.{held_by};
 ghost use Rattle.leaf_dispatch.specs.Running.{standing_of, run_seen, answered_with, IsAnswered, act_in, made_in_run, kept_until, holds_room, IsUnderWay, IsRunOf, IsKept, CanTurn, HasTurned, RunTurned};
 
 use crate::rooms::add_bundle;
-use bundles::Bundles;
+use bundles::{Bundle, Bundles};
 use export_pages::PageWords;
 use guest_turns::LeafTurn;
 use leaf_engine::{Event, HeldLock, Place, Run, RunTurn, Stage};
@@ -171,6 +173,28 @@ pub fn answer_kept(kept: &mut Option<Running<'_>>, reply: Reply)
     match kept {
         Some(Running { run }) => run.answer(reply),
         None => (),
+    }
+}
+
+/// How many bundles a kept run has made: at most one, with its act.
+pub fn made_by_run(kept: &Option<Running<'_>>) -> usize
+    ensures { result ≡ made_by_run (run_seen kept.now) }
+{
+    match kept {
+        Some(Running { run }) => match run.stage() {
+            Stage::Answered(Reply::Done(_)) => count_of(run.leaf().bundle()),
+            _ => 0,
+        },
+        None => 0,
+    }
+}
+
+fn count_of(bundle: Option<Bundle<'_>>) -> usize
+    ensures { result ≡ length (made_in bundle.entry) }
+{
+    match bundle {
+        Some(_) => 1,
+        None => 0,
     }
 }
 

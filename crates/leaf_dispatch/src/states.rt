@@ -9,9 +9,12 @@ ghost use Rattle.leaf_dispatch.specs.NoteRooms.{longest_in, room_of};
 ghost use Rattle.leaf_dispatch.specs.BundleRooms.{count_of, words_of, still_make};
 ghost use Rattle.leaf_dispatch.specs.FirstLists.{AreFirstLists, AreFirstLists-prop};
 
-use crate::call_runs::{CallRun, call_held_of};
+use crate::call_runs::{CallRun, call_held_of, made_by_call};
+use crate::ended::EndedBundles;
+use crate::exits::event_told;
 use crate::first_lists::FirstLists;
 use crate::guests::{GuestAt, InGuest, next_step};
+use crate::inputs::Inputs;
 use crate::rooms::{lines_bundles, lines_payloads, lines_room, longest};
 use crate::step_runs::{StepRun, forget_step, step_held_of};
 use crate::turns::{
@@ -25,7 +28,7 @@ use leaf_table::{Given, Step};
 use report_text::GuestNote;
 use std::alloc::Global;
 use step_core::Bench;
-use td_words::{Call, Code, Machine, OutOfMemory, Reply};
+use td_words::{Call, Code, OutOfMemory, Reply};
 use tlb_epochs::Tlb;
 
 /// A logical processor: its calls from the present one on, and the run of that call once its first
@@ -69,36 +72,36 @@ impl<'a> LpState<'a> {
     ghost use Rattle.td_words.specs.Limits.{IsMachine};
     ghost use Rattle.leaf_engine.specs.OwnLists.{first_lp};
     ghost use Rattle.leaf_dispatch.specs.Guests.{note_seen};
-    ghost use Rattle.leaf_dispatch.specs.Inside.{AreOperations, acting};
-    ghost use Rattle.leaf_dispatch.specs.FirstLists.{AreFirstLists};
+    ghost use Rattle.leaf_dispatch.specs.Inside.{acting};
     ghost use Rattle.leaf_table.specs.Given.{given_in};
     ghost use Rattle.leaf_table.specs.Steps.{step_seen};
     ghost use Rattle.leaf_table.specs.Table.{code_in};
     ghost use Rattle.leaf_dispatch.specs.States.{seen_of, HasMoved};
+    ghost use Rattle.leaf_dispatch.specs.Ended.{ended_in, ended_seen};
     ghost use Rattle.leaf_dispatch.specs.Held.{held_by};
     ghost use Rattle.leaf_dispatch.specs.Due.{step_due, in_guest, step_held};
 
-    /// At the first of its calls, with the lists of operations, what the run is given, and where the
-    /// lists stand. All the memory is taken here that its replies need, what its guests can note and
-    /// tell, the bundles that its calls can make, and the words of a page on their way into one.
+    /// That processor, at the first of its calls. All the memory is taken here that its replies need, what
+    /// its guests can note and tell, the bundles that its calls can make, and the words of a page on their
+    /// way into one.
     pub fn new(
         alloc: Global,
-        machine: Machine,
-        lp: u8,
-        codes: &'a [Code],
-        given: Given<'a>,
-        first_lists: &'a FirstLists,
+        place: Place,
+        inputs: Inputs<'a>,
         calls: &'a [Call],
     ) -> Result<LpState<'a>, OutOfMemory>
-        requires machine { IsMachine machine }
-        requires limits { AreOperations codes.now }
-        requires first_lists { AreFirstLists codes.now first_lists.now }
+        requires machine { IsMachine place.machine }
         requires few { length calls.now < 2 ^ 32 }
-        ensures place { IfOk result (λ s. s.place ≡ record { machine = machine; lp = lp }) }
-        ensures codes { IfOk result (λ s. s.codes.now ≡ codes.now) }
-        ensures given { IfOk result (λ s. given_in s.given ≡ given_in given.entry) }
+        ensures place { IfOk result (λ s. s.place ≡ place) }
+        ensures codes { IfOk result (λ s. s.codes.now ≡ inputs.entry.codes.now) }
+        ensures given { IfOk result (λ s. given_in s.given ≡ given_in inputs.entry.given) }
         ensures first { IfOk result (λ s. seen_of s ≡ first_lp calls.now) }
     {
+        let Inputs {
+            codes,
+            first_lists,
+            given,
+        } = inputs;
         let Some(room) = lines_room(longest(codes), calls) else {
             return Err(OutOfMemory);
         };
@@ -120,7 +123,7 @@ impl<'a> LpState<'a> {
             return Err(OutOfMemory);
         };
         Ok(LpState {
-            place: Place { machine, lp },
+            place,
             lines: calls,
             codes,
             given,
@@ -165,11 +168,18 @@ impl<'a> LpState<'a> {
         self.told.as_slice()
     }
 
-    /// The bundles that its calls made, in order.
-    pub fn bundles(&self) -> &Bundles
-        ensures { result.now.made ≡ (seen_of self.now).beside.bundles }
+    /// The bundles of its calls that have ended, in order: a call's bundle is there from its last event on.
+    pub fn bundles(&self) -> EndedBundles<'_>
+        ensures { ended_seen result ≡ ended_in (seen_of self.now) }
     {
-        &self.bundles
+        let under_way = match self.lines {
+            [] => 0,
+            _ => made_by_call(&self.run),
+        };
+        EndedBundles {
+            bundles: &self.bundles,
+            count: self.bundles.len().saturating_sub(under_way),
+        }
     }
 
     /// The step by which its guest makes its next event, once its VP.ENTER has given E back; none outside
@@ -288,7 +298,7 @@ impl<'a> LpState<'a> {
         let Some(guest) = &mut self.guest else {
             unreachable!()
         };
-        let GuestTurn { step, left } = turn_guest(
+        let GuestTurn { step, parity, left } = turn_guest(
             &mut self.step_run,
             &mut self.cached,
             guest,
@@ -302,7 +312,7 @@ impl<'a> LpState<'a> {
         tell_by(&mut self.told, step, &self.turn.act);
         answer_exit(&mut self.run.other, step, &self.turn.reply);
         leave_where(&mut self.guest, left);
-        self.turn.event
+        event_told(step, parity, self.turn.event)
     }
 }
 

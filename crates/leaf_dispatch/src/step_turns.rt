@@ -1,8 +1,8 @@
 //! The turns of a guest's steps.
 
-ghost use Rattle.std.specs.Prelude.{◌≡◌, ℕ, ◌<◌, Some, None};
+ghost use Rattle.std.specs.Prelude.{◌≡◌, ℕ, ◌<◌, true, is_none, Some, None};
 ghost use Rattle.td_words.specs.Limits.{IsMachine};
-ghost use Rattle.td_words.specs.declared.replies.Reply.TheVariants.{Done};
+ghost use Rattle.td_words.specs.declared.replies.Reply.TheVariants.{Done, Exited};
 ghost use Rattle.td_words.specs.declared.replies.Value.TheVariants.{Nothing, Number};
 ghost use Rattle.leaf_engine.specs.declared.events.Event.TheVariants as event;
 ghost use Rattle.leaf_engine.specs.Guests.{Operates};
@@ -14,9 +14,11 @@ ghost use Rattle.guest_turns.specs.Turns.{MadeAtOnce};
 ghost use Rattle.leaf_table.specs.Steps.{step_seen};
 ghost use Rattle.leaf_table.specs.Given.{given_in};
 ghost use Rattle.leaf_table.specs.Table.{step_task};
-ghost use Rattle.leaf_table.specs.Ends.{step_ends};
+ghost use Rattle.leaf_table.specs.Ends.{step_ends, step_tries};
 ghost use Rattle.leaf_dispatch.specs.StepRuns.{step_run_seen, IsStepRunOf, StepTurned};
+ghost use Rattle.leaf_dispatch.specs.Exits.{StepCounted};
 
+use crate::exits::leave_guest;
 use crate::running::turn_step_run;
 use crate::step_runs::StepRun;
 use guest_turns::{
@@ -26,10 +28,11 @@ use leaf_engine::{Event, Place};
 use leaf_parts::page_told;
 use leaf_table::{Given, Step};
 use step_core::Bench;
-use td_words::{Access, GuestOp, Reply, Value};
+use td_words::{Access, GuestOp, Outcome, Reply, Value};
 
 /// The next turn of the run of a guest's step, which is kept until its reply comes, and begins where
-/// none is kept. A step that has a short way takes it.
+/// none is kept. A step that has a short way takes it. It answers the parity of the epoch whose count an
+/// exit has lowered, and else 0.
 pub fn turn_step<'a, B: Bench>(
     kept: &mut StepRun<'a>,
     place: Place,
@@ -40,19 +43,26 @@ pub fn turn_step<'a, B: Bench>(
     step: Step,
     bench: &mut B,
     turn: &mut LeafTurn,
-)
+) -> u8
     requires machine { IsMachine place.machine }
     requires inside { (tdr < place.machine.pages) × (vp < place.machine.pages) }
     requires limits { IsStepOf (step_seen step) }
     requires at { place.machine ≡ B.machine bench.old }
     requires under_way { IsStepRunOf place.machine (step_ends tdr line (step_seen step)) kept.old }
-    ensures turned { StepTurned (B.did bench.old) place.machine (step_ends tdr line (step_seen step)) (running (step_task (given_in given.entry) place tdr vp line (step_seen step)) (step_run_seen kept.old)) bench.new kept.new turn.new }
+    requires alone { step_tries (step_seen step) ≡ 0 → is_none (step_run_seen kept.old) ≡ true }
+    ensures turned { StepCounted (B.did bench.old) place.machine (step_ends tdr line (step_seen step)) (running (step_task (given_in given.entry) place tdr vp line (step_seen step)) (step_run_seen kept.old)) bench.new kept.new turn.new (step_seen step) result }
     ensures machine { B.machine bench.new ≡ B.machine bench.old }
 {
     match kept.shared {
-        Some(_) => turn_shared(&mut kept.shared, bench, turn),
+        Some(_) => {
+            turn_shared(&mut kept.shared, bench, turn);
+            0
+        }
         None => match kept.other {
-            Some(_) => turn_other_step(kept, place, given, tdr, vp, line, step, bench, turn),
+            Some(_) => {
+                turn_other_step(kept, place, given, tdr, vp, line, step, bench, turn);
+                0
+            }
             None => turn_new_step(kept, place, given, tdr, vp, line, step, bench, turn),
         },
     }
@@ -103,13 +113,13 @@ fn turn_new_step<'a, B: Bench>(
     step: Step,
     bench: &mut B,
     turn: &mut LeafTurn,
-)
+) -> u8
     requires machine { IsMachine place.machine }
     requires inside { (tdr < place.machine.pages) × (vp < place.machine.pages) }
     requires limits { IsStepOf (step_seen step) }
     requires at { place.machine ≡ B.machine bench.old }
     requires none { (kept.old.shared ≡ None) × (kept.old.other ≡ None) }
-    ensures turned { StepTurned (B.did bench.old) place.machine (step_ends tdr line (step_seen step)) (running (step_task (given_in given.entry) place tdr vp line (step_seen step)) None) bench.new kept.new turn.new }
+    ensures turned { StepCounted (B.did bench.old) place.machine (step_ends tdr line (step_seen step)) (running (step_task (given_in given.entry) place tdr vp line (step_seen step)) None) bench.new kept.new turn.new (step_seen step) result }
     ensures machine { B.machine bench.new ≡ B.machine bench.old }
 {
     match step {
@@ -121,11 +131,21 @@ fn turn_new_step<'a, B: Bench>(
         } => {
             let word = access_private(place, vp, access, register, gpa, page, bench);
             moved_at_once(word, turn);
+            0
         }
         Step::Operates(operation) => {
-            turn_new_operation(kept, place, given, tdr, vp, line, operation, bench, turn)
+            turn_new_operation(kept, place, given, tdr, vp, line, operation, bench, turn);
+            0
         }
-        _ => turn_other_step(kept, place, given, tdr, vp, line, step, bench, turn),
+        Step::Loads { .. } => {
+            turn_other_step(kept, place, given, tdr, vp, line, step, bench, turn);
+            0
+        }
+        Step::Leaves(outcome) => {
+            let parity = leave_guest(place, tdr, vp, bench);
+            left_at_once(outcome, turn);
+            parity
+        }
     }
 }
 
@@ -244,4 +264,13 @@ fn done_at_once(turn: &mut LeafTurn)
     turn.event = Event::Act;
     turn.act = Some(Reply::Done(Value::Nothing));
     turn.reply = Some(Reply::Done(Value::Nothing));
+}
+
+// That of an exit with an outcome.
+fn left_at_once(outcome: Outcome, turn: &mut LeafTurn)
+    ensures { turn.new ≡ record { event = event.Act; act = Some (Exited outcome); reply = Some (Exited outcome) } }
+{
+    turn.event = Event::Act;
+    turn.act = Some(Reply::Exited(outcome));
+    turn.reply = Some(Reply::Exited(outcome));
 }

@@ -18,7 +18,8 @@ ghost use Rattle.leaf_dispatch.specs.Inside.{acting, line_then, HasEntered};
 ghost use Rattle.leaf_dispatch.specs.NoteRooms.{run_room};
 ghost use Rattle.leaf_dispatch.specs.BundleRooms.{count_of, words_of, HasAdded};
 ghost use Rattle.leaf_dispatch.specs.FirstLists.{AreFirstLists};
-ghost use Rattle.leaf_dispatch.specs.StepRuns.{step_run_seen, IsStepRunOf, StepTurned};
+ghost use Rattle.leaf_dispatch.specs.StepRuns.{step_run_seen, IsStepRunOf};
+ghost use Rattle.leaf_dispatch.specs.Exits.{StepCounted};
 ghost use Rattle.leaf_dispatch.specs.CallRuns.{call_run_seen, IsCallRunOf, CallTurned};
 ghost use Rattle.leaf_dispatch.specs.Running.{run_seen, holds_room, IsRunOf, IsAnswered};
 ghost use Rattle.leaf_table.specs.Given.{given_in};
@@ -43,10 +44,12 @@ use step_core::Bench;
 use td_words::{Call, Code, Machine, Reply};
 use tlb_epochs::Tlb;
 
-/// The step of a turn in a guest, and whether the guest was left.
+/// The step of a turn in a guest, the parity of the epoch whose count it lowered, and whether the guest was
+/// left.
 #[derive(Clone, Copy)]
 pub struct GuestTurn {
     pub step: Step,
+    pub parity: u8,
     pub left: bool,
 }
 
@@ -137,7 +140,7 @@ pub fn turn_guest<'a, B: Bench>(
     ensures step { (run : Option Standing) → step_seen result.step ≡ next_in cached.old guest.old run }
     ensures counts { CanCount guest.old (step_seen result.step) }
     ensures within { IsStepOf (step_seen result.step) }
-    ensures turned { StepTurned (B.did bench.old) place.machine (step_ends guest.old.tdr line (step_seen result.step)) (running (step_task (given_in given.entry) place guest.old.tdr guest.old.vp line (step_seen result.step)) (step_run_seen kept.old)) bench.new kept.new turn.new }
+    ensures turned { StepCounted (B.did bench.old) place.machine (step_ends guest.old.tdr line (step_seen result.step)) (running (step_task (given_in given.entry) place guest.old.tdr guest.old.vp line (step_seen result.step)) (step_run_seen kept.old)) bench.new kept.new turn.new (step_seen result.step) result.parity }
     ensures fits { IfSome turn.new.reply (λ r. IsReplyOf (step_seen result.step) r) }
     ensures cached { cached.new ≡ cached_by (step_answer guest.old.tdr line (step_seen result.step)) turn.new.act cached.old }
     ensures next { IsNextGuest guest.old (step_seen result.step) turn.new.reply (unless result.left guest.new) }
@@ -145,7 +148,7 @@ pub fn turn_guest<'a, B: Bench>(
     ensures machine { B.machine bench.new ≡ B.machine bench.old }
 {
     let step = next_step(guest, cached);
-    turn_step(
+    let parity = turn_step(
         kept,
         place,
         given,
@@ -158,7 +161,7 @@ pub fn turn_guest<'a, B: Bench>(
     );
     cache_by(cached, guest.tdr, step, &turn.act);
     let left = guest_then(guest, step, &turn.reply);
-    GuestTurn { step, left }
+    GuestTurn { step, parity, left }
 }
 
 fn cache_by(cached: &mut Tlb, tdr: u16, step: Step, act: &Option<Reply>)

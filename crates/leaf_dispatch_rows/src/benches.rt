@@ -1,17 +1,17 @@
 //! A bench on which calls are made, and whose words a test may set.
 
-ghost use Rattle.std.specs.Prelude.{◌≡◌, ◌<◌, ◌^◌, length};
+ghost use Rattle.std.specs.Prelude.{◌≡◌, ◌<◌, ◌^◌, [], length};
 ghost use Rattle.leaf_dispatch.specs.FirstLists.{AreFirstLists};
 ghost use Rattle.leaf_dispatch_rows.specs.declared.benches.TheConstants.{MACHINE};
 
 use incoming::IncomingBundles;
-use leaf_dispatch::{FirstLists, LpState};
-use leaf_engine::{Processor, Turn};
+use leaf_dispatch::{FirstLists, Inputs, LpState};
+use leaf_engine::{Event, Place, Processor, Turn};
 use leaf_table::Given;
 use std::alloc::Global;
 use std::process::Abort;
 use step_core::PlainBench;
-use td_words::{Call, Code, Machine, Reply, Value};
+use td_words::{Call, Code, LockName, Machine, Mode, Reply, Value};
 
 /// The machine of these benches.
 pub const MACHINE: Machine = Machine {
@@ -69,6 +69,12 @@ pub const PAGES: [Call; 2] = [
     },
 ];
 
+/// The first processor.
+pub const FIRST: Place = Place {
+    machine: MACHINE,
+    lp: 0,
+};
+
 /// The TD may run.
 pub const RUNS: [Call; 1] = [Call::MrFinalize { tdr: 1 }];
 
@@ -80,6 +86,15 @@ pub const LIVE: [Call; 2] = [
 
 /// A call's success without a value.
 pub const DONE: Reply = Reply::Done(Value::Nothing);
+
+/// The try of a lock that is granted.
+pub fn granted(lock: LockName, mode: Mode) -> Event {
+    Event::Try {
+        lock,
+        mode,
+        granted: true,
+    }
+}
 
 /// Secret words, each of them 0.
 pub fn no_secrets() -> [u64; 512]
@@ -107,11 +122,41 @@ pub fn make(rt: &impl Abort, alloc: Global, bench: &mut PlainBench, calls: &[Cal
     let first_lists = first_lists_of(rt, alloc, &[]);
     let secrets = no_secrets();
     let bundles = IncomingBundles::new(alloc);
-    let given = Given {
-        secrets: &secrets,
-        bundles: &bundles,
+    make_given(
+        rt,
+        alloc,
+        bench,
+        &first_lists,
+        &secrets,
+        &bundles,
+        calls,
+        reply,
+    );
+}
+
+// The same of a processor with these inputs.
+fn make_given<'a>(
+    rt: &impl Abort,
+    alloc: Global,
+    bench: &mut PlainBench,
+    first_lists: &'a FirstLists,
+    secrets: &'a [u64; 512],
+    bundles: &'a IncomingBundles,
+    calls: &'a [Call],
+    reply: Reply,
+)
+    requires machine { bench.old.machine ≡ MACHINE }
+    requires lists { AreFirstLists [] first_lists.now }
+    requires few { length calls.now < 2 ^ 32 }
+    ensures { bench.new.machine ≡ MACHINE }
+{
+    let given = Given { secrets, bundles };
+    let inputs = Inputs {
+        codes: &[],
+        first_lists,
+        given,
     };
-    let Ok(mut lp) = LpState::new(alloc, MACHINE, 0, &[], given, &first_lists, calls) else {
+    let Ok(mut lp) = LpState::new(alloc, FIRST, inputs, calls) else {
         panic!(rt; "out of memory")
     };
     while let Turn::Moved(_) = lp.turn(bench) {}

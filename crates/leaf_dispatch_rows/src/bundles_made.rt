@@ -3,9 +3,9 @@
 ghost use Rattle.std.specs.Prelude.{◌≡◌};
 ghost use Rattle.leaf_dispatch_rows.specs.declared.benches.TheConstants.{MACHINE};
 
-use crate::benches::{DONE, MACHINE, RUNS, TREE, first_lists_of, make, no_secrets};
+use crate::benches::{DONE, FIRST, MACHINE, RUNS, TREE, first_lists_of, make, no_secrets};
 use incoming::IncomingBundles;
-use leaf_dispatch::LpState;
+use leaf_dispatch::{Inputs, LpState};
 use leaf_engine::{Processor, Turn};
 use leaf_table::Given;
 use std::alloc::Global;
@@ -168,7 +168,16 @@ fn bundles_come_as_they_were_made(rt: HostRuntime) {
         secrets: &secrets,
         bundles: &bundles,
     };
-    let Ok(mut lp) = LpState::new(rt.alloc(), MACHINE, 0, &[], given, &first_lists, &CALLS) else {
+    let Ok(mut lp) = LpState::new(
+        rt.alloc(),
+        FIRST,
+        Inputs {
+            codes: &[],
+            first_lists: &first_lists,
+            given,
+        },
+        &CALLS,
+    ) else {
         panic!(rt; "out of memory")
     };
     while let Turn::Moved(_) = lp.turn(&mut bench) {}

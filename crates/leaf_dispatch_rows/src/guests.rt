@@ -7,10 +7,12 @@ ghost use Rattle.leaf_dispatch.specs.Inside.{AreOperations};
 ghost use Rattle.leaf_dispatch.specs.FirstLists.{AreFirstLists};
 ghost use Rattle.leaf_dispatch_rows.specs.declared.benches.TheConstants.{MACHINE};
 
-use crate::benches::{DONE, LIVE, MACHINE, RUNS, TREE, first_lists_of, make, no_secrets};
+use crate::benches::{
+    DONE, FIRST, LIVE, MACHINE, RUNS, TREE, first_lists_of, granted, make, no_secrets,
+};
 use incoming::IncomingBundles;
-use leaf_dispatch::{FirstLists, LpState};
-use leaf_engine::{Processor, Turn};
+use leaf_dispatch::{FirstLists, Inputs, LpState};
+use leaf_engine::{Event, Processor, Turn};
 use leaf_table::Given;
 use report_text::GuestNote;
 use std::alloc::{AllocError, Global};
@@ -18,7 +20,9 @@ use std::process::Abort;
 use std::test::Fail;
 use step_core::{Bench, PlainBench, WordStep};
 use td_words::places::{VP_POSITION, VP_REGISTERS};
-use td_words::{Access, Call, Code, GuestOp, LockName, Outcome, Reply, lock_address, word_address};
+use td_words::{
+    Access, Call, Code, GuestOp, LockName, Mode, Outcome, Reply, lock_address, word_address,
+};
 
 /// The first shared GPA.
 const SHARED: u64 = 1 << 47;
@@ -123,7 +127,16 @@ fn visit<'a>(
     ensures { bench.new.machine ≡ MACHINE }
 {
     bench.perform(WordStep::Store(word_address(4, VP_POSITION), 0));
-    let Ok(mut lp) = LpState::new(alloc, MACHINE, 0, codes, given, first_lists, &ENTER) else {
+    let Ok(mut lp) = LpState::new(
+        alloc,
+        FIRST,
+        Inputs {
+            codes,
+            first_lists,
+            given,
+        },
+        &ENTER,
+    ) else {
         panic!(rt; "out of memory")
     };
     let mut events: u64 = 0;
@@ -304,6 +317,54 @@ fn a_shared_access_reaches_pages_of_the_host_alone(rt: HostRuntime) -> Result<()
     let busy = Outcome::Busy(LockName::Page(20));
     assert_eq!(rt; lp.replies(), [Reply::Exited(busy)].as_slice());
     assert_eq!(rt; events, 2);
+    Ok(())
+}
+
+#[test]
+fn the_turns_of_a_guest_tell_what_they_were(rt: HostRuntime) -> Result<(), Fail> {
+    let mut bench = bench_with(&rt, rt.alloc(), 1);
+    let secrets = no_secrets();
+    let bundles = IncomingBundles::new(rt.alloc());
+    let given = Given {
+        secrets: &secrets,
+        bundles: &bundles,
+    };
+    let codes = codes_of([set(7), store(8), load(8)].to_vec(rt.alloc())?);
+    let first_lists = first_lists_of(&rt, rt.alloc(), &codes);
+    let inputs = Inputs {
+        codes: &codes,
+        first_lists: &first_lists,
+        given,
+    };
+    let Ok(mut lp) = LpState::new(rt.alloc(), FIRST, inputs, &ENTER) else {
+        panic!(rt; "out of memory")
+    };
+    // Behind the tries and the act of VP.ENTER, which gives E back: the register is set, an entry is loaded
+    // at each level, and the word is stored, and loaded. Then the guest is left, in the first epoch.
+    let word = Event::Word(word_address(8, 1));
+    let events = [
+        granted(LockName::Page(1), Mode::Shared),
+        granted(LockName::Op, Mode::Shared),
+        granted(LockName::Page(4), Mode::Exclusive),
+        granted(LockName::Epoch, Mode::Shared),
+        Event::Act,
+        Event::Free(LockName::Epoch),
+        Event::Act,
+        Event::Walk(3),
+        Event::Walk(2),
+        Event::Walk(1),
+        Event::Walk(0),
+        word,
+        word,
+        Event::Count(1),
+        Event::Free(LockName::Page(4)),
+        Event::Free(LockName::Op),
+        Event::Free(LockName::Page(1)),
+    ];
+    for event in events {
+        assert_eq!(rt; lp.turn(&mut bench), Turn::Moved(event));
+    }
+    assert_eq!(rt; lp.turn(&mut bench), Turn::Ended);
     Ok(())
 }
 

@@ -1,12 +1,15 @@
 //! Pages that are exported: their bundles, what refuses them, and the locks on the way.
 
-ghost use Rattle.std.specs.Prelude.{◌≡◌, ◌<◌, ◌^◌, length};
+ghost use Rattle.std.specs.Prelude.{◌≡◌, ◌<◌, ◌^◌, [], length};
+ghost use Rattle.leaf_dispatch.specs.FirstLists.{AreFirstLists};
 ghost use Rattle.leaf_dispatch_rows.specs.declared.benches.TheConstants.{MACHINE};
 
-use crate::benches::{DONE, MACHINE, PAGES, RUNS, TREE, first_lists_of, make, no_secrets};
+use crate::benches::{
+    DONE, FIRST, MACHINE, PAGES, RUNS, TREE, first_lists_of, granted, make, no_secrets,
+};
 use bundles::Bundle;
 use incoming::IncomingBundles;
-use leaf_dispatch::LpState;
+use leaf_dispatch::{FirstLists, Inputs, LpState};
 use leaf_engine::{Event, Processor, Turn};
 use leaf_table::Given;
 use std::alloc::Global;
@@ -153,11 +156,43 @@ fn make_all(
     let first_lists = first_lists_of(rt, alloc, &[]);
     let secrets = no_secrets();
     let bundles = IncomingBundles::new(alloc);
-    let given = Given {
-        secrets: &secrets,
-        bundles: &bundles,
+    make_given(
+        rt,
+        alloc,
+        bench,
+        &first_lists,
+        &secrets,
+        &bundles,
+        calls,
+        replies,
+        made,
+    );
+}
+
+// The same of a processor with these inputs.
+fn make_given<'a>(
+    rt: &impl Abort,
+    alloc: Global,
+    bench: &mut PlainBench,
+    first_lists: &'a FirstLists,
+    secrets: &'a [u64; 512],
+    bundles: &'a IncomingBundles,
+    calls: &'a [Call],
+    replies: &[Reply],
+    made: &[Made],
+)
+    requires machine { bench.old.machine ≡ MACHINE }
+    requires lists { AreFirstLists [] first_lists.now }
+    requires few { length calls.now < 2 ^ 32 }
+    ensures { bench.new.machine ≡ MACHINE }
+{
+    let given = Given { secrets, bundles };
+    let inputs = Inputs {
+        codes: &[],
+        first_lists,
+        given,
     };
-    let Ok(mut lp) = LpState::new(alloc, MACHINE, 0, &[], given, &first_lists, calls) else {
+    let Ok(mut lp) = LpState::new(alloc, FIRST, inputs, calls) else {
         panic!(rt; "out of memory")
     };
     while let Turn::Moved(_) = lp.turn(bench) {}
@@ -337,14 +372,6 @@ fn a_stream_has_a_last_bundle(rt: HostRuntime) {
     make_all(&rt, rt.alloc(), &mut bench, &calls, &replies, &made);
 }
 
-fn granted(lock: LockName, mode: Mode) -> Event {
-    Event::Try {
-        lock,
-        mode,
-        granted: true,
-    }
-}
-
 #[test]
 fn an_export_of_a_page_has_thirteen_events(rt: HostRuntime) {
     let mut bench = bench_with_pages(&rt, rt.alloc());
@@ -357,7 +384,16 @@ fn an_export_of_a_page_has_thirteen_events(rt: HostRuntime) {
         secrets: &secrets,
         bundles: &bundles,
     };
-    let Ok(mut lp) = LpState::new(rt.alloc(), MACHINE, 0, &[], given, &first_lists, &calls) else {
+    let Ok(mut lp) = LpState::new(
+        rt.alloc(),
+        FIRST,
+        Inputs {
+            codes: &[],
+            first_lists: &first_lists,
+            given,
+        },
+        &calls,
+    ) else {
         panic!(rt; "out of memory")
     };
     let events = [
@@ -376,8 +412,11 @@ fn an_export_of_a_page_has_thirteen_events(rt: HostRuntime) {
         Event::Free(LockName::Page(1)),
     ];
     for event in events {
+        // Its bundle is out with the last one, and not at the act.
+        assert_eq!(rt; lp.bundles().len(), 0);
         assert_eq!(rt; lp.turn(&mut bench), Turn::Moved(event));
     }
+    assert_eq!(rt; lp.bundles().len(), 1);
     assert_eq!(rt; lp.replies(), [DONE].as_slice());
     assert_eq!(rt; lp.turn(&mut bench), Turn::Ended);
 }

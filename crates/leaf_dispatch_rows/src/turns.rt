@@ -1,10 +1,15 @@
 //! What the turns of processors are, event by event, where nothing else is looked at.
 
+ghost use Rattle.std.specs.Prelude.{◌≡◌};
+ghost use Rattle.leaf_dispatch_rows.specs.declared.turns.TheConstants.{MACHINE};
+
 use crate::benches::{first_lists_of, no_secrets};
 use incoming::IncomingBundles;
-use leaf_dispatch::LpState;
-use leaf_engine::{Event, Processor, Turn};
+use leaf_dispatch::{Inputs, LpState};
+use leaf_engine::{Event, Place, Processor, Turn};
 use leaf_table::Given;
+use std::alloc::Global;
+use std::process::Abort;
 use step_core::PlainBench;
 use td_words::{Call, LockName, Machine, Mode, PageKind, Reply, Status, Value};
 
@@ -12,6 +17,16 @@ const MACHINE: Machine = Machine {
     lps: 2,
     pages: 8,
     hkids: 1,
+};
+
+const FIRST: Place = Place {
+    machine: MACHINE,
+    lp: 0,
+};
+
+const SECOND: Place = Place {
+    machine: MACHINE,
+    lp: 1,
 };
 
 const CREATE: Call = Call::MngCreate { tdr: 1, hkid: 1 };
@@ -31,7 +46,16 @@ fn a_creation_has_five_events(rt: HostRuntime) {
         secrets: &secrets,
         bundles: &bundles,
     };
-    let Ok(mut lp) = LpState::new(rt.alloc(), MACHINE, 0, &[], given, &first_lists, &calls) else {
+    let Ok(mut lp) = LpState::new(
+        rt.alloc(),
+        FIRST,
+        Inputs {
+            codes: &[],
+            first_lists: &first_lists,
+            given,
+        },
+        &calls,
+    ) else {
         panic!(rt; "out of memory")
     };
     let page = LockName::Page(1);
@@ -84,7 +108,16 @@ fn each_call_is_made_by_its_leaf(rt: HostRuntime) {
         secrets: &secrets,
         bundles: &bundles,
     };
-    let Ok(mut lp) = LpState::new(rt.alloc(), MACHINE, 1, &[], given, &first_lists, &calls) else {
+    let Ok(mut lp) = LpState::new(
+        rt.alloc(),
+        SECOND,
+        Inputs {
+            codes: &[],
+            first_lists: &first_lists,
+            given,
+        },
+        &calls,
+    ) else {
         panic!(rt; "out of memory")
     };
     while let Turn::Moved(_) = lp.turn(&mut bench) {}
@@ -120,12 +153,35 @@ fn a_lock_that_another_holds_is_busy(rt: HostRuntime) {
         secrets: &secrets,
         bundles: &bundles,
     };
-    let Ok(mut first) = LpState::new(rt.alloc(), MACHINE, 0, &[], given, &first_lists, &creation)
-    else {
+    meet(
+        &rt,
+        rt.alloc(),
+        &mut bench,
+        Inputs {
+            codes: &[],
+            first_lists: &first_lists,
+            given,
+        },
+        &creation,
+        &read,
+    );
+}
+
+// The first processor holds the page's lock, so that the second is denied it.
+fn meet<'a>(
+    rt: &impl Abort,
+    alloc: Global,
+    bench: &mut PlainBench,
+    inputs: Inputs<'a>,
+    creation: &'a [Call; 1],
+    read: &'a [Call; 1],
+)
+    requires { bench.old.machine ≡ MACHINE }
+{
+    let Ok(mut first) = LpState::new(alloc, FIRST, inputs, creation) else {
         panic!(rt; "out of memory")
     };
-    let Ok(mut second) = LpState::new(rt.alloc(), MACHINE, 1, &[], given, &first_lists, &read)
-    else {
+    let Ok(mut second) = LpState::new(alloc, SECOND, inputs, read) else {
         panic!(rt; "out of memory")
     };
     let lock = LockName::Page(1);
@@ -134,9 +190,9 @@ fn a_lock_that_another_holds_is_busy(rt: HostRuntime) {
         mode: Mode::Shared,
         granted: false,
     };
-    first.turn(&mut bench);
-    assert_eq!(rt; second.turn(&mut bench), Turn::Moved(denied));
-    assert_eq!(rt; second.turn(&mut bench), Turn::Moved(Event::Undo(lock)));
+    first.turn(bench);
+    assert_eq!(rt; second.turn(bench), Turn::Moved(denied));
+    assert_eq!(rt; second.turn(bench), Turn::Moved(Event::Undo(lock)));
     let busy = Reply::Refused(Status::OperandBusy(lock));
     assert_eq!(rt; second.replies(), [busy].as_slice());
     assert!(rt; first.replies().is_empty());

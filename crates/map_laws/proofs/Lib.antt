@@ -1,2 +1,4 @@
 pub mod Held
 pub mod Follow
+pub mod Leaves
+pub mod Tracked

@@ -1,2 +1,4 @@
 pub mod SeptMaps
 pub mod Laws
+pub mod Leaves
+pub mod Epochs

@@ -1,6 +1,7 @@
-//! The law of maps, as a contract of a function that does nothing.
+//! The laws of maps and of walks, as contracts of functions that do nothing.
 
 ghost use Rattle.map_laws.specs.Laws.{RootsAreNamed, MapsAreHeld, WalksFollow, WalksFollowMerges};
+ghost use Rattle.map_laws.specs.Leaves.{LeavesWalk};
 
 use merge_laws::merge_law;
 use sept_walk::{walks_find, walks_meet_maps};
@@ -22,3 +23,9 @@ pub fn maps_are_held()
     walks_find();
     walks_meet_maps();
 }
+
+/// The calls that look for an entry walk as a `Walk` does: whatever words there are, they go on with the page
+/// where it stands once it has found its entry, or are refused with the level at which it fails.
+pub fn leaves_walk()
+    ensures { LeavesWalk }
+{}

@@ -33,8 +33,9 @@ use Rattle.mig_laws.specs.Ivs.{is_filling, IsImporting}
 use Rattle.mig_laws.specs.Source.{is_page_at, known_words}
 use Rattle.mig_laws.specs.WellMade.{is_of, is_token, AreWellMade}
 use Rattle.mig_laws.specs.Imported.{is_imported, last_imported, one_more, counted_on, AreImported, IsNext, TokenFits, AreAllBefore, LatestIsLast}
-use Rattle.mig_laws.specs.Image.{Unforged, StartsFromPause, IsSource}
-use Rattle.mig_laws.specs.Imports.{counts_of, given_words, IsVpGiven, HasState, IsComplete, begins_epoch, ImportHolds, DestinationHolds}
+use Rattle.mig_laws.specs.States.{in_32_bits}
+use Rattle.mig_laws.specs.Image.{IsComplete, Unforged, StartsAs, IsSource}
+use Rattle.mig_laws.specs.Imports.{counts_of, given_words, IsVpGiven, HasState, begins_epoch, ImportHolds, DestinationHolds}
 use Rattle.mig_laws.proofs.Places.{by_places, last_none}
 use Rattle.mig_laws.proofs.Joined.{token-brings-all, not_imported}
 use Rattle.mig_laws.proofs.Latest.{imports-stay-in-order, imports-keep-last}
@@ -523,7 +524,7 @@ module _ (source : World) (o : Opening) (src : IsSource source) (unforged : Unfo
       let alive = alive_of w t ps.1.0 ps.1.1.0 in
       let ops = commit_fills (w.tds.ops t) ps.1.1.1.1.0 in
       let own = h.imports t (record { alive = alive; standing = ops.0 }) in
-      let from = starts_from_pause source w t src own (own.complete ops.1) in
+      let from = starts_from_pause source w t src (let low = l.sessions.mig_epoch t in omega (arith, low)) own (own.complete ops.1) in
       let v : World = set_op t op.LiveImport (note_commit t w) in
       let rests = quiet w (set_op t op.LiveImport w) t (λ a. let no : false ≡ true = rw self at a.standing in cc) (λ a e. absurd (let no : op.LiveImport ≡ op.Uninitialized = rw self at e in cc)) refl
       (λ x y a. record { kind = a.kind; life = a.life }) (λ x y. rw y refl) (λ x n y. refl) refl (λ q. refl) in
@@ -533,7 +534,7 @@ module _ (source : World) (o : Opening) (src : IsSource source) (unforged : Unfo
         empty = λ x a e n. before.empty x (record { kind = a.kind; life = a.life }) e n;
         given = λ s start e. by_test (s == w.tds.sessions t)
             (λ y. (let same : image_of w t ≡ start = same_start (image_of w t) start (rw y at e) in
-            subst (λ (z : ℕ). StartsFromPause source z start) (sym (eqb-true s _ y)) (subst (λ (z : Image). StartsFromPause source (w.tds.sessions t) z) same from)))
+            subst (λ (z : ℕ). StartsAs in_32_bits source z start) (sym (eqb-true s _ y)) (subst (λ (z : Image). StartsAs in_32_bits source (w.tds.sessions t) z) same from)))
             (λ y. h.given s start (rw y at e));
       }
     where

@@ -26,3 +26,5 @@ pub mod Given
 pub mod ImportsKeep
 pub mod Started
 pub mod Destination
+pub mod Grows
+pub mod Hosts

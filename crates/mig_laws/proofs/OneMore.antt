@@ -23,8 +23,8 @@ use Rattle.mig_laws.specs.Ivs.{is_filling}
 use Rattle.mig_laws.specs.Source.{known_words}
 use Rattle.mig_laws.specs.WellMade.{is_of, is_token, IsBehind, AreWellMade}
 use Rattle.mig_laws.specs.Imported.{is_imported, last_imported, one_more, counted_on, AreImported, IsNext}
-use Rattle.mig_laws.specs.Image.{IsMade, Unforged}
-use Rattle.mig_laws.specs.Imports.{counts_of, given_words, HasState, IsComplete, begins_epoch, ImportHolds}
+use Rattle.mig_laws.specs.Image.{IsComplete, IsMade, Unforged}
+use Rattle.mig_laws.specs.Imports.{counts_of, given_words, HasState, begins_epoch, ImportHolds}
 use Rattle.mig_laws.proofs.Places.{by_places, at_place}
 use Rattle.mig_laws.proofs.Joined.{IsPlaced, imported_of, not_imported, own_place, next_counter, behind_own}
 use Rattle.mig_laws.proofs.Latest.{imports-stay-in-order}

@@ -16,7 +16,8 @@ use Rattle.mig_laws.specs.Ivs.{is_filling, IsImporting}
 use Rattle.mig_laws.specs.Source.{known_words}
 use Rattle.mig_laws.specs.WellMade.{is_of}
 use Rattle.mig_laws.specs.Imported.{is_imported, last_imported, AreImported}
-use Rattle.mig_laws.specs.Imports.{counts_of, given_words, IsVpGiven, HasState, IsComplete, begins_epoch, ImportHolds, DestinationHolds}
+use Rattle.mig_laws.specs.Image.{IsComplete}
+use Rattle.mig_laws.specs.Imports.{counts_of, given_words, IsVpGiven, HasState, begins_epoch, ImportHolds, DestinationHolds}
 
 -- what is said of one TD besides its virtual processors and its guest's memory
 pub record Filled : Type 0 where

@@ -77,7 +77,7 @@ one_each a b f g key same =
     let iv : a.header.iv ≡ b.header.iv = omega (arith, sa, sb, na, nb, same) in
     λ j. record { forward = key j; stream = stream j; session = session j; iv = iv j }
 
-own_ivs : (bundles : List Made) → AreSealedOnce bundles → HaveOwnIvs bundles
+pub own_ivs : (bundles : List Made) → AreSealedOnce bundles → HaveOwnIvs bundles
 own_ivs bundles h i j d less within key same =
     h.apart i j d less within (one_each (get_or bundles i d) (get_or bundles j d) (h.fit i d (omega (arith, less, within))) (h.fit j d within) key same)
 

@@ -1,13 +1,12 @@
 -- Behind a start token nothing of its session comes, and every state was exported before it: what keeps it, event by event.
-use Rattle.std.proofs.Common.{◌≡◌, refl, sym, ◌∙◌, ap, subst, ℕ, zero, suc, ◌+◌, ◌-◌, ◌%◌, ◌^◌, ◌<◌, ◌≤◌, List, [], ◌∷◌, ◌++◌, length, Option, Some, None, Bool, true, false, not, cond, ◌==◌, ◌||◌, get_or, append_assoc, arith}
+use Rattle.std.proofs.Common.{◌≡◌, refl, sym, ◌∙◌, ap, subst, ℕ, zero, suc, ◌+◌, ◌-◌, ◌%◌, ◌^◌, ◌<◌, ◌≤◌, List, [], ◌∷◌, ◌++◌, length, Option, Some, None, Bool, true, false, not, cond, ◌==◌, get_or, append_assoc, slice_get, arith}
 use Rattle.std.specs.List.{All, list_any, count_by}
-use Rattle.std.proofs.lemmas.Bool.{eqb-true, eq-eqb, and_parts, and_left, and_right, not-true}
+use Rattle.std.proofs.lemmas.Bool.{eqb-true, eqb-false, eq-eqb, ne_eqb, and_parts, and_left, and_right, not-true}
 use Rattle.std.proofs.lemmas.List.{length-map}
-use Rattle.std.proofs.lemmas.List.Elements.{All-nil, All-push}
-use Rattle.std.proofs.lemmas.List.Folds.{list_any-append, list_any_at}
+use Rattle.std.proofs.lemmas.List.Elements.{All-nil, All-push, All-weaker}
+use Rattle.std.proofs.lemmas.List.Folds.{list_any_at}
 use Rattle.std.proofs.lemmas.List.Sums.{sum_by-cons}
 use Rattle.std.proofs.lemmas.Option.{slice_get-get_or}
-use Rattle.std.proofs.Math.Nat.{mod-le}
 use Rattle.td_words.specs.declared.names.Access.{Access}
 use Rattle.td_words.specs.declared.names.Access.TheVariants.{Read, Write}
 use Rattle.td_words.specs.declared.calls.GuestOp.{GuestOp}
@@ -17,6 +16,7 @@ use Rattle.td_words.specs.declared.calls.Call.{Call}
 use Rattle.td_words.specs.declared.calls.Call.TheVariants as call
 use Rattle.td_words.specs.Slots.{output_slot}
 use Rattle.flat_core.specs.World.{World, Hidden, Image, Made, put}
+use Rattle.flat_core.specs.Locks.{one_if}
 use Rattle.flat_core.specs.Opening.{Opening, Incoming}
 use Rattle.flat_core.specs.Row.{OperationRow, Passes}
 use Rattle.flat_core.specs.Effects.{set_op, begin_memory, pass_operation, tell_words, add_bundle}
@@ -25,13 +25,13 @@ use Rattle.flat_core.proofs.Operations.{operation_row, accepted}
 use Rattle.flat_core.specs.Conditions.{same_kind}
 use Rattle.flat_core.specs.Tree.{page_of_gpa, entry_at}
 use Rattle.flat_core.specs.Translations.{look_up}
-use Rattle.flat_core.specs.Sessions.{missing_states, count_bundle}
+use Rattle.flat_core.specs.Sessions.{About, about, header_of, payload_words, note_td_export, note_vp_export, missing_states, count_bundle}
 use Rattle.flat_core.specs.Inputs.{Input, input_in}
 use Rattle.flat_core.specs.ExportRows.{vp_image, image_of}
 use Rattle.flat_core.specs.Table.{row_of}
 use Rattle.flat_core.specs.Lawful.{IsAlive, Lawful, is_exporting, all_differ}
 use Rattle.flat_core.specs.Event.{State, start, event}
-use Rattle.flat_core.specs.Laws.{with_bundles, reached, ArePagesKnown}
+use Rattle.flat_core.specs.Laws.{with_bundles, reached}
 use Rattle.flat_core.specs.AccessLaw.{IsGuarded}
 use Rattle.flat_core.proofs.Tests.{by_test, host_kind, same_self}
 use Rattle.flat_core.proofs.Acts.{event_world}
@@ -39,23 +39,23 @@ use Rattle.flat_core.proofs.Induction.{in_runs}
 use Rattle.flat_core.proofs.Ranges.{live_exporting, paused_exporting, abortable_exporting}
 use Rattle.flat_core.proofs.Streams.{page_among}
 use Rattle.flat_bundles.proofs.Fills.{fill_either}
-use Rattle.mig_laws.specs.Ivs.{IsExporting}
+use Rattle.mig_laws.specs.Ivs.{is_forward, IsExporting}
 use Rattle.mig_laws.specs.Source.{SourceHolds, last_payload, is_page_at}
 use Rattle.mig_laws.specs.Paused.{is_start, has_start, image_words, PausesHold, IsSentAsPaused}
 use Rattle.mig_laws.specs.WellMade.{is_of}
-use Rattle.mig_laws.specs.States.{StatesHold, IsStateOf}
+use Rattle.mig_laws.specs.States.{StatesHold, IsStateOf, in_32_bits}
 use Rattle.mig_laws.specs.Image.{IsStarted}
-use Rattle.mig_laws.specs.Started.{is_td_state, is_vp_state, IsWhole, AreNoted, StartsHold, StartsAreKept, EveryRunIsASource}
+use Rattle.mig_laws.specs.Started.{is_td_state, is_vp_state, IsWhole, AreNoted, StartsHold, StartsIn, StartsAreKept, MayExport, SourcesAreStarted, EveryRunIsASource, unsent_states, MissingAreUnsent}
 use Rattle.mig_laws.proofs.Stays.{IsBeside}
 use Rattle.mig_laws.proofs.Rows.{over_beside, row-beside, never_exporting, taken_back}
-use Rattle.mig_laws.proofs.Ivs.{alive_of, back_token}
-use Rattle.mig_laws.proofs.Places.{by_places, at_place, IsPlaceOf, within, last, place_of_more, last-append, last_none}
+use Rattle.mig_laws.proofs.Ivs.{IsGiven, alive_of, back_token}
+use Rattle.mig_laws.proofs.Places.{by_places, at_place, IsPlaceOf, within, last, place_of_more, count-append, count_yes, count_no, count_none, last-append, last_none}
 use Rattle.mig_laws.proofs.Joined.{page_of_session}
 use Rattle.mig_laws.proofs.Calm.{row-calm}
 use Rattle.mig_laws.proofs.Guests.{operation_beside, left_beside, reached_beside, never_stored}
 use Rattle.mig_laws.proofs.Paused.{no_start_yet, not_post, only_live, abortable_stands, is_pausing}
-use Rattle.mig_laws.proofs.States.{states_kept, paused_stands, is_vp_kind}
-use Rattle.mig_laws.proofs.WellRuns.{every_list}
+use Rattle.mig_laws.proofs.States.{states_kept, never_of, paused_stands, place_in, is_vp_kind}
+use Rattle.mig_laws.proofs.WellRuns.{well_kept}
 use Rattle.mig_laws.proofs.OneMore.{any_at}
 use Rattle.mig_laws.proofs.RestRows.{apart_pages}
 
@@ -82,21 +82,49 @@ count_alike f g (p ∷ ps) h =
     let rest = count_alike f g ps (λ q e. h q (by_test (p == q) (λ y. rw y refl) (λ y. rw y e))) in
     omega (arith, here, rest, sum_by-cons (λ y. cond (f y) 1 0) p ps, sum_by-cons (λ y. cond (g y) 1 0) p ps)
 
+-- of a session so many bundles have states as before
+record HasStates (s : ℕ) (before after : List Made) : Type 0 where
+  td : count_by (is_td_state s) after ≡ count_by (is_td_state s) before
+  vp : (i : ℕ) → count_by (is_vp_state s i) after ≡ count_by (is_vp_state s i) before
+
+one_end : (f : Made → Bool) (bs : List Made) (new : Made) → f new ≡ false → count_by f (bs ++ new ∷ []) ≡ count_by f bs
+one_end f bs new off = (let all = count-append f bs (new ∷ []) in let none = count_no f new [] off in omega (arith, all, none))
+
+more_end : (f : Made → Bool) (bs : List Made) (new : Made) → f new ≡ true → count_by f (bs ++ new ∷ []) ≡ count_by f bs + 1
+more_end f bs new on = (let all = count-append f bs (new ∷ []) in let one = count_yes f new [] on in omega (arith, all, one))
+
+same_states : (s : ℕ) (before after : List Made) → after ≡ before → HasStates s before after
+same_states s before after e = record { td = ap (count_by (is_td_state s)) e; vp = λ i. ap (count_by (is_vp_state s i)) e }
+
+-- a bundle of no state, or of another session
+no_states : (s : ℕ) (bs : List Made) (new : Made) → (new.header.kind == 1) ≡ false → (new.header.kind == 2) ≡ false → HasStates s bs (bs ++ new ∷ [])
+no_states s bs new one two = record {
+  td = one_end (is_td_state s) bs new (and_right (is_of s new) (new.header.kind == 1) one);
+  vp = λ i. one_end (is_vp_state s i) bs new (and_right (is_of s new) _ (and_left (new.header.kind == 2) _ two));
+}
+
+other_states : (s : ℕ) (bs : List Made) (new : Made) → is_of s new ≡ false → HasStates s bs (bs ++ new ∷ [])
+other_states s bs new off = record {
+  td = one_end (is_td_state s) bs new (and_left (is_of s new) _ off);
+  vp = λ i. one_end (is_vp_state s i) bs new (and_left (is_of s new) _ off);
+}
+
 -- what is noted stays, where it has its bundles still
 noted_stays : (w v : World) (x : ℕ) → v.tds.sessions x ≡ w.tds.sessions x → notes v x ≡ notes w x → ((p : ℕ) → list_any (λ q. q == p) (w.tds.vps x) ≡ true → vp_note v p ≡ vp_note w p)
-    → ((f : Made → Bool) → list_any f w.outgoing.bundles ≡ true → list_any f v.outgoing.bundles ≡ true) → AreNoted w x → AreNoted v x
-noted_stays w v x session same vp more h = record {
-  td = λ n. subst (λ (s : ℕ). list_any (is_td_state s) v.outgoing.bundles ≡ true) (sym session) (more (is_td_state (w.tds.sessions x)) (h.td (λ e. n (ap (λ (z : Notes). z.td) same ∙ e))));
-  many = subst (λ (s : ℕ). v.tds.vps_exported x ≤ count_by (λ p. v.vps.exported p == s) (v.tds.vps x)) (sym session)
-      (subst (λ (z : Notes). z.many ≤ count_by (λ p. v.vps.exported p == w.tds.sessions x) z.vps) (sym same)
+    → HasStates (w.tds.sessions x) w.outgoing.bundles v.outgoing.bundles → AreNoted w x → AreNoted v x
+noted_stays w v x session same vp states h = record {
+  once = (let td = ap (λ (z : Notes). z.td) same in let few = h.once in omega (arith, td, few));
+  td = ap (λ (z : Notes). z.td) same ∙ (h.td ∙ (sym states.td ∙ ap (λ (s : ℕ). count_by (is_td_state s) v.outgoing.bundles) (sym session)));
+  many = subst (λ (s : ℕ). v.tds.vps_exported x ≡ count_by (λ p. v.vps.exported p == s) (v.tds.vps x)) (sym session)
+      (subst (λ (z : Notes). z.many ≡ count_by (λ p. v.vps.exported p == w.tds.sessions x) z.vps) (sym same)
       (let alike = count_alike (λ p. v.vps.exported p == w.tds.sessions x) (λ p. w.vps.exported p == w.tds.sessions x) (w.tds.vps x) (λ p e. ap (λ (z : VpNote). z.exported == w.tds.sessions x) (vp p e)) in
       let few = h.many in omega (arith, alike, few)));
-  vp = λ p e f.
+  vp = λ p e.
       let here : list_any (λ q. q == p) (w.tds.vps x) ≡ true = subst (λ (z : Notes). list_any (λ q. q == p) z.vps ≡ true) same e in
       let note = vp p here in
-      let old = h.vp p here (ap (λ (z : VpNote). z.exported) (sym note) ∙ (f ∙ session)) in
-      subst (λ (s : ℕ). list_any (is_vp_state s (v.vps.indexes p)) v.outgoing.bundles ≡ true) (sym session)
-      (subst (λ (z : VpNote). list_any (is_vp_state (w.tds.sessions x) z.index) v.outgoing.bundles ≡ true) (sym note) (more (is_vp_state (w.tds.sessions x) (w.vps.indexes p)) old));
+      let old = h.vp p here ∙ sym (states.vp (w.vps.indexes p)) in
+      subst (λ (s : ℕ). one_if (v.vps.exported p == s) ≡ count_by (is_vp_state s (v.vps.indexes p)) v.outgoing.bundles) (sym session)
+      (subst (λ (z : VpNote). one_if (z.exported == w.tds.sessions x) ≡ count_by (is_vp_state (w.tds.sessions x) z.index) v.outgoing.bundles) (sym note) old);
 }
 
 -- of a TD whose export stands afterwards, where no bundle is made
@@ -112,7 +140,7 @@ starts_stay : (w v : World) → IsBeside w v → v.hidden.paused ≡ w.hidden.pa
 starts_stay w v b paused k h = record {
   given = λ p. (let low = k.low p in let old = h.given p in let last = b.last in omega (arith, low, old, last));
   noted = λ x a. (let s = (b.each x a).session in
-      noted_stays w v x s.session (k.each x a) (k.vp x a) (λ f e. subst (λ (bs : List Made). list_any f bs ≡ true) (sym b.bundles) e) (h.noted x s.exporting));
+      noted_stays w v x s.session (k.each x a) (k.vp x a) (same_states (w.tds.sessions x) w.outgoing.bundles v.outgoing.bundles b.bundles) (h.noted x s.exporting));
   started = λ s before after y place start. whole_stays w v s before after (ap (λ (f : ℕ → Option Image). f s) paused) (h.started s before after y (sym b.bundles ∙ place) start);
 }
 
@@ -120,16 +148,6 @@ starts_stay w v b paused k h = record {
 drop_front : (before xs ys : List Made) (b : Made) → before ++ b ∷ xs ≡ before ++ b ∷ ys → xs ≡ ys
 drop_front [] xs ys b e = cc
 drop_front (c ∷ before) xs ys b e = drop_front before xs ys b (let same : before ++ b ∷ xs ≡ before ++ b ∷ ys = cc in same)
-
-some_more : (f : Made → Bool) (bs : List Made) (new : Made) → list_any f bs ≡ true → list_any f (bs ++ new ∷ []) ≡ true
-some_more f bs new e = list_any-append f bs (new ∷ []) ∙ rw e refl
-
-some_last : (f : Made → Bool) (bs : List Made) (new : Made) → f new ≡ true → list_any f (bs ++ new ∷ []) ≡ true
-some_last f bs new e = list_any-append f bs (new ∷ []) ∙ rw e (or_true (list_any f bs))
-  where
-    or_true : (a : Bool) → (a || true) ≡ true
-    or_true true = refl
-    or_true false = refl
 
 off_session : (bundles : List Made) (new : Made) → has_start new.header.session bundles ≡ false → (s : ℕ) → has_start s bundles ≡ true → is_of s new ≡ false
 off_session bundles new over s some = and_right _ (new.header.session == s) (by_test (new.header.session == s)
@@ -165,7 +183,7 @@ module _ (w v : World) (new : Made) (more : v.outgoing.bundles ≡ w.outgoing.bu
 starts_back : (w : World) (token : Made) → token.header.kind ≡ 6 → StartsHold w → StartsHold (add_bundle token w)
 starts_back w token six h = record {
   given = h.given;
-  noted = λ x a. noted_stays w (add_bundle token w) x refl refl (λ p e. refl) (λ f e. some_more f w.outgoing.bundles token e) (h.noted x (record { alive = a.alive; standing = a.standing }));
+  noted = λ x a. noted_stays w (add_bundle token w) x refl refl (λ p e. refl) (no_states (w.tds.sessions x) w.outgoing.bundles token (rw six refl) (rw six refl)) (h.noted x (record { alive = a.alive; standing = a.standing }));
   started = started_more w (add_bundle token w) token refl refl (λ s e. rw six refl) (λ s e. absurd (let no : false ≡ true = rw six at e in cc)) h;
 }
 
@@ -229,6 +247,25 @@ most_count f (p ∷ ps) = by_test (f p)
     (λ y. let here = sum_by-cons (λ z. cond (f z) 1 0) p ps in let one : counted (f p) ≡ 1 = rw y refl in omega (arith, here, one, most_count f ps))
     (λ y. let here = sum_by-cons (λ z. cond (f z) 1 0) p ps in let no : counted (f p) ≡ 0 = rw y refl in omega (arith, here, no, most_count f ps))
 
+none_noted : (f : ℕ → ℕ) (s : ℕ) (ps : List ℕ) → ((p : ℕ) → (f p == s) ≡ false) → count_by (λ p. f p == s) ps ≡ 0
+none_noted f s [] off = refl
+none_noted f s (p ∷ ps) off =
+    let here = sum_by-cons (λ z. cond (f z == s) 1 0) p ps in
+    let no : counted (f p == s) ≡ 0 = (let none = off p in rw none refl) in omega (arith, here, no, none_noted f s ps off)
+
+-- what is counted is there; and what isn't there isn't counted
+any_counted : (f : Made → Bool) (bs : List Made) → 1 ≤ count_by f bs → list_any f bs ≡ true
+any_counted f [] le = absurd (omega (arith, le))
+any_counted f (b ∷ bs) le = by_test (f b) (λ y. rw y refl) (λ y. rw y (any_counted f bs (let none = count_no f b bs y in omega (arith, le, none))))
+
+any_noted : (f : Made → Bool) (noted : Bool) (bs : List Made) → one_if noted ≡ count_by f bs → list_any f bs ≡ noted
+any_noted f true bs e = any_counted f bs (omega (arith, e))
+any_noted f false bs e = by_test (list_any f bs) (λ y. absurd (let some = counted_any f bs y in omega (arith, e, some))) (λ y. y)
+  where
+    counted_any : (f : Made → Bool) (bs : List Made) → list_any f bs ≡ true → 1 ≤ count_by f bs
+    counted_any f [] h = cc
+    counted_any f (b ∷ bs) h = by_test (f b) (λ y. (let some = count_yes f b bs y in omega (arith, some))) (λ y. (let rest = counted_any f bs (rw y at h) in let none = count_no f b bs y in omega (arith, rest, none)))
+
 full_count : (f : ℕ → Bool) (ps : List ℕ) → length ps ≤ count_by f ps → (p : ℕ) → list_any (λ q. q == p) ps ≡ true → f p ≡ true
 full_count f [] le p e = cc
 full_count f (q ∷ ps) le p e = by_test (f q)
@@ -270,19 +307,45 @@ module _ (o : Opening) (me : ℕ) (w : World) (l : Lawful o.machine w) (src : So
     started = started_more w v new more (ap (λ (z : Hidden). z.paused) hidden) (off_session w.outgoing.bundles new over) starts h;
   }
 
+  -- no two exports that stand have one session, and no two virtual processors of a TD one index
+  other_session : (t x : ℕ) (new : Made) → IsExporting w t → IsExporting w x → (x == t) ≡ false → new.header.session ≡ w.tds.sessions t → is_of (w.tds.sessions x) new ≡ false
+  other_session t x new a b y own = and_right (is_forward new) (new.header.session == w.tds.sessions x)
+      (ne_eqb new.header.session (w.tds.sessions x) (λ e. (let same : t ≡ x = src.ivs.one t x a b (sym own ∙ e) in let no : true ≡ false = sym (eq-eqb x t (sym same)) ∙ y in cc)))
+
+  other_index : (t p q : ℕ) → IsAlive w.pages w.tds t → list_any (λ r. r == p) (w.tds.vps t) ≡ true → list_any (λ r. r == q) (w.tds.vps t) ≡ true → (q == p) ≡ false → (w.vps.indexes p == w.vps.indexes q) ≡ false
+  other_index t p q alive here there y =
+      let i = place_in (w.tds.vps t) p here in
+      let j = place_in (w.tds.vps t) q there in
+      ne_eqb (w.vps.indexes p) (w.vps.indexes q) (λ e.
+      (let at : i.0 ≡ j.0 = sym (l.lists.index t i.0 p alive i.1) ∙ (e ∙ l.lists.index t j.0 q alive j.1) in
+      let same : Some p ≡ Some q = sym i.1 ∙ (ap (slice_get (w.tds.vps t)) at ∙ j.1) in
+      let is : q ≡ p = cc in let no : true ≡ false = sym (eq-eqb q p is) ∙ y in cc))
+
   immutable_starts : (t slot : ℕ) → Passes ((row_of o me (call.ExportStateImmutable t slot)).items w) → StartsHold (Then (call.ExportStateImmutable t slot))
   immutable_starts t slot ps =
       let v : World = Then (call.ExportStateImmutable t slot) in
       let self = same_self t in
       one_more_starts v _ refl refl (rw self (no_start_yet w src.ivs)) (λ s e. cc) (λ p. let low = h.given p in omega (arith, low))
       (λ x a. by_test (x == t)
-      (λ y. record {
-        td = λ n. absurd (n (rw y refl));
-        many = rw y (omega arith);
-        vp = λ p e f. absurd (let now : w.vps.exported p ≡ w.key_table.last_exported + 1 = rw y at f in let low = h.given p in omega (arith, now, low));
-      })
-      (λ y. noted_stays w v x (rw y refl) (rw y refl) (λ p e. refl) (λ f e. some_more f w.outgoing.bundles _ e)
-      (h.noted x (record { alive = record { kind = a.alive.kind; life = a.alive.life }; standing = rw y at a.standing }))))
+      (λ y. (let new : ℕ = w.key_table.last_exported + 1 in
+      let session : v.tds.sessions x ≡ new = rw y refl in
+      let kinds : HasStates new w.outgoing.bundles v.outgoing.bundles = no_states new w.outgoing.bundles _ refl refl in
+      let never : (p : ℕ) → (w.vps.exported p == new) ≡ false = λ p. (let low = h.given p in ne_eqb (w.vps.exported p) new (omega (arith, low))) in
+      let none : (f : Made → Bool) → ((b : Made) → is_of new b ≡ false → f b ≡ false) → count_by f w.outgoing.bundles ≡ 0
+      = λ f off. count_none f w.outgoing.bundles (All-weaker (IsGiven w) (λ b. f b ≡ false) (λ b le. off b (never_of w b le)) w.outgoing.bundles src.ivs.given) in
+      record {
+        once = rw y (omega arith);
+        td = subst (λ (z : ℕ). v.tds.td_exported x ≡ count_by (is_td_state z) v.outgoing.bundles) (sym session)
+            (rw y (sym (kinds.td ∙ none (is_td_state new) (λ b e. and_left (is_of new b) _ e))));
+        vp = λ p e. subst (λ (z : ℕ). one_if (w.vps.exported p == z) ≡ count_by (is_vp_state z (w.vps.indexes p)) v.outgoing.bundles) (sym session)
+            (let off = never p in rw off (sym (kinds.vp (w.vps.indexes p) ∙ none (is_vp_state new (w.vps.indexes p)) (λ b e. and_left (is_of new b) _ e))));
+        many = subst (λ (z : ℕ). v.tds.vps_exported x ≡ count_by (λ p. w.vps.exported p == z) (w.tds.vps x)) (sym session)
+            (rw y (sym (none_noted w.vps.exported new (w.tds.vps x) never)));
+      }))
+      (λ y. (let exporting : IsExporting w x = record { alive = record { kind = a.alive.kind; life = a.alive.life }; standing = rw y at a.standing } in
+      let low = src.ivs.session x exporting in
+      noted_stays w v x (rw y refl) (rw y refl) (λ p e. refl) (other_states (w.tds.sessions x) w.outgoing.bundles _ (rw self (ne_eqb (w.key_table.last_exported + 1) (w.tds.sessions x) (omega (arith, low)))))
+      (h.noted x exporting))))
 
   page_starts : (t gpa k slot : ℕ) → Passes ((row_of o me (call.ExportMem t gpa k slot)).items w) → StartsHold (Then (call.ExportMem t gpa k slot))
   page_starts t gpa k slot ps =
@@ -290,7 +353,7 @@ module _ (o : Opening) (me : ℕ) (w : World) (l : Lawful o.machine w) (src : So
       let head = ps.1.1.1.1 in
       let exporting : IsExporting w t = record { alive = alive_of w t head.0 head.1.0; standing = abortable_exporting (w.tds.ops t) head.1.1.1.0 } in
       one_more_starts v _ refl refl (not_post w t pauses exporting (abortable_stands (w.tds.ops t) head.1.1.1.0)) (λ s e. cc) h.given
-      (λ x a. noted_stays w v x refl refl (λ p e. refl) (λ f e. some_more f w.outgoing.bundles _ e) (h.noted x (record { alive = record { kind = a.alive.kind; life = a.alive.life }; standing = a.standing })))
+      (λ x a. noted_stays w v x refl refl (λ p e. refl) (no_states (w.tds.sessions x) w.outgoing.bundles _ refl refl) (h.noted x (record { alive = record { kind = a.alive.kind; life = a.alive.life }; standing = a.standing })))
 
   track_starts : (t slot start : ℕ) → Passes ((row_of o me (call.ExportTrack t slot start)).items w) → StartsHold (Then (call.ExportTrack t slot start))
   track_starts t slot zero ps =
@@ -298,7 +361,7 @@ module _ (o : Opening) (me : ℕ) (w : World) (l : Lawful o.machine w) (src : So
       let head = ps.1.1 in
       let exporting : IsExporting w t = record { alive = alive_of w t head.0 head.1.0; standing = abortable_exporting (w.tds.ops t) head.1.1.1.0 } in
       one_more_starts v _ refl refl (not_post w t pauses exporting (abortable_stands (w.tds.ops t) head.1.1.1.0)) (λ s e. cc) h.given
-      (λ x a. noted_stays w v x refl refl (λ p e. refl) (λ f e. some_more f w.outgoing.bundles _ e) (h.noted x (record { alive = record { kind = a.alive.kind; life = a.alive.life }; standing = a.standing })))
+      (λ x a. noted_stays w v x refl refl (λ p e. refl) (no_states (w.tds.sessions x) w.outgoing.bundles _ refl refl) (h.noted x (record { alive = record { kind = a.alive.kind; life = a.alive.life }; standing = a.standing })))
   track_starts t slot (suc n) ps =
       let v : World = Then (call.ExportTrack t slot (suc n)) in
       let head = ps.1.1 in
@@ -310,16 +373,17 @@ module _ (o : Opening) (me : ℕ) (w : World) (l : Lawful o.machine w) (src : So
       (λ s e. subst (λ (z : ℕ). IsWhole v z w.outgoing.bundles []) (eqb-true (w.tds.sessions t) s e) (record {
         image = image_of w t;
         noted = states.images t exporting (is_pausing (w.tds.ops t) head.1.1.1.0);
-        td = mine.td (λ z. some_missing (w.tds.td_exported t) (length (w.tds.vps t) - w.tds.vps_exported t) z missing);
+        td = any_counted (is_td_state (w.tds.sessions t)) w.outgoing.bundles
+            (let all = some_missing (w.tds.td_exported t) (length (w.tds.vps t) - w.tds.vps_exported t) missing in let noted = mine.td in omega (arith, all, noted));
         vps = λ i few. vp_there t alive mine (all_there (w.tds.td_exported t) (length (w.tds.vps t)) (w.tds.vps_exported t) missing) i (let same = length-map (w.tds.vps t) (vp_image w) in omega (arith, few, same));
         last = All-nil (λ b. is_of (w.tds.sessions t) b ≡ false);
       }))
       h.given
-      (λ x a. noted_stays w v x refl refl (λ p e. refl) (λ f e. some_more f w.outgoing.bundles _ e)
+      (λ x a. noted_stays w v x refl refl (λ p e. refl) (no_states (w.tds.sessions x) w.outgoing.bundles _ refl refl)
       (h.noted x (record { alive = record { kind = a.alive.kind; life = a.alive.life }; standing = by_test (x == t) (λ y. subst (λ (z : ℕ). is_exporting (w.tds.ops z) ≡ true) (sym (eqb-true x t y)) exporting.standing) (λ y. rw y at a.standing) })))
     where
-      some_missing : (td rest : ℕ) → td ≡ 0 → (1 - td) + rest ≡ 0 → ⊥
-      some_missing td rest z e = omega (arith, z, e)
+      some_missing : (td rest : ℕ) → (1 - td) + rest ≡ 0 → 1 ≤ td
+      some_missing td rest e = omega (arith, e)
 
       all_there : (td vps many : ℕ) → (1 - td) + (vps - many) ≡ 0 → vps ≤ many
       all_there td vps many e = omega (arith, e)
@@ -329,9 +393,11 @@ module _ (o : Opening) (me : ℕ) (w : World) (l : Lawful o.machine w) (src : So
           let p : ℕ = get_or (w.tds.vps t) i 0 in
           let among : list_any (λ q. q == p) (w.tds.vps t) ≡ true = list_any_at (λ q. q == p) (w.tds.vps t) i 0 few (same_self p) in
           let many = mine.many in
-          let exported = eqb-true (w.vps.exported p) (w.tds.sessions t) (full_count (λ q. w.vps.exported q == w.tds.sessions t) (w.tds.vps t) (omega (arith, all, many)) p among) in
+          let exported : (w.vps.exported p == w.tds.sessions t) ≡ true = full_count (λ q. w.vps.exported q == w.tds.sessions t) (w.tds.vps t) (omega (arith, all, many)) p among in
           let index : w.vps.indexes p ≡ i = l.lists.index t i p alive (slice_get-get_or (w.tds.vps t) i 0 few) in
-          subst (λ (z : ℕ). list_any (is_vp_state (w.tds.sessions t) z) w.outgoing.bundles ≡ true) index (mine.vp p among exported)
+          let noted : 1 ≡ count_by (is_vp_state (w.tds.sessions t) (w.vps.indexes p)) w.outgoing.bundles
+          = subst (λ (z : Bool). one_if z ≡ count_by (is_vp_state (w.tds.sessions t) (w.vps.indexes p)) w.outgoing.bundles) exported (mine.vp p among) in
+          subst (λ (z : ℕ). list_any (is_vp_state (w.tds.sessions t) z) w.outgoing.bundles ≡ true) index (any_counted (is_vp_state (w.tds.sessions t) (w.vps.indexes p)) w.outgoing.bundles (omega (arith, noted)))
 
   td_starts : (t slot : ℕ) → Passes ((row_of o me (call.ExportStateTd t slot)).items w) → StartsHold (Then (call.ExportStateTd t slot))
   td_starts t slot ps =
@@ -340,14 +406,20 @@ module _ (o : Opening) (me : ℕ) (w : World) (l : Lawful o.machine w) (src : So
       let exporting : IsExporting w t = record { alive = alive_of w t head.0 head.1.0; standing = paused_exporting (w.tds.ops t) head.1.1.1.0 } in
       let mine = h.noted t exporting in
       let self = same_self (w.tds.sessions t) in
+      let new : Made = record { slot = slot; header = header_of (note_td_export t w) t (about 1 (w.tds.mig_epochs t)); payload = payload_words (w.hidden.rtmrs t) 24 } in
+      let left : w.tds.td_exported t ≡ 0 = eqb-true (w.tds.td_exported t) 0 head.1.1.1.1.0 in
+      let here = same_self t in
       one_more_starts v _ refl refl (not_post w t pauses exporting (paused_stands (w.tds.ops t) head.1.1.1.0)) (λ s e. cc) h.given
       (λ x a. by_test (x == t)
       (λ y. subst (λ (z : ℕ). AreNoted v z) (sym (eqb-true x t y)) (record {
-        td = λ n. some_last (is_td_state (w.tds.sessions t)) w.outgoing.bundles _ (rw self refl);
+        once = rw here (omega arith);
+        td = (let one : v.tds.td_exported t ≡ 1 = rw here refl in
+            let old = mine.td in let more = more_end (is_td_state (w.tds.sessions t)) w.outgoing.bundles new (rw self refl) in omega (arith, one, left, old, more));
+        vp = λ p e. mine.vp p e ∙ sym (one_end (is_vp_state (w.tds.sessions t) (w.vps.indexes p)) w.outgoing.bundles new (and_right (is_of (w.tds.sessions t) new) _ refl));
         many = mine.many;
-        vp = λ p e f. some_more (is_vp_state (w.tds.sessions t) (w.vps.indexes p)) w.outgoing.bundles _ (mine.vp p e f);
       }))
-      (λ y. noted_stays w v x refl (rw y refl) (λ p e. refl) (λ f e. some_more f w.outgoing.bundles _ e) (h.noted x (record { alive = record { kind = a.alive.kind; life = a.alive.life }; standing = a.standing }))))
+      (λ y. (let there : IsExporting w x = record { alive = record { kind = a.alive.kind; life = a.alive.life }; standing = a.standing } in
+      noted_stays w v x refl (rw y refl) (λ p e. refl) (other_states (w.tds.sessions x) w.outgoing.bundles new (other_session t x new exporting there y refl)) (h.noted x there))))
 
   vp_starts : (t p slot : ℕ) → Passes ((row_of o me (call.ExportStateVp t p slot)).items w) → StartsHold (Then (call.ExportStateVp t p slot))
   vp_starts t p slot ps =
@@ -363,22 +435,31 @@ module _ (o : Opening) (me : ℕ) (w : World) (l : Lawful o.machine w) (src : So
       let among : list_any (λ q. q == p) (w.tds.vps t) ≡ true =
       subst (λ (z : ℕ). list_any (λ q. q == p) (w.tds.vps z) ≡ true) owner (l.lists.vp p (is_vp_kind (w.pages.kinds p) its.0) (subst (λ (z : ℕ). IsAlive w.pages w.tds z) (sym owner) alive)) in
       let left : (w.vps.exported p == s) ≡ false = not-true _ head.1.1.1.1.1.0 in
+      let about_vp : About = record (about 2 (w.tds.mig_epochs t)) { index = w.vps.indexes p; info = w.vps.positions p % 2 ^ 32 } in
+      let new : Made = record { slot = slot; header = header_of (note_vp_export t p w) t about_vp; payload = payload_words (w.hidden.registers p) 8 } in
       one_more_starts v _ refl refl (not_post w t pauses exporting (paused_stands (w.tds.ops t) head.1.1.1.0)) (λ r e. cc)
       (λ q. by_test (q == p) (λ y. rw y (src.ivs.session t exporting)) (λ y. rw y (h.given q)))
       (λ x a. by_test (x == t)
       (λ y. subst (λ (z : ℕ). AreNoted v z) (sym (eqb-true x t y)) (record {
-        td = λ n. some_more (is_td_state s) w.outgoing.bundles _ (mine.td n);
+        once = mine.once;
+        td = mine.td ∙ sym (one_end (is_td_state s) w.outgoing.bundles new (and_right (is_of s new) _ refl));
+        vp = λ q e. by_test (q == p)
+            (λ z. (let index : (w.vps.indexes p == w.vps.indexes q) ≡ true = eq-eqb _ _ (ap w.vps.indexes (sym (eqb-true q p z))) in
+            let more = more_end (is_vp_state s (w.vps.indexes q)) w.outgoing.bundles new (rw (self, index) refl) in
+            let none : one_if (w.vps.exported q == s) ≡ 0 = subst (λ (r : ℕ). one_if (w.vps.exported r == s) ≡ 0) (sym (eqb-true q p z)) (rw left refl) in
+            let now : one_if (v.vps.exported q == s) ≡ 1 = rw (z, self) refl in
+            let old = mine.vp q e in omega (arith, now, none, old, more)))
+            (λ z. rw z (mine.vp q e ∙ sym (one_end (is_vp_state s (w.vps.indexes q)) w.outgoing.bundles new (and_right (is_of s new) _ (other_index t p q alive among e z)))));
         many = (let at : v.tds.vps_exported t ≡ (w.tds.vps_exported t + 1) % 2 ^ 64 = (let here = same_self t in rw here refl) in
-            let few = mine.many in
-            let least = mod-le (w.tds.vps_exported t + 1) (2 ^ 64) in
-            let more = count_noted w.vps.exported s p (w.tds.vps t) (l.tds.vps_differ t) among left in omega (arith, at, few, least, more));
-        vp = λ q e f. by_test (q == p)
-            (λ z. some_last (is_vp_state s (w.vps.indexes q)) w.outgoing.bundles _ (let index : (w.vps.indexes p == w.vps.indexes q) ≡ true = eq-eqb _ _ (ap w.vps.indexes (sym (eqb-true q p z))) in rw (self, index) refl))
-            (λ z. some_more (is_vp_state s (w.vps.indexes q)) w.outgoing.bundles _ (mine.vp q e (rw z at f)));
+            let old = mine.many in
+            let few = l.tds.vps_few t in
+            let most = most_count (λ q. w.vps.exported q == s) (w.tds.vps t) in
+            let more = count_noted w.vps.exported s p (w.tds.vps t) (l.tds.vps_differ t) among left in omega (arith, at, old, few, most, more));
       }))
-      (λ y. noted_stays w v x refl (rw y refl)
-      (λ q e. (let off = apart_pages w t x p q owner (page_among w.pages x kind.Tdvpr (w.tds.vps x) q (l.tds.vps x (record { kind = a.alive.kind; life = a.alive.life })) e).owner y in rw off refl))
-      (λ f e. some_more f w.outgoing.bundles _ e) (h.noted x (record { alive = record { kind = a.alive.kind; life = a.alive.life }; standing = a.standing }))))
+      (λ y. (let there : IsExporting w x = record { alive = record { kind = a.alive.kind; life = a.alive.life }; standing = a.standing } in
+      noted_stays w v x refl (rw y refl)
+      (λ q e. (let off = apart_pages w t x p q owner (page_among w.pages x kind.Tdvpr (w.tds.vps x) q (l.tds.vps x there.alive) e).owner y in rw off refl))
+      (other_states (w.tds.sessions x) w.outgoing.bundles new (other_session t x new exporting there y refl)) (h.noted x there))))
 
   pause_starts : (t : ℕ) → Passes ((row_of o me (call.ExportPause t)).items w) → StartsHold (Then (call.ExportPause t))
   pause_starts t ps =
@@ -388,7 +469,7 @@ module _ (o : Opening) (me : ℕ) (w : World) (l : Lawful o.machine w) (src : So
       let over = not_post w t pauses exporting (λ e. let no : op.LiveExport ≡ op.PostExport = sym (only_live (w.tds.ops t) head.1.1.1.0) ∙ e in cc) in
       record {
         given = h.given;
-        noted = λ x a. noted_stays w v x refl refl (λ p e. refl) (λ f e. e)
+        noted = λ x a. noted_stays w v x refl refl (λ p e. refl) (same_states (w.tds.sessions x) w.outgoing.bundles w.outgoing.bundles refl)
             (h.noted x (record { alive = record { kind = a.alive.kind; life = a.alive.life }; standing = by_test (x == t) (λ y. subst (λ (z : ℕ). is_exporting (w.tds.ops z) ≡ true) (sym (eqb-true x t y)) exporting.standing) (λ y. rw y at a.standing) }));
         started = λ s before after b place start.
             let off : (s == w.tds.sessions t) ≡ false = by_test (s == w.tds.sessions t)
@@ -465,7 +546,51 @@ starts_kept = record {
   event = λ o bundles s p h. (states_kept.event o bundles s p h.0, event_starts o bundles s p h.0.0.0.0.0 h.0.0.0.1 h.0.0.1 h.0.1 h.1);
 }
 
--- So each run can be a source.
+-- What the start token's row counts as missing has no bundle.
+not_noted : (f g : ℕ → Bool) (ps : List ℕ) → ((p : ℕ) → list_any (λ q. q == p) ps ≡ true → g p ≡ not (f p)) → count_by g ps + count_by f ps ≡ length ps
+not_noted f g [] h = refl
+not_noted f g (p ∷ ps) h =
+    let all = sum_by-cons (λ z. cond (f z) 1 0) p ps in
+    let none = sum_by-cons (λ z. cond (g z) 1 0) p ps in
+    let rest = not_noted f g ps (λ q e. h q (by_test (p == q) (λ y. rw y refl) (λ y. rw y e))) in
+    let here : counted (g p) + counted (f p) ≡ 1 = (let is = h p (let self = same_self p in rw self refl) in one_of (f p) (g p) is) in
+    omega (arith, all, none, rest, here)
+  where
+    one_of : (a b : Bool) → b ≡ not a → counted b + counted a ≡ 1
+    one_of true false e = refl
+    one_of false true e = refl
+    one_of true true e = cc
+    one_of false false e = cc
+
+module _ (w : World) (t : ℕ) (h : AreNoted w t) where
+  abbrev s : ℕ
+  s = w.tds.sessions t
+
+  td_missing : 1 - w.tds.td_exported t ≡ one_if (not (list_any (is_td_state s) w.outgoing.bundles))
+  td_missing = by_test (w.tds.td_exported t == 0)
+      (λ y. (let none : w.tds.td_exported t ≡ 0 = eqb-true (w.tds.td_exported t) 0 y in
+      let noted = h.td in
+      let off : list_any (is_td_state s) w.outgoing.bundles ≡ false = any_noted (is_td_state s) false w.outgoing.bundles (omega (arith, none, noted)) in
+      rw (off, none) refl))
+      (λ y. (let some : w.tds.td_exported t ≡ 1 = (let few = h.once in let not_none = eqb-false (w.tds.td_exported t) 0 y in omega (arith, few, not_none)) in
+      let noted = h.td in
+      let on : list_any (is_td_state s) w.outgoing.bundles ≡ true = any_noted (is_td_state s) true w.outgoing.bundles (omega (arith, some, noted)) in
+      rw (on, some) refl))
+
+  missing : missing_states w t ≡ unsent_states w t
+  missing =
+      let own = td_missing in
+      let many = h.many in
+      let all = not_noted (λ p. w.vps.exported p == s) (λ p. not (list_any (is_vp_state s (w.vps.indexes p)) w.outgoing.bundles)) (w.tds.vps t)
+      (λ p e. ap (λ (b : Bool). not b) (any_noted (is_vp_state s (w.vps.indexes p)) (w.vps.exported p == s) w.outgoing.bundles (h.vp p e))) in
+      omega (arith, own, many, all)
+
+pub missing_are_unsent : MissingAreUnsent
+missing_are_unsent o ws schedule t exporting =
+    missing (reached o ws schedule).world t
+    ((in_runs StartsIn starts_kept o ws schedule).1.noted t exporting)
+
+-- So each such state can be a source, and each run.
 module _ (w : World) (pauses : PausesHold w) (states : StatesHold w) (h : StartsHold w) (s : ℕ) (before after : List Made) (b : Made) (place : w.outgoing.bundles ≡ before ++ b ∷ after) (begins : is_start s b ≡ true) where
   whole : IsWhole w s before after
   whole = h.started s before after b place begins
@@ -502,15 +627,22 @@ module _ (w : World) (pauses : PausesHold w) (states : StatesHold w) (h : Starts
     noted = whole.noted;
     pages = λ n payload e. subst (λ (i : Image). image_words i n ≡ Some payload) (same_image sent.image whole.image sent.noted whole.noted) (sent.pages n payload (last_before n ∙ e));
     last = last_before;
-    states = (let st = states.sent s has in subst (λ (i : Image). All (λ x. is_of s x ≡ true → IsStateOf i x) w.outgoing.bundles) (same_image st.image whole.image st.noted whole.noted) st.states);
+    states = (let st = states.sent s has in subst (λ (i : Image). All (λ x. is_of s x ≡ true → IsStateOf (in_32_bits i) x) w.outgoing.bundles) (same_image st.image whole.image st.noted whole.noted) st.states);
     td = whole.td;
     vps = whole.vps;
   }
 
+pub sources_are_started : SourcesAreStarted
+sources_are_started = record {
+  kept = record {
+    start = λ o ws. (starts_kept.start o ws, (well_kept.start o ws).1);
+    event = λ o bundles s p h. (starts_kept.event o bundles s p h.0, (well_kept.event o bundles s p (h.0.0.0.0, h.1)).1);
+  };
+  are = λ o s h. record {
+    made = h.1.made;
+    started = λ session before after b place begins. is_started s.world h.0.0.0.1 h.0.0.1 h.0.1 session before after b place begins;
+  };
+}
+
 pub every_run_is_a_source : EveryRunIsASource
-every_run_is_a_source o ws schedule =
-    let all = in_runs (λ o s. ((((IsGuarded o s × ArePagesKnown s.world) × SourceHolds s.world) × PausesHold s.world) × StatesHold s.world) × StartsHold s.world) starts_kept o ws schedule in
-    record {
-      made = every_list o ws schedule;
-      started = λ s before after b place begins. is_started (reached o ws schedule).world all.0.0.1 all.0.1 all.1 s before after b place begins;
-    }
+every_run_is_a_source o ws schedule = sources_are_started.are o (reached o ws schedule) (in_runs MayExport sources_are_started.kept o ws schedule)

@@ -1,10 +1,10 @@
 -- What a start token says of states: what keeps it, event by event.
-use Rattle.std.proofs.Common.{◌≡◌, refl, sym, ◌∙◌, ap, subst, ℕ, zero, suc, ◌+◌, ◌%◌, ◌^◌, ◌≤◌, List, [], ◌∷◌, length, map, Option, Some, true, false, ◌==◌, arith}
+use Rattle.std.proofs.Common.{◌≡◌, refl, sym, ◌∙◌, ap, subst, ℕ, zero, suc, ◌+◌, ◌%◌, ◌^◌, ◌≤◌, List, [], ◌∷◌, length, map, Option, Some, None, true, false, ◌==◌, arith}
 use Rattle.std.specs.Prelude.{slice_get}
 use Rattle.std.specs.List.{All, list_any}
 use Rattle.std.proofs.lemmas.Bool.{eqb-true, eq-eqb, ne_eqb, and_right, and_parts}
 use Rattle.std.proofs.lemmas.List.{length-map}
-use Rattle.std.proofs.lemmas.List.Elements.{All-nil, All-push, All-weaker}
+use Rattle.std.proofs.lemmas.List.Elements.{All-nil, All-cons, All-head, All-tail, All-push, All-weaker}
 use Rattle.td_words.specs.declared.names.Access.{Access}
 use Rattle.td_words.specs.declared.names.LifeState.{LifeState}
 use Rattle.td_words.specs.declared.names.PageKind.{PageKind}
@@ -21,15 +21,18 @@ use Rattle.flat_core.specs.Row.{Passes}
 use Rattle.flat_core.specs.Conditions.{same_kind}
 use Rattle.flat_core.specs.Digests.{six_words}
 use Rattle.flat_core.specs.Tree.{page_of_gpa, number_at, entry_at}
-use Rattle.flat_core.specs.Effects.{set_op, restate, add_bundle}
+use Rattle.flat_core.specs.Effects.{set_op, restate, begin_memory, add_bundle, tell_words}
+use Rattle.flat_core.specs.Guest.{reach}
 use Rattle.flat_core.specs.Translations.{look_up}
-use Rattle.flat_core.specs.Sessions.{About, about, header_of, stream_page, stream_counter, bundles_so_far, payload_words, make_bundle, begin_session, set_mig_epoch, count_export, note_td_export, note_vp_export}
+use Rattle.flat_core.specs.Sessions.{About, about, header_of, stream_page, stream_counter, bundles_so_far, payload_words, count_bundle, make_bundle, begin_session, set_mig_epoch, count_export, note_td_export, note_vp_export}
 use Rattle.flat_core.specs.ExportRows.{vp_image, image_of, note_pause}
 use Rattle.flat_core.specs.BundleRows.{paused_ops, start_epoch}
 use Rattle.flat_core.specs.Table.{row_of}
 use Rattle.flat_core.specs.Lawful.{IsAlive, Lawful, is_exporting}
 use Rattle.flat_core.specs.Event.{State, start, event}
-use Rattle.flat_core.specs.Laws.{with_bundles, ArePagesKnown}
+use Rattle.flat_core.specs.Laws.{with_bundles, reached, ArePagesKnown}
+use Rattle.flat_core.specs.Inside.{AreTimely}
+use Rattle.flat_core.specs.Inputs.{Input, input_in}
 use Rattle.flat_core.specs.AccessLaw.{IsGuarded}
 use Rattle.flat_core.proofs.Tests.{by_test, same_self, put_here}
 use Rattle.flat_core.proofs.Parts.{IsLive}
@@ -37,11 +40,14 @@ use Rattle.flat_core.proofs.Acts.{event_world}
 use Rattle.flat_core.proofs.Induction.{in_runs}
 use Rattle.flat_core.proofs.Always.{occ-of}
 use Rattle.flat_core.proofs.Ranges.{live_exporting, paused_exporting, abortable_exporting}
+use Rattle.flat_bundles.specs.Formed.{AreCodesShort, FormsHold}
+use Rattle.flat_bundles.proofs.Fills.{fill_either}
+use Rattle.flat_bundles.proofs.Formed.{forms_kept}
 use Rattle.mig_laws.specs.Ivs.{is_forward, IsExporting, IvsHold}
 use Rattle.mig_laws.specs.Source.{SourceHolds}
 use Rattle.mig_laws.specs.Paused.{is_start, has_start, is_paused, PausesHold}
 use Rattle.mig_laws.specs.WellMade.{is_of}
-use Rattle.mig_laws.specs.States.{IsVpState, IsStateOf, AreStatesAsPaused, StatesSentAreAsPaused, IsOwnState, StatesHold, StatesAreKept}
+use Rattle.mig_laws.specs.States.{IsVpState, IsStateOf, AreStatesAs, vp_in_32_bits, in_32_bits, StatesSentAreAsPaused, IsOwnState, StatesHold, StatesAreKept, ArePausesShort, PositionsIn, PositionsAreKept}
 use Rattle.mig_laws.proofs.Stays.{IsBeside}
 use Rattle.mig_laws.proofs.Rows.{over_beside, row-beside}
 use Rattle.mig_laws.proofs.Ivs.{IsGiven, alive_of, back_token, ivs_stay, session_same, begun_ivs}
@@ -63,7 +69,7 @@ own_still w v b c s t a x o = record {
   first = λ k. (let old = o.first k in let built = s.build t a in
       (old.0 ∙ ap six_words (sym built.0), old.1 ∙ ap (λ (ps : List ℕ). length ps) (sym built.1)));
   td = λ k. (let old = o.td k in (ap is_paused (c.op t a) ∙ old.0, old.1 ∙ ap (λ (f : ℕ → ℕ). payload_words f 24) (sym (s.rtmrs t a old.0))));
-  vp = λ k. (let old = o.vp k in (ap is_paused (c.op t a) ∙ old.0, subst (λ (i : Image). IsVpState i x) (sym (image_stays w v c s t a old.0)) old.1));
+  vp = λ k. (let old = o.vp k in (ap is_paused (c.op t a) ∙ old.0, subst (λ (i : Image). IsVpState (in_32_bits i) x) (sym (image_stays w v c s t a old.0)) old.1));
 }
 
 pub states_stay : (w v : World) → IsBeside w v → IsCalm w v → IsStill w v → StatesHold w → StatesHold v
@@ -78,7 +84,7 @@ states_stay w v b c s h = record {
       record {
         image = old.image;
         noted = ap (λ (f : ℕ → Option Image). f session) c.noted ∙ old.noted;
-        states = subst (λ (bs : List Made). All (λ x. is_of session x ≡ true → IsStateOf old.image x) bs) (sym b.bundles) old.states;
+        states = subst (λ (bs : List Made). All (λ x. is_of session x ≡ true → IsStateOf (in_32_bits old.image) x) bs) (sym b.bundles) old.states;
       });
 }
 
@@ -124,7 +130,7 @@ module _ (t slot : ℕ) (a : About) (payload : List ℕ) (w : World) (i : IvsHol
         record {
           image = old.image;
           noted = old.noted;
-          states = All-push (λ c. is_of s c ≡ true → IsStateOf old.image c) w.outgoing.bundles new old.states (λ k. absurd (let no : true ≡ false = sym k ∙ elsewhere s began in cc));
+          states = All-push (λ c. is_of s c ≡ true → IsStateOf (in_32_bits old.image) c) w.outgoing.bundles new old.states (λ k. absurd (let no : true ≡ false = sym k ∙ elsewhere s began in cc));
         });
   }
 
@@ -138,7 +144,7 @@ states_back w token six h = record {
       record {
         image = old.image;
         noted = old.noted;
-        states = All-push (λ c. is_of s c ≡ true → IsStateOf old.image c) w.outgoing.bundles token old.states (λ k. none s k);
+        states = All-push (λ c. is_of s c ≡ true → IsStateOf (in_32_bits old.image) c) w.outgoing.bundles token old.states (λ k. none s k);
       });
 }
   where
@@ -164,7 +170,7 @@ states_as w v bundles back sessions ops hidden positions mrtds vps h =
           record {
             image = old.image;
             noted = ap (λ (z : Hidden). z.paused s) hidden ∙ old.noted;
-            states = subst (λ (bs : List Made). All (λ b. is_of s b ≡ true → IsStateOf old.image b) bs) (sym bundles) old.states;
+            states = subst (λ (bs : List Made). All (λ b. is_of s b ≡ true → IsStateOf (in_32_bits old.image) b) bs) (sym bundles) old.states;
           });
     }
   where
@@ -181,24 +187,24 @@ states_as w v bundles back sessions ops hidden positions mrtds vps h =
     as_before x b o = record {
       first = λ k. (let old = o.first k in (old.0 ∙ ap (λ (f : ℕ → ℕ → ℕ). six_words (f x)) (sym mrtds), old.1 ∙ ap (λ (f : ℕ → List ℕ). length (f x)) (sym vps)));
       td = λ k. (let old = o.td k in (ap is_paused (at_op x) ∙ old.0, old.1 ∙ ap (λ (z : Hidden). payload_words (z.rtmrs x) 24) (sym hidden)));
-      vp = λ k. (let old = o.vp k in (ap is_paused (at_op x) ∙ old.0, subst (λ (z : Image). IsVpState z b) (sym (image x)) old.1));
+      vp = λ k. (let old = o.vp k in (ap is_paused (at_op x) ∙ old.0, subst (λ (z : Image). IsVpState (in_32_bits z) b) (sym (image x)) old.1));
     }
 
--- a session begins
+-- a session begins: no bundle is of it yet
+pub never_of : (w : World) (b : Made) → IsGiven w b → is_of (w.key_table.last_exported + 1) b ≡ false
+never_of w b le = by_test (is_forward b)
+    (λ y. (let less = le y in rw y (ne_eqb b.header.session (w.key_table.last_exported + 1) (omega (arith, less)))))
+    (λ y. rw y refl)
+
 module _ (t : ℕ) (w : World) (i : IvsHold w) (h : StatesHold w) where
   abbrev begun : World
   begun = begin_session t w
-
-  never_of : (b : Made) → IsGiven w b → is_of (w.key_table.last_exported + 1) b ≡ false
-  never_of b le = by_test (is_forward b)
-      (λ y. (let less = le y in rw y (ne_eqb b.header.session (w.key_table.last_exported + 1) (omega (arith, less)))))
-      (λ y. rw y refl)
 
   stood : (x : ℕ) → (x == t) ≡ false → IsExporting begun x → IsExporting w x
   stood x y a = record { alive = record { kind = a.alive.kind; life = a.alive.life }; standing = rw y at a.standing }
 
   new_session : (x : ℕ) (b : Made) → (x == t) ≡ true → IsGiven w b → OwnIn begun x b
-  new_session x b y le e = absurd (let own : is_of (w.key_table.last_exported + 1) b ≡ true = rw y at e in let no : true ≡ false = sym own ∙ never_of b le in cc)
+  new_session x b y le e = absurd (let own : is_of (w.key_table.last_exported + 1) b ≡ true = rw y at e in let no : true ≡ false = sym own ∙ never_of w b le in cc)
 
   old_session : (x : ℕ) (b : Made) → (x == t) ≡ false → OwnIn w x b → OwnIn begun x b
   old_session x b y o e = (let old = o (rw y at e) in record { first = old.first; td = λ k. (let r = old.td k in (rw y r.0, r.1)); vp = λ k. (let r = old.vp k in (rw y r.0, r.1)) })
@@ -213,9 +219,9 @@ module _ (t : ℕ) (w : World) (i : IvsHold w) (h : StatesHold w) where
   }
 
 -- a start token: what was sent is of the image
-state_of : (w : World) (t : ℕ) (b : Made) → IsOwnState w t b → IsStateOf (image_of w t) b
+state_of : (w : World) (t : ℕ) (b : Made) → IsOwnState w t b → IsStateOf (in_32_bits (image_of w t)) b
 state_of w t b o = record {
-  first = λ k. (let old = o.first k in (old.0, old.1 ∙ sym (length-map (w.tds.vps t) (vp_image w))));
+  first = λ k. (let old = o.first k in (old.0, old.1 ∙ (sym (length-map (w.tds.vps t) (vp_image w)) ∙ sym (length-map (map (vp_image w) (w.tds.vps t)) vp_in_32_bits))));
   td = λ k. (o.td k).1;
   vp = λ k. (o.vp k).1;
 }
@@ -256,14 +262,14 @@ module _ (t slot : ℕ) (a : About) (w : World) (i : IvsHold w) (h : StatesHold 
     images = λ x b p. h.images x (was x b) (was_paused x p);
     states = λ x b. All-push (OwnIn after x) w.outgoing.bundles token (All-weaker (OwnIn w x) (OwnIn after x) (λ c o e. as_after x c (o e)) w.outgoing.bundles (h.states x (was x b))) (λ e. token_own x);
     sent = λ s e. by_test (w.tds.sessions t == s)
-        (λ y. subst (λ (z : ℕ). AreStatesAsPaused after z) (eqb-true _ s y) (record {
+        (λ y. subst (λ (z : ℕ). AreStatesAs in_32_bits after z) (eqb-true _ s y) (record {
           image = image_of w t;
           noted = h.images t exporting pausing;
-          states = All-push (λ c. is_of (w.tds.sessions t) c ≡ true → IsStateOf (image_of w t) c) w.outgoing.bundles token
-              (All-weaker (OwnIn w t) (λ c. is_of (w.tds.sessions t) c ≡ true → IsStateOf (image_of w t) c) (λ c o k. state_of w t c (o k)) w.outgoing.bundles (h.states t exporting)) (λ k. token_of (image_of w t));
+          states = All-push (λ c. is_of (w.tds.sessions t) c ≡ true → IsStateOf (in_32_bits (image_of w t)) c) w.outgoing.bundles token
+              (All-weaker (OwnIn w t) (λ c. is_of (w.tds.sessions t) c ≡ true → IsStateOf (in_32_bits (image_of w t)) c) (λ c o k. state_of w t c (o k)) w.outgoing.bundles (h.states t exporting)) (λ k. token_of (in_32_bits (image_of w t)));
         }))
         (λ y. (let old = h.sent s (sym (start_end (is_start s) w.outgoing.bundles token (and_right (a.kind == 5) (w.tds.sessions t == s) y)) ∙ e) in
-        record { image = old.image; noted = old.noted; states = All-push (λ c. is_of s c ≡ true → IsStateOf old.image c) w.outgoing.bundles token old.states (λ k. token_of old.image) }));
+        record { image = old.image; noted = old.noted; states = All-push (λ c. is_of s c ≡ true → IsStateOf (in_32_bits old.image) c) w.outgoing.bundles token old.states (λ k. token_of (in_32_bits old.image)) }));
   }
 
 -- EXPORT.PAUSE
@@ -306,9 +312,9 @@ place_in (q ∷ ps) p e = by_test (q == p)
     (λ y. (0, ap (λ (z : ℕ). Some z) (eqb-true q p y)))
     (λ y. let r = place_in ps p (rw y at e) in (suc r.0, r.1))
 
-pub place_of_map : (f : ℕ → VpImage) (ps : List ℕ) (i p : ℕ) → slice_get ps i ≡ Some p → slice_get (map f ps) i ≡ Some (f p)
+pub place_of_map : {A : Type 0} (f : A → VpImage) (ps : List A) (i : ℕ) (p : A) → slice_get ps i ≡ Some p → slice_get (map f ps) i ≡ Some (f p)
 place_of_map f [] i p e = cc
-place_of_map f (q ∷ ps) zero p e = let same : q ≡ p = cc in ap (λ (z : ℕ). Some (f z)) same
+place_of_map f (q ∷ ps) zero p e = let same : q ≡ p = cc in ap (λ z. Some (f z)) same
 place_of_map f (q ∷ ps) (suc i) p e = place_of_map f ps i p e
 
 pub is_vp_kind : (k : PageKind) → same_kind k kind.Tdvpr ≡ true → k ≡ kind.Tdvpr
@@ -405,7 +411,7 @@ module _ (o : Opening) (me : ℕ) (w : World) (l : Lawful o.machine w) (src : So
       (record {
         first = λ k. cc;
         td = λ k. cc;
-        vp = λ k. (is_pausing (w.tds.ops t) head.1.1.1.0, record { vp = vp_image v p; place = place_of_map (vp_image v) (w.tds.vps t) (w.vps.indexes p) p at; words = refl; position = refl });
+        vp = λ k. (is_pausing (w.tds.ops t) head.1.1.1.0, record { vp = vp_in_32_bits (vp_image v p); place = place_of_map vp_in_32_bits (map (vp_image v) (w.tds.vps t)) (w.vps.indexes p) (vp_image v p) (place_of_map (vp_image v) (w.tds.vps t) (w.vps.indexes p) p at); words = refl; position = refl });
       })
 
   pub row-states : (c : Call) → Passes ((row_of o me c).items w) → StatesHold (After c)
@@ -457,5 +463,68 @@ states_kept = record {
   event = λ o bundles s p h. (pauses_kept.event o bundles s p h.0, event_states o bundles s p h.0.0.0.0 h.0.0.1 h.0.1 h.1);
 }
 
+-- Where codes are short, the 32 bits are the position.
+same_vps : (vs : List VpImage) → All (λ v. v.position ≤ 256) vs → map vp_in_32_bits vs ≡ vs
+same_vps [] h = refl
+same_vps (v ∷ vs) h =
+    let low = All-head (λ (x : VpImage). x.position ≤ 256) v vs h in
+    let same : v.position % 2 ^ 32 ≡ v.position = omega (arith, low) in
+    let rest = same_vps vs (All-tail (λ (x : VpImage). x.position ≤ 256) v vs h) in
+    λ j. record v { position = same j } ∷ rest j
+
+pub short_image : (image : Image) → All (λ v. v.position ≤ 256) image.vps → in_32_bits image ≡ image
+short_image image h = (let same = same_vps image.vps h in λ j. record image { vps = same j })
+
+all_short : (w : World) (ps : List ℕ) → ((p : ℕ) → w.vps.positions p ≤ 256) → All (λ v. v.position ≤ 256) (map (vp_image w) ps)
+all_short w [] h = All-nil (λ (v : VpImage). v.position ≤ 256)
+all_short w (p ∷ ps) h = All-cons (λ (v : VpImage). v.position ≤ 256) (vp_image w p) (map (vp_image w) ps) (h p) (all_short w ps h)
+
+module _ (o : Opening) (me : ℕ) (w : World) (forms : FormsHold w) (h : ArePausesShort w) where
+  row-pauses : (c : Call) (session : ℕ) (image : Image) → ((row_of o me c).act w).hidden.paused session ≡ Some image → All (λ v. v.position ≤ 256) image.vps
+  row-pauses (call.ExportPause t) session image e = by_test (session == w.tds.sessions t)
+      (λ y. (let same : Some (image_of w t) ≡ Some image = rw y at e in
+      let is : image_of w t ≡ image = cc in subst (λ (i : Image). All (λ v. v.position ≤ 256) i.vps) is (all_short w (w.tds.vps t) forms.position)))
+      (λ n. h session image (rw n at e))
+  row-pauses (call.ExportTrack t slot zero) session image e = h session image e
+  row-pauses (call.ExportTrack t slot (suc n)) session image e = h session image e
+  row-pauses (call.ImportMem t slot page) session image e =
+      let x : Input = input_in (o.bundles slot) in
+      fill_either (λ u. ArePausesShort (count_bundle t x.header.stream (begin_memory t (page_of_gpa x.header.gpa) x.words u))) t x.header.gpa page x.words (entry_at w t 0 x.header.gpa).state w h h session image e
+  row-pauses c session image e = h session image e
+
+same_pauses : (w v : World) → v.hidden.paused ≡ w.hidden.paused → ArePausesShort w → ArePausesShort v
+same_pauses w v same h session image e = h session image (ap (λ (f : ℕ → Option Image). f session) (sym same) ∙ e)
+
+event_pauses : (o : Opening) (bundles : ℕ → Option Incoming) (s : State) (p : ℕ) → AreTimely o s → FormsHold s.world → ArePausesShort s.world → ArePausesShort (event (with_bundles o bundles) s p).world
+event_pauses o bundles s p timely forms h =
+    let q : Opening = with_bundles o bundles in
+    let w : World = s.world in
+    event_world q s p ArePausesShort h
+    (λ c cs line none ps. row-pauses q p w forms h c)
+    (λ c cs g op row i is ps. (let occ = occ-of o s timely p g i.guest in same_pauses w (tell_words (row.tells w) (row.act w)) (operation_calm q g.tdr g.vp (length (s.lps p).replies + 1) op row w is occ.running).noted h))
+    (λ c cs g op access r gpa page i is found. (let occ = occ-of o s timely p g i.guest in same_pauses w (reach g.tdr g.vp access r gpa page w) (reach_calm g.tdr g.vp access r gpa page w occ.running).noted h))
+    (λ c cs g i. h)
+
+pub positions_kept : PositionsAreKept
+positions_kept = record {
+  start = λ o ws. (forms_kept.start o ws, λ short session image e. absurd (none e));
+  event = λ o bundles s p h. (forms_kept.event o bundles s p h.0, λ short. event_pauses o bundles s p h.0.0 (h.0.1 short) (h.1 short));
+}
+  where
+    none : {A : Type 0} {x : A} → None ≡ Some x → ⊥
+    none e = cc
+
+pub pauses_are_short : (o : Opening) (ws : Option (List ℕ)) (schedule : List ℕ) → AreCodesShort o → ArePausesShort (reached o ws schedule).world
+pauses_are_short o ws schedule short = (in_runs PositionsIn positions_kept o ws schedule).1 short
+
 pub started_have_states : StatesSentAreAsPaused
-started_have_states o ws schedule = (in_runs (λ o s. (((IsGuarded o s × ArePagesKnown s.world) × SourceHolds s.world) × PausesHold s.world) × StatesHold s.world) states_kept o ws schedule).1.sent
+started_have_states o ws schedule session e =
+    let w : World = (reached o ws schedule).world in
+    let k = (in_runs (λ o s. (((IsGuarded o s × ArePagesKnown s.world) × SourceHolds s.world) × PausesHold s.world) × StatesHold s.world) states_kept o ws schedule).1.sent session e in (
+      k,
+      λ short. record {
+        image = k.image;
+        noted = k.noted;
+        states = subst (λ (i : Image). All (λ b. is_of session b ≡ true → IsStateOf i b) w.outgoing.bundles) (short_image k.image (pauses_are_short o ws schedule short session k.image k.noted)) k.states;
+      },
+    )

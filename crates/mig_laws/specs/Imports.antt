@@ -8,14 +8,16 @@ use Rattle.flat_core.specs.World.{World, Image, Made}
 use Rattle.flat_core.specs.Sessions.{payload_words}
 use Rattle.flat_core.specs.Inputs.{word_given}
 use Rattle.flat_core.specs.Lawful.{IsAlive}
-use Rattle.flat_core.specs.Laws.{IsKeptInRuns, ArePagesKnown}
+use Rattle.flat_core.specs.Opening.{Opening, Incoming}
+use Rattle.flat_core.specs.Event.{State, start, event}
+use Rattle.flat_core.specs.Laws.{with_bundles, ArePagesKnown}
 use Rattle.flat_core.specs.AccessLaw.{IsGuarded}
 use Rattle.mig_laws.specs.Ivs.{IsImporting}
-use Rattle.mig_laws.specs.Source.{last_payload, known_words}
-use Rattle.mig_laws.specs.Paused.{is_start}
+use Rattle.mig_laws.specs.Source.{known_words}
 use Rattle.mig_laws.specs.WellMade.{is_of, is_token}
 use Rattle.mig_laws.specs.Imported.{is_imported, last_imported, AreImported}
-use Rattle.mig_laws.specs.Image.{Unforged, StartsFromPause, IsSource}
+use Rattle.mig_laws.specs.States.{in_32_bits}
+use Rattle.mig_laws.specs.Image.{IsComplete, Unforged, StartsAs, IsSource}
 
 -- how many bundles of each stream were imported
 abbrev pub counts_of : World → ℕ → List ℕ
@@ -49,16 +51,6 @@ pub record IsBegunBy (w : World) (t : ℕ) (bundles : List Made) : Type 0 where
   pub mrtd : w.tds.mrtds t ≡ word_given first.payload
   pub expected : w.tds.vps_expected t ≡ first.header.info
 
--- all that the session made before its start token was imported, and nothing that came later
-pub record IsComplete (session : ℕ) (counts : List ℕ) (bundles : List Made) : Type 0 where
-  pub before : List Made
-  pub after : List Made
-  pub token : Made
-  pub place : bundles ≡ before ++ token ∷ after
-  pub start : is_start session token ≡ true
-  pub imported : All (λ b. is_of session b ≡ true → is_imported session counts b ≡ true) before
-  pub pages : (n : ℕ) → last_imported session counts n bundles ≡ last_payload session n before
-
 -- a token that was imported begins this migration epoch
 abbrev pub begins_epoch : (session : ℕ) (counts : List ℕ) (epoch : ℕ) → Made → Bool
 begins_epoch s counts epoch b = is_imported s counts b && (is_token b && b.header.epoch == epoch)
@@ -77,14 +69,22 @@ pub record ImportHolds (bundles : List Made) (w : World) (t : ℕ) : Type 0 wher
   pub complete : w.tds.ops t ≡ op.PostImport → IsComplete (w.tds.sessions t) (counts_of w t) bundles
 
 -- What a destination keeps of one source: so it is of each TD that is being imported; the guest of one that is UNINITIALIZED
--- knows no page; and what was committed under a session starts from its pause.
+-- knows no page; and what was committed under a session starts from its pause, with 32 bits of each position.
 pub record DestinationHolds (source w : World) : Type 0 where
   pub imports : (t : ℕ) → IsImporting w t → ImportHolds source.outgoing.bundles w t
   pub empty : (t : ℕ) → IsAlive w.pages w.tds t → w.tds.ops t ≡ op.Uninitialized → (n : ℕ) → w.hidden.memories t n ≡ None
-  pub given : (session : ℕ) (start : Image) → w.hidden.given session ≡ Some start → StartsFromPause source session start
+  pub given : (session : ℕ) (start : Image) → w.hidden.given session ≡ Some start → StartsAs in_32_bits source session start
 
--- Where the source is one and no tag is forged, each event keeps it: IMPORT.COMMIT notes what the TD starts with, and of a TD
--- that is being imported no guest runs.
+-- What is said of a state is kept by each event at which what has come in is as asked, whatever else has.
+pub record IsKeptWhere (asked : Opening → Type 0) (holds : Opening → State → Type 0) : Type 0 where
+  pub start : (o : Opening) (words_to_tell : Option (List ℕ)) → holds o (start o words_to_tell)
+  pub event : (o : Opening) (bundles : ℕ → Option Incoming) (s : State) (p : ℕ) → asked (with_bundles o bundles) → holds o s → holds o (event (with_bundles o bundles) s p)
+
+-- a destination of this source as runs have it
+abbrev pub TakesIn : (source : World) → Opening → State → Type 0
+TakesIn source o s = (IsGuarded o s × ArePagesKnown s.world) × DestinationHolds source s.world
+
+-- Where the source is one, each event at which no tag is forged keeps it: IMPORT.COMMIT notes what the TD starts with, and of a
+-- TD that is being imported no guest runs.
 abbrev pub DestinationIsKept : Type 0
-DestinationIsKept = (source : World) → IsSource source
-    → IsKeptInRuns (λ o s. (IsGuarded o s × ArePagesKnown s.world) × (Unforged o source.outgoing.bundles → DestinationHolds source s.world))
+DestinationIsKept = (source : World) → IsSource source → IsKeptWhere (λ o. Unforged o source.outgoing.bundles) (TakesIn source)

@@ -7,3 +7,5 @@ pub mod Imported
 pub mod Image
 pub mod Imports
 pub mod Started
+pub mod Grows
+pub mod Hosts

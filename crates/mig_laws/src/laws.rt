@@ -3,7 +3,7 @@
 ghost use Rattle.mig_laws.specs.Ivs.{NoIvComesTwice};
 ghost use Rattle.mig_laws.specs.Paused.{PausesAreKept, StartedAreSentAsPaused};
 ghost use Rattle.mig_laws.specs.Source.{SourceIsKept, EveryPageHoldsItsPayload, EverySentIsTracked, NoStoreReachesSent};
-ghost use Rattle.mig_laws.specs.States.{StatesSentAreAsPaused, StatesAreKept};
+ghost use Rattle.mig_laws.specs.States.{StatesSentAreAsPaused, StatesAreKept, PositionsAreKept};
 
 /// No IV is used twice under one key. In every state of every run, no two bundles that were made are
 /// sealed with the same key and have the same stream, session and iv. Each of these fits its bytes of
@@ -38,9 +38,12 @@ pub fn pause_law()
 
 /// The states that a session with a start token has exported are those of the pause. In every state of
 /// every run, its bundle of type 0 has MRTD of the image that EXPORT.PAUSE noted, and how many virtual
-/// processors that image has; one of type 1 has the RTMRs; and one of type 2 the registers and, in 32
-/// bits, the position of the virtual processor at its index.
+/// processors that image has; one of type 1 has the RTMRs; and one of type 2 the registers of the virtual
+/// processor at its index, and 32 bits of its position, which are the position where no guest's code has
+/// more than 256 operations. One event keeps it, whatever bundles have come in; and, where codes are
+/// short, that no position of an image that was noted is above 256.
 pub fn state_law()
     ensures kept { StatesAreKept }
+    ensures positions { PositionsAreKept }
     ensures runs { StatesSentAreAsPaused }
 {}

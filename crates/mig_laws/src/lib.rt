@@ -12,6 +12,6 @@ mod image;
 mod laws;
 mod well_made;
 
-pub use image::{image_law, start_law};
+pub use image::{follow_law, image_law, start_law};
 pub use laws::{iv_law, pause_law, source_law, state_law};
 pub use well_made::{join_laws, well_made_law};

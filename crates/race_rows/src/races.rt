@@ -176,15 +176,15 @@ const PAIRS: &[&[&str]] = &[
 
 #[test]
 fn calls_meet_at_locks(rt: HostRuntime) -> Result<(), Fail> {
-    for table in [
-        AT_THE_TDR,
-        AT_A_PAGE,
-        AT_THE_OP_STATE,
-        AT_THE_KEY_TABLE,
-        AT_A_RECLAIM,
-        PAIRS,
+    for (hkids, table) in [
+        (1, AT_THE_TDR),
+        (2, AT_A_PAGE),
+        (1, AT_THE_OP_STATE),
+        (2, AT_THE_KEY_TABLE),
+        (1, AT_A_RECLAIM),
+        (1, PAIRS),
     ] {
-        replay_races(&rt, rt.alloc(), table)?;
+        replay_races(&rt, rt.alloc(), hkids, table)?;
     }
     Ok(())
 }
@@ -220,7 +220,7 @@ const IN_NUMBER_ORDER: &[&[&[&str]]] = &[
 #[test]
 fn processors_follow_one_another(rt: HostRuntime) -> Result<(), Fail> {
     for rows in IN_NUMBER_ORDER {
-        replays(&rt, rt.alloc(), "4 32 2", "", rows)?;
+        replays(&rt, rt.alloc(), "replay s", "4 32 2", "", rows)?;
     }
     Ok(())
 }

@@ -39,19 +39,17 @@ const GUESTS: &[&[&str]] = &[&[
     // E is shared from the entry's fourth try on, up to its sixth event.
     "0*72 1*7 | SUCCESS | MEM.TRACK 1",
     "0*73 1*5 | OPERAND_BUSY E | MEM.TRACK 1",
-    "0*74 1*5 | OPERAND_BUSY E | MEM.TRACK 1",
     "0*75 1*7 | SUCCESS | MEM.TRACK 1",
     // The TDR is shared until the guest is out.
     "0*75 1 | OPERAND_BUSY P 1 | MNG.VPFLUSHDONE 1",
-    "0*78 1 | OPERAND_BUSY P 1 | MNG.VPFLUSHDONE 1",
 ]];
 
 #[test]
 fn a_page_is_taken_beside_its_reader(rt: HostRuntime) -> Result<(), Fail> {
-    replay_races(&rt, rt.alloc(), READERS)
+    replay_races(&rt, rt.alloc(), 1, READERS)
 }
 
 #[test]
 fn a_guest_is_entered_beside_other_calls(rt: HostRuntime) -> Result<(), Fail> {
-    replay_races(&rt, rt.alloc(), GUESTS)
+    replay_races(&rt, rt.alloc(), 1, GUESTS)
 }

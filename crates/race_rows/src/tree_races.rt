@@ -142,7 +142,7 @@ const RACES: &[&[&str]] = &[
 
 #[test]
 fn memory_calls_meet_at_locks(rt: HostRuntime) -> Result<(), Fail> {
-    replay_races(&rt, rt.alloc(), RACES)
+    replay_races(&rt, rt.alloc(), 1, RACES)
 }
 
 // Calls of a migration's source, of which an op state refuses EXPORT.BLOCKW, EXPORT.UNBLOCKW,
@@ -277,7 +277,7 @@ const SOURCES: &[&[&str]] = &[
 
 #[test]
 fn calls_of_a_source_meet_at_locks(rt: HostRuntime) -> Result<(), Fail> {
-    replay_races(&rt, rt.alloc(), SOURCES)
+    replay_races(&rt, rt.alloc(), 1, SOURCES)
 }
 
 // Two TDs, each built and measured by its own processor, at the same GPAs.
@@ -305,5 +305,5 @@ fn two_tds_are_built_by_turns(rt: HostRuntime) -> Result<(), Fail> {
     for _ in 0_u8..100 {
         schedule.push_str(" 1 0")?;
     }
-    replays(&rt, rt.alloc(), "2 32 2", &schedule, BY_TURNS)
+    replays(&rt, rt.alloc(), "replay s", "2 32 2", &schedule, BY_TURNS)
 }

@@ -1,22 +1,30 @@
 //! Memory that is taken from a TD: blocked, tracked, and removed or unblocked.
 
-use row_replay::{PAGE, RUNS, Row, TREE, replay_rows};
+use row_replay::{ALONE, Asked, PAGE, RUNS, Row, TREE, replay_asked, replay_rows};
 use std::test::Fail;
 
-const ROWS: &[Row<'static>] = &[
-    // A page of the secure EPT that isn't empty; the first entry counts.
+const WORKED: &[Asked<'static>] = &[
+    // A page of the secure EPT that isn't empty.
     (
-        "",
-        &[],
-        &[&[
-            TREE,
-            PAGE,
-            RUNS,
-            "SUCCESS | MEM.RANGE.BLOCK 1 0 1 | MEM.TRACK 1",
-            "SEPT_NOT_EMPTY 0 | MEM.SEPT.REMOVE 1 0 1",
-        ]],
-        "",
+        "replay s",
+        "1 32 1",
+        (
+            "",
+            &[],
+            &[&[
+                TREE,
+                PAGE,
+                RUNS,
+                "SUCCESS | MEM.RANGE.BLOCK 1 0 1 | MEM.TRACK 1",
+                "SEPT_NOT_EMPTY 0 | MEM.SEPT.REMOVE 1 0 1",
+            ]],
+            "",
+        ),
     ),
+];
+
+const ROWS: &[Row<'static>] = &[
+    // A page of the secure EPT that isn't empty: the first entry counts.
     (
         "",
         &[],
@@ -180,5 +188,6 @@ const ROWS: &[Row<'static>] = &[
 
 #[test]
 fn no_page_is_taken_before_it_is_tracked(rt: HostRuntime) -> Result<(), Fail> {
+    replay_asked(&rt, rt.alloc(), ALONE, WORKED)?;
     replay_rows(&rt, rt.alloc(), ROWS)
 }

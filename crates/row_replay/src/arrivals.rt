@@ -1,5 +1,6 @@
 //! How rows are replayed to which bundles come in, some of them made of others by turning their bytes.
 
+use crate::asked::replay_changes;
 use crate::rows::{Row, replay, saved};
 use crate::scripts::Beside;
 use bundle_store::{MemFiles, read_container};
@@ -26,6 +27,9 @@ pub type Forged<'a> = (u16, u16, &'a [Edit]);
 
 /// What is made of the bundles that come in, and a row.
 pub type ArrivalRow<'a> = (&'a [Forged<'a>], Row<'a>);
+
+/// What is made of the bundles that come in, and what one processor calls.
+pub type ForgedRow<'a> = (&'a [Forged<'a>], &'a [&'a str]);
 
 // The bytes in that length.
 fn of_length(alloc: Global, bytes: &[u8], length: usize) -> Result<Vec<u8>, Fail> {
@@ -156,6 +160,28 @@ pub fn replay_arrivals<R: Threads + Sync>(
 ) -> Result<(), Fail> {
     for (forged, row) in rows {
         let _files = replay_arrival(threads, alloc, container, *forged, row)?;
+    }
+    Ok(())
+}
+
+/// Replays rows of one processor that differ in its calls and in what is made of the bundles that come in, each by
+/// the same command lines, on one machine and with the same lists.
+pub fn replay_forged<R: Threads + Sync>(
+    threads: &R,
+    alloc: Global,
+    container: &[u8],
+    lines: &str,
+    machine: &str,
+    lists: &[&str],
+    rows: &[ForgedRow<'_>],
+) -> Result<(), Fail> {
+    for (forged, row) in rows {
+        let made = arriving(alloc, container, *forged)?;
+        let beside = Beside {
+            secrets: None,
+            bundles: Some(made.as_slice()),
+        };
+        replay_changes(threads, alloc, beside, lines, machine, lists, &[*row])?;
     }
     Ok(())
 }

@@ -44,11 +44,10 @@ pub struct Texts {
     pub guest: String,
 }
 
-/// The texts of a row.
-pub fn texts_of(alloc: Global, row: &Row<'static>) -> Result<Texts, Fail> {
+/// The texts of a row on a machine.
+pub fn texts_of(alloc: Global, machine: &str, row: &Row<'_>) -> Result<Texts, Fail> {
     let (schedule, lists, processors, guest) = row;
-    let lps = processors.len();
-    let mut script = format!(in alloc; "machine {lps} 32 2\n")?;
+    let mut script = format!(in alloc; "machine {machine}\n")?;
     let mut replies = String::new(alloc);
     for list in lists.iter() {
         add_code(&mut script, list)?;
@@ -63,23 +62,49 @@ pub fn texts_of(alloc: Global, row: &Row<'static>) -> Result<Texts, Fail> {
     })
 }
 
-/// Replays a row with the files that are given, and compares the replies and the guest file. The answer
-/// has the files that are there then.
+/// Replays texts by a command line, with the files beside the script, and compares the replies and the guest
+/// file. The answer has the files that are there then.
+pub fn replay_texts<R: Threads + Sync>(
+    threads: &R,
+    alloc: Global,
+    line: &str,
+    beside: Beside<'_>,
+    texts: &Texts,
+) -> Result<MemFiles, Fail> {
+    let files = replay_script(threads, alloc, line, beside, &texts.script, &texts.replies)?;
+    let saved = held(&files, "g").unwrap_or(b"");
+    compare(alloc, "guest file", saved, &texts.guest, &texts.script)?;
+    Ok(files)
+}
+
+// The command line of a row that names none.
+fn line_of(alloc: Global, beside: Beside<'_>) -> Result<String, Fail> {
+    let mut line = String::from_str(alloc, "replay s --keys k --out-bundles b --guest-out g")?;
+    if beside.secrets.is_some() {
+        line.push_str(" --secrets z")?;
+    }
+    if beside.bundles.is_some() {
+        line.push_str(" --bundles c")?;
+    }
+    Ok(line)
+}
+
+/// Replays a row that names no command line and no machine.
 pub fn replay<R: Threads + Sync>(
     threads: &R,
     alloc: Global,
     beside: Beside<'_>,
     row: &Row<'static>,
 ) -> Result<MemFiles, Fail> {
-    let texts = texts_of(alloc, row)?;
-    let files = replay_script(threads, alloc, beside, &texts.script, &texts.replies)?;
-    let saved = held(&files, "g").ok_or("no guest file")?;
-    compare(alloc, "guest file", saved, &texts.guest, &texts.script)?;
-    Ok(files)
+    let lps = row.2.len();
+    let machine = format!(in alloc; "{lps} 32 2")?;
+    let texts = texts_of(alloc, &machine, row)?;
+    let line = line_of(alloc, beside)?;
+    replay_texts(threads, alloc, &line, beside, &texts)
 }
 
-/// Replays rows, each on 32 pages with two HKIDs, under the keys of a key file with bytes 0 to 63. A row
-/// fails where its replies, its guest file or its status differ.
+/// Replays rows that name no command line and no machine. A row fails where its replies, its guest file or
+/// its status differ.
 pub fn replay_rows<R: Threads + Sync>(
     threads: &R,
     alloc: Global,

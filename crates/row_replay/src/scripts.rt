@@ -93,15 +93,15 @@ fn file(alloc: Global, name: &str, bytes: Vec<u8>) -> Result<NamedFile, Fail> {
     })
 }
 
-/// What a script is replayed with, where it is given: the words with which its secrets file begins, and
-/// the container that comes in.
+/// What stands beside a script s and keys k of bytes 0 to 63, where it is given: the words with which the
+/// secrets file z begins, whose others are 0, and the container c. The file z4095 is z without its last byte.
 #[derive(Clone, Copy)]
 pub struct Beside<'a> {
     pub secrets: Option<&'a [u64]>,
     pub bundles: Option<&'a [u8]>,
 }
 
-/// A script with no file beside it but its keys.
+/// No file beside a script but its keys.
 pub const ALONE: Beside<'static> = Beside {
     secrets: None,
     bundles: None,
@@ -120,8 +120,7 @@ const NO_CALL: Failing<'static> = Failing {
     puts: &[],
 };
 
-// The script s, the key file k, the secrets file z and the container c where there are these, and no
-// other file.
+// The script, and the files beside it.
 fn files_of(
     alloc: Global,
     text: &str,
@@ -132,7 +131,11 @@ fn files_of(
     files.push(file(alloc, "s", text.as_bytes().to_vec(alloc)?)?)?;
     files.push(file(alloc, "k", key_file(alloc)?)?)?;
     if let Some(words) = beside.secrets {
-        files.push(file(alloc, "z", secrets_file(alloc, words)?)?)?;
+        let bytes = secrets_file(alloc, words)?;
+        let mut cut = bytes.clone()?;
+        cut.pop();
+        files.push(file(alloc, "z", bytes)?)?;
+        files.push(file(alloc, "z4095", cut)?)?;
     }
     if let Some(bytes) = beside.bundles {
         files.push(file(alloc, "c", bytes.to_vec(alloc)?)?)?;
@@ -140,28 +143,11 @@ fn files_of(
     Ok(MemFiles::new(alloc, files, failing.to_vec(alloc)?))
 }
 
-// Adds the words of a line.
-fn add_words(alloc: Global, words: &mut Vec<String>, line: &str) -> Result<(), Fail> {
+// The words of a command line.
+fn words_of(alloc: Global, line: &str) -> Result<Vec<String>, Fail> {
+    let mut words = Vec::new(alloc);
     for word in line.split(' ') {
         words.push(String::from_str(alloc, word)?)?;
-    }
-    Ok(())
-}
-
-// The words that replay s under the keys k, with the files that are given, and save the container b and
-// the guest file g.
-fn words_of(alloc: Global, beside: Beside<'_>) -> Result<Vec<String>, Fail> {
-    let mut words = Vec::new(alloc);
-    add_words(
-        alloc,
-        &mut words,
-        "replay s --keys k --out-bundles b --guest-out g",
-    )?;
-    if beside.secrets.is_some() {
-        add_words(alloc, &mut words, "--secrets z")?;
-    }
-    if beside.bundles.is_some() {
-        add_words(alloc, &mut words, "--bundles c")?;
     }
     Ok(words)
 }
@@ -199,15 +185,16 @@ pub struct Ending {
     pub files: MemFiles,
 }
 
-/// What a script ends with, replayed with the files that are given where those calls fail.
+/// What a command line ends with, over a script and the files beside it, where those calls fail.
 pub fn ending_of<R: Threads + Sync>(
     threads: &R,
     alloc: Global,
+    line: &str,
     beside: Beside<'_>,
     failing: Failing<'_>,
     script: &str,
 ) -> Result<Ending, Fail> {
-    let words = words_of(alloc, beside)?;
+    let words = words_of(alloc, line)?;
     let mut files = files_of(alloc, script, beside, failing.files)?;
     let mut out = MemSink::new(alloc, failing.puts.to_vec(alloc)?);
     let status = tdx_main(threads, alloc, &words, &mut files, &mut out, &NoGate);
@@ -230,16 +217,17 @@ pub fn compare_ending(
     Ok(())
 }
 
-/// Replays a script with the files that are given, and compares its text and its status. The answer has
-/// the files that are there then: the container b and the guest file g besides.
+/// Replays a script by a command line, with the files beside it, and compares its text and its status. The
+/// answer has the files that are there then.
 pub fn replay_script<R: Threads + Sync>(
     threads: &R,
     alloc: Global,
+    line: &str,
     beside: Beside<'_>,
     script: &str,
     want: &str,
 ) -> Result<MemFiles, Fail> {
-    let ending = ending_of(threads, alloc, beside, NO_CALL, script)?;
+    let ending = ending_of(threads, alloc, line, beside, NO_CALL, script)?;
     compare_ending(alloc, &ending, want, 0, script)?;
     Ok(ending.files)
 }

@@ -5,5 +5,7 @@ pub mod Places
 pub mod Making
 pub mod Replayed
 pub mod Ended
+pub mod EndedTurns
+pub mod EndedRuns
 pub mod Lanes
 pub mod ThreadTexts

@@ -16,19 +16,20 @@ use Rattle.bundle_texts.proofs.Fits.{fit_slots, fit_too, same_text}
 use Rattle.leaf_engine.specs.OwnLists.{WordLp}
 use Rattle.merge_laws.specs.Laws.{AreBundlesOf}
 use Rattle.merge_laws.proofs.Gathered.{bundles_from, all-gathered}
+use Rattle.leaf_dispatch.specs.Ended.{ended_in}
 use Rattle.leaf_dispatch.specs.States.{seen_of}
 use Rattle.leaf_dispatch.specs.declared.states.LpState.{LpState}
 use Rattle.run_texts.specs.Replaying.{seen_at}
 use Rattle.run_texts.specs.Sealing.{bundles_seen, bundles_text}
 
-same-bundles : (n p : ℕ) (f : ℕ → List Made) (lps : List LpState) → length lps ≡ n → ((q : ℕ) → q < n → f (p + q) ≡ (seen_at lps q).beside.bundles) → bundles_from n p f ≡ bundles_seen lps
+pub same-bundles : (n p : ℕ) (f : ℕ → List Made) (lps : List LpState) → length lps ≡ n → ((q : ℕ) → q < n → f (p + q) ≡ ended_in (seen_at lps q)) → bundles_from n p f ≡ bundles_seen lps
 same-bundles zero p f [] e h = refl
 same-bundles zero p f (s ∷ ss) e h = absurd (omega (arith, e))
 same-bundles (suc n) p f [] e h = absurd (omega (arith, e))
 same-bundles (suc n) p f (s ∷ ss) e h =
-    let here : f p ≡ (seen_of s).beside.bundles = ap f (omega arith) ∙ h 0 (omega arith) in
+    let here : f p ≡ ended_in (seen_of s) = ap f (omega arith) ∙ h 0 (omega arith) in
     ap (λ (ms : List Made). ms ++ bundles_from n (p + 1) f) here
-    ∙ ap (λ (ms : List Made). (seen_of s).beside.bundles ++ ms) (same-bundles n (p + 1) f ss (omega (arith, e)) (λ q i. ap f (omega arith) ∙ h (suc q) (omega arith)))
+    ∙ ap (λ (ms : List Made). ended_in (seen_of s) ++ ms) (same-bundles n (p + 1) f ss (omega (arith, e)) (λ q i. ap f (omega arith) ∙ h (suc q) (omega arith)))
 
 -- a run's bundles fit a container, where its lines name slots of at most 4,095 and no two name one
 pub fit-run : BundlesAreOfLines → (o : Opening) (schedule : List ℕ) → All (λ slot. slot ≤ 4095) (output_slots o.calls) → AllPairs (λ a b. a ≢ b) (output_slots o.calls) → FitContainer (bundles_in (run o schedule))
@@ -37,7 +38,7 @@ fit-run law o schedule few apart =
     fit_slots (output_slots o.calls) (bundles_in (run o schedule)) few apart h.each h.apart h.pages
 
 -- where processors are where a run ends
-module _ (o : Opening) (schedule : List ℕ) (now : ℕ → WordLp) (lps : List LpState) (count : length lps ≡ length o.calls) (same : (q : ℕ) → q < length o.calls → (now q).beside.bundles ≡ (seen_at lps q).beside.bundles) (are : AreBundlesOf (length o.calls) now (bundles_in (run o schedule))) (fit : FitContainer (bundles_in (run o schedule))) where
+module _ (o : Opening) (schedule : List ℕ) (now : ℕ → WordLp) (lps : List LpState) (count : length lps ≡ length o.calls) (same : (q : ℕ) → q < length o.calls → (now q).beside.bundles ≡ ended_in (seen_at lps q)) (are : AreBundlesOf (length o.calls) now (bundles_in (run o schedule))) (fit : FitContainer (bundles_in (run o schedule))) where
   pub moved-there : IsPermutation (bundles_in (run o schedule)) (bundles_seen lps)
   moved-there =
       IsPermutation-sym (bundles_seen lps) (bundles_in (run o schedule))
@@ -52,7 +53,7 @@ module _ (o : Opening) (schedule : List ℕ) (now : ℕ → WordLp) (lps : List 
   seals-there forward backward = same_text forward backward (bundles_in (run o schedule)) (bundles_seen lps) fit moved-there
 
 -- the bundles of one processor more
-pub bundles-next : (lps : List LpState) (i : ℕ) (d : LpState) (all whole own : List Made) → i < length lps → own ≡ (seen_of (get_or lps i d)).beside.bundles → all ++ bundles_seen (drop i lps) ≡ whole → (all ++ own) ++ bundles_seen (drop (i + 1) lps) ≡ whole
+pub bundles-next : (lps : List LpState) (i : ℕ) (d : LpState) (all whole own : List Made) → i < length lps → own ≡ ended_in (seen_of (get_or lps i d)) → all ++ bundles_seen (drop i lps) ≡ whole → (all ++ own) ++ bundles_seen (drop (i + 1) lps) ≡ whole
 bundles-next lps i d all whole own inside is so_far =
     let here : drop i lps ≡ get_or lps i d ∷ drop (i + 1) lps = rw add-one (drop-cons lps i d inside) in
     append_assoc all own (bundles_seen (drop (i + 1) lps))

@@ -45,6 +45,8 @@ use Rattle.merge_laws.specs.Merge.{Merge}
 use Rattle.merge_laws.specs.Laws.{AreBundlesOf, IsWhere}
 use Rattle.leaf_table.specs.Given.{Given, given_in, given_of}
 use Rattle.leaf_table.specs.Table.{code_in, place_table, leaf_table}
+use Rattle.leaf_dispatch.specs.Shown.{TurnsAs}
+use Rattle.leaf_dispatch.proofs.EndedCalls.{all-ended}
 use Rattle.leaf_dispatch.specs.States.{seen_of, Moves}
 use Rattle.leaf_dispatch.specs.Bounds.{events_left}
 use Rattle.leaf_dispatch.specs.declared.states.LpState.{LpState}
@@ -58,6 +60,7 @@ use Rattle.run_texts.specs.declared.replay.Texts.{Texts}
 use Rattle.run_texts.proofs.Codes.{codes-of}
 use Rattle.run_texts.proofs.Making.{fit-run, moved-there}
 use Rattle.run_texts.proofs.Turning.{made_by, one-event, merge-more, order-more}
+use Rattle.run_texts.proofs.EndedRuns.{shown-first, shown-next}
 use Rattle.run_texts.proofs.Places.{seen-at, seen-own, seen-other, place-at, given-at, codes-at, numbered-set, first-count, first-numbered, first-seen, first-more}
 
 -- of a machine that a script may have, with lists of operations within the limits, and with lines of different output slots
@@ -73,6 +76,7 @@ at-start : (o : Opening) (sought : State → List ℕ → Type 0) (given : Given
     → IsMidway o left sought lps t
 at-start o sought given codes left lps t h first play = record {
   made = [];
+  ended = shown-first o lps (first-count o.machine given codes 0 lps o.calls h) (λ q. first-seen o.machine given codes 0 lps o.calls q h);
   merge = record {
     own = λ p. [];
     turns = λ p inside. first-seen o.machine given codes 0 lps o.calls p h;
@@ -113,7 +117,7 @@ with-left o sought lps id b left others holds l = record {
   numbered = l.numbered;
   midway = λ t play.
       let now = l.midway t play in
-      record { made = now.made; merge = now.merge; holds = holds t now };
+      record { made = now.made; merge = now.merge; ended = now.ended; holds = holds t now };
 }
 
 -- an item of a processor more, where all before it have ended
@@ -158,15 +162,15 @@ module _ (ls : TurnsAreEvents) (o : Opening) (rest : List ℕ) (lps : List LpSta
   place = place-at o 0 lps p d numbered inside ∙ ap (λ (k : ℕ). record { machine = o.machine; lp = k }) (omega arith)
 
   -- its turn, in these pieces
-  turns : (e : Event) (ps : List Piece) → Moves s e ps s' → LpTurns (leaf_table o.machine (given_of o) o.codes p) o.machine (seen_at lps p) e ps (seen_of s')
+  turns : (e : Event) (ps : List Piece) → Moves s e ps s' → TurnsAs (leaf_table o.machine (given_of o) o.codes p) o.machine (seen_at lps p) e ps (seen_of s')
   turns e ps moves =
-      subst (λ (x : WordLp). LpTurns (leaf_table o.machine (given_of o) o.codes p) o.machine x e ps (seen_of s')) (sym (seen-at lps p d inside))
-      (subst (λ (w : Given). LpTurns (leaf_table o.machine w o.codes p) o.machine (seen_of s) e ps (seen_of s')) (given-at o 0 lps p d numbered inside)
-      (subst (λ (x : ℕ → ℕ → List GuestOp). LpTurns (leaf_table o.machine (given_in s.given) x p) o.machine (seen_of s) e ps (seen_of s')) (codes-at o 0 lps p d numbered inside)
-      (subst (λ (z : Place). LpTurns (place_table z (given_in s.given) (code_in s.codes.now)) z.machine (seen_of s) e ps (seen_of s')) place moves.3)))
+      subst (λ (x : WordLp). TurnsAs (leaf_table o.machine (given_of o) o.codes p) o.machine x e ps (seen_of s')) (sym (seen-at lps p d inside))
+      (subst (λ (w : Given). TurnsAs (leaf_table o.machine w o.codes p) o.machine (seen_of s) e ps (seen_of s')) (given-at o 0 lps p d numbered inside)
+      (subst (λ (x : ℕ → ℕ → List GuestOp). TurnsAs (leaf_table o.machine (given_in s.given) x p) o.machine (seen_of s) e ps (seen_of s')) (codes-at o 0 lps p d numbered inside)
+      (subst (λ (z : Place). TurnsAs (place_table z (given_in s.given) (code_in s.codes.now)) z.machine (seen_of s) e ps (seen_of s')) place moves.3)))
 
   one-turn : (e : Event) (ps : List Piece) → Moves s e ps s' → events_among ps ≡ 1
-  one-turn e ps moves = one-event ls.pieces (place_table s.place (given_in s.given) (code_in s.codes.now)) s.place.machine (seen_of s) (seen_of s') e ps moves.3
+  one-turn e ps moves = one-event ls.pieces (place_table s.place (given_in s.given) (code_in s.codes.now)) s.place.machine (seen_of s) (seen_of s') moves.3.event_is ps moves.3.turns
 
   -- the state behind it
   next : (made : List Item) (e : Event) (ps : List Piece) → Moves s e ps s' → event o (behind made) p ≡ behind (made ++ made_by p ps)
@@ -184,6 +188,7 @@ module _ (ls : TurnsAreEvents) (o : Opening) (rest : List ℕ) (lps : List LpSta
       → IsMidway o rest sought' (set lps p s') t'
   moved sought sought' t t' l e ps did moves has sees =
       let items = rest ++ to_the_end 0 o.calls in
+      let turned : TurnsAs (leaf_table o.machine (given_of o) o.codes p) o.machine (seen_at lps p) e ps (seen_of s') = turns e ps moves in
       let next-is : IsNext o (behind l.made) p s e s' =
       record {
         made = l.made;
@@ -198,16 +203,20 @@ module _ (ls : TurnsAreEvents) (o : Opening) (rest : List ℕ) (lps : List LpSta
         here = seen-at lps p d inside;
         codes = codes-at o 0 lps p d numbered inside;
         pieces = ps;
-        turned = turns e ps moves;
+        turned = turned;
         after = t';
         did = did;
         some = some-event o (behind l.made) p s.lines.now (lines-are t l.made l.merge) has;
       } in
+      let merged : Merge o (leaf_table o.machine (given_of o) o.codes) (l.made ++ made_by p ps) (seen_at (set lps p s')) t' =
+      merge-more o (leaf_table o.machine (given_of o) o.codes) l.made (seen_at lps) (seen_at (set lps p s')) t t' p turned.event_is ps l.merge (omega (arith, inside, count))
+      (subst (λ (x : WordLp). LpTurns (leaf_table o.machine (given_of o) o.codes p) o.machine (seen_at lps p) turned.event_is ps x) (sym (seen-own lps p s' inside)) turned.turns) (λ q ne. seen-other lps p s' q ne) did in
       record {
         made = l.made ++ made_by p ps;
-        merge =
-            merge-more o (leaf_table o.machine (given_of o) o.codes) l.made (seen_at lps) (seen_at (set lps p s')) t t' p e ps l.merge (omega (arith, inside, count))
-            (subst (λ (x : WordLp). LpTurns (leaf_table o.machine (given_of o) o.codes p) o.machine (seen_at lps p) e ps x) (sym (seen-own lps p s' inside)) (turns e ps moves)) (λ q ne. seen-other lps p s' q ne) did;
+        merge = merged;
+        ended =
+            shown-next ls.merges ls.follow o (leaf_table o.machine (given_of o) o.codes) op.few (are-leaves ls o op) op.codes op.apart l.made lps t t' l.merge p inside count turned.event_is ps s' turned.turns did (order (l.made ++ made_by p ps)) (next l.made e ps moves)
+            (where-now ls o l.made (seen_at lps) t op l.merge) (where-now ls o (l.made ++ made_by p ps) (seen_at (set lps p s')) t' op merged) l.ended;
         holds = subst (λ (z : State). sought' z items) (next l.made e ps moves) (sees (behind l.made) items next-is l.holds);
       }
 
@@ -217,7 +226,7 @@ module _ (ls : TurnsAreEvents) (o : Opening) (rest : List ℕ) (lps : List LpSta
       let stay : set lps p s' ≡ lps = ap (set lps p) same ∙ set-get_or lps p d in
       let items = rest ++ to_the_end 0 o.calls in
       subst (λ (z : List LpState). IsMidway o rest sought' z t) (sym stay)
-      (record { made = l.made; merge = l.merge; holds = sees (behind l.made) items (on.idle (behind l.made) p items (lines-are t l.made l.merge ∙ none) l.holds) })
+      (record { made = l.made; merge = l.merge; ended = l.ended; holds = sees (behind l.made) items (on.idle (behind l.made) p items (lines-are t l.made l.merge ∙ none) l.holds) })
 
   numbered-now : s'.place ≡ s.place → given_in s'.given ≡ given_in s.given → s'.codes.now ≡ s.codes.now → AreNumbered o 0 (set lps p s')
   numbered-now same given has =
@@ -261,7 +270,7 @@ module _ {W : Type 0} (seeks : W → Opening → List ℕ → State → List ℕ
         numbered = l.numbered;
         midway = λ u plays.
             let now = l.midway u plays in
-            record { made = now.made; merge = now.merge; holds = h.3 o schedule (play o (order now.made) (start o None)) (rest ++ to_the_end 0 o.calls) now.holds };
+            record { made = now.made; merge = now.merge; ended = now.ended; holds = h.3 o schedule (play o (order now.made) (start o None)) (rest ++ to_the_end 0 o.calls) now.holds };
       })
 
 pub machine-at : (o : Opening) (left : List ℕ) (sought : State → List ℕ → Type 0) (lps : List LpState) (id : TableId) (b : BenchSeen) (p : ℕ) (d : LpState) → IsAtBench o left sought lps id b → p < length lps → (get_or lps p d).place.machine ≡ b.machine
@@ -501,4 +510,4 @@ module _ (ls : TurnsAreEvents) (o : Opening) (schedule : List ℕ) (lps : List L
 
   -- the processors' bundles are the run's
   pub made : IsPermutation (bundles_in (run o schedule)) (bundles_seen lps)
-  made = moved-there o schedule (seen_at lps) lps l.count (λ q i. refl) (subst (λ (s : State). AreBundlesOf (length o.calls) (seen_at lps) (bundles_in s)) same there.bundles) fit
+  made = moved-there o schedule (seen_at lps) lps l.count (λ q i. sym (all-ended (seen_at lps q) (ended q (omega (arith, l.count, i))))) (subst (λ (s : State). AreBundlesOf (length o.calls) (seen_at lps) (bundles_in s)) same there.bundles) fit

@@ -30,7 +30,9 @@ use Rattle.merge_laws.specs.Merge.{table_after, MergePlays, Merge}
 use Rattle.merge_laws.specs.Laws.{IsWhere}
 use Rattle.leaf_table.specs.Given.{Given, given_in, given_of}
 use Rattle.leaf_table.specs.Table.{code_in, leaf_table}
+use Rattle.leaf_dispatch.specs.Ended.{ended_in}
 use Rattle.leaf_dispatch.specs.States.{seen_of, Moves}
+use Rattle.leaf_dispatch.proofs.EndedCalls.{all-ended}
 use Rattle.leaf_dispatch.specs.declared.states.LpState.{LpState}
 use Rattle.script_text.specs.Seen.{ScriptSeen}
 use Rattle.script_text.specs.Laws.{IsInForm}
@@ -236,8 +238,8 @@ module _ (ls : TurnsAreEvents) (threads : ThreadsAreRuns) (o : Opening) (op : Is
         notes o schedule (processors_of after) count (λ q lt. ap (λ (x : Beside). x.notes) (there.beside q lt) ∙ ap (λ (x : WordLp). x.beside.notes) (sym (processor-is q lt))),
       )
 
-  same-made : (q : ℕ) → q < length o.calls → (now q).beside.bundles ≡ (seen_at (processors_of after) q).beside.bundles
-  same-made q lt = ap (λ (x : WordLp). x.beside.bundles) (sym (processor-is q lt))
+  same-made : (q : ℕ) → q < length o.calls → (now q).beside.bundles ≡ ended_in (seen_at (processors_of after) q)
+  same-made q lt = sym (all-ended (now q) (over q lt)) ∙ ap ended_in (sym (processor-is q lt))
 
   fit : (schedule : List ℕ) → FitContainer (bundles_in (run o schedule))
   fit schedule = fit-run ls.bundles o schedule op.slots op.apart

@@ -12,12 +12,13 @@ use Rattle.leaf_engine.specs.declared.events.Event.{Event}
 use Rattle.leaf_engine.specs.declared.processors.Turn.{Turn}
 use Rattle.leaf_engine.specs.declared.processors.Turn.TheVariants as turn
 use Rattle.leaf_engine.specs.Processors.{Turned, has_moved}
-use Rattle.leaf_engine.specs.OwnLists.{Piece, taken_in, WordLp, LpTurns}
+use Rattle.leaf_engine.specs.OwnLists.{Piece, taken_in, WordLp}
 use Rattle.leaf_engine.specs.Merges.{Item, order, AreLeaves, AreCodes}
 use Rattle.merge_laws.specs.Merge.{Merge}
 use Rattle.leaf_table.specs.Given.{Given, given_of}
 use Rattle.leaf_table.specs.Table.{code_in, leaf_table}
 use Rattle.leaf_dispatch.specs.Bounds.{events_left}
+use Rattle.leaf_dispatch.specs.Shown.{TurnsAs}
 use Rattle.leaf_dispatch.specs.States.{seen_of, Moves}
 use Rattle.leaf_dispatch.specs.declared.states.LpState.{LpState}
 use Rattle.script_text.specs.Seen.{ScriptSeen}
@@ -44,7 +45,7 @@ pub record IsNext (o : Opening) (s : State) (p : ℕ) (l : LpState) (e : Event) 
   pub here : now p ≡ seen_of l
   pub codes : code_in l.codes.now ≡ o.codes
   pub pieces : List Piece
-  pub turned : LpTurns (leaf_table o.machine (given_of o) o.codes p) o.machine (now p) e pieces (seen_of l')
+  pub turned : TurnsAs (leaf_table o.machine (given_of o) o.codes p) o.machine (now p) e pieces (seen_of l')
   pub after : Table
   pub did : PlaysTo before (taken_in pieces) after
   pub some : (f : flat.Event) × (next_event o s p ≡ Some f)

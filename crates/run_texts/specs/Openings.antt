@@ -1,7 +1,5 @@
 -- What a script opens.
-use Rattle.std.specs.Prelude.{[]}
 use Rattle.flat_core.specs.Opening.{Opening}
-use Rattle.incoming.specs.Arrivals.{at_slot}
 use Rattle.leaf_table.specs.Given.{Given}
 use Rattle.leaf_table.specs.Table.{code_in}
 use Rattle.script_text.specs.Seen.{ScriptSeen}
@@ -9,7 +7,3 @@ use Rattle.script_text.specs.Seen.{ScriptSeen}
 -- with these secret words, and the bundles that come in
 abbrev pub opening_of : Given → ScriptSeen → Opening
 opening_of given s = record { machine = s.machine; codes = code_in s.codes; calls = s.calls; bundles = given.bundles; secrets = given.secrets }
-
--- alone: its secret words are 0, and no bundles come in
-abbrev pub bare_opening : ScriptSeen → Opening
-bare_opening s = opening_of (record { secrets = λ k. 0; bundles = at_slot [] }) s

@@ -6,13 +6,14 @@ use Rattle.td_words.specs.Seen.{CodeSeen}
 use Rattle.td_words.specs.declared.machines.Machine.{Machine}
 use Rattle.td_words.specs.declared.calls.Call.{Call}
 use Rattle.flat_core.specs.Opening.{Opening}
-use Rattle.flat_core.specs.Event.{State, start}
+use Rattle.flat_core.specs.Event.{State, start, calls_of}
 use Rattle.flat_core.specs.Run.{play, run, to_the_end, bundles_in, told_in}
 use Rattle.flat_core.specs.Bounds.{RunsEnd}
 use Rattle.flat_core.specs.Laws.{OthersStay, AreMerged}
 use Rattle.flat_core.specs.HostText.{host_text}
 use Rattle.flat_core.specs.GuestText.{note_told, guest_text}
 use Rattle.flat_bundles.specs.Bundles.{BundlesAreOfLines}
+use Rattle.flat_bundles.specs.Ended.{own_of, ended_bundles}
 use Rattle.bundle_texts.specs.Ordered.{FitContainer}
 use Rattle.report_text.specs.Lines.{reply_lines, note_line}
 use Rattle.step_core.specs.Words.{word_count}
@@ -23,11 +24,13 @@ use Rattle.trace_table.specs.Merges.{no_table}
 use Rattle.trace_table.specs.Benches.{BenchSeen}
 use Rattle.leaf_engine.specs.OwnLists.{TurnsInPieces, WordLp, first_lp}
 use Rattle.leaf_engine.specs.Merges.{Item, order}
+use Rattle.leaf_engine.specs.Following.{ProcessorsFollow}
 use Rattle.merge_laws.specs.Merge.{Merge}
 use Rattle.merge_laws.specs.Laws.{MergesAreRuns}
 use Rattle.leaf_table.specs.Given.{Given, given_in, given_of}
 use Rattle.leaf_table.specs.Table.{code_in, leaf_table}
 use Rattle.leaf_table.specs.Laws.{CallsHaveLeaves}
+use Rattle.leaf_dispatch.specs.Ended.{ended_in}
 use Rattle.leaf_dispatch.specs.States.{seen_of}
 use Rattle.leaf_dispatch.specs.declared.states.LpState.{LpState}
 use Rattle.run_texts.specs.declared.replay.Texts.{Texts}
@@ -88,11 +91,19 @@ abbrev pub TellAll : (out_bundles guest_out : Option (List ℕ)) → (replies co
 TellAll out_bundles guest_out replies container notes t =
     (t.replies.items ≡ replies) × (t.container.items ≡ where_named out_bundles container) × (t.guest.items ≡ where_named guest_out notes)
 
--- So far the turns that the processors made, which lead to this table, are a merge; and what is sought holds of the state where
--- its events lead, with the items that are left and those up to the end.
+-- Where a run is in this state, a processor has made the bundles of that state that its lines name, and shows those of them whose
+-- calls have ended there, each in the order of that state; and all processors' together are all that have, in an order of their own.
+pub record EndedAreShown (o : Opening) (s : State) (lps : List LpState) : Type 0 where
+  pub made : (p : ℕ) → p < length o.calls → (seen_at lps p).beside.bundles ≡ own_of (calls_of o.calls p) (bundles_in s)
+  pub ended : (p : ℕ) → p < length o.calls → ended_in (seen_at lps p) ≡ own_of (calls_of o.calls p) (ended_bundles o s)
+  pub all : IsPermutation (ended_bundles o s) (bundles_seen lps)
+
+-- So far the turns that the processors made, which lead to this table, are a merge; they show the bundles that have ended in the
+-- state where its events lead; and what is sought holds of that state, with the items that are left and those up to the end.
 pub record IsMidway (o : Opening) (left : List ℕ) (sought : State → List ℕ → Type 0) (lps : List LpState) (t : Table) : Type 0 where
   pub made : List Item
   pub merge : Merge o (leaf_table o.machine (given_of o) o.codes) made (seen_at lps) t
+  pub ended : EndedAreShown o (play o (order made) (start o None)) lps
   pub holds : sought (play o (order made) (start o None)) (left ++ to_the_end 0 o.calls)
 
 -- these items lead from a state to the end of the run under the schedule
@@ -124,6 +135,7 @@ pub record TurnsAreEvents : Type 0 where
   pub merges : MergesAreRuns
   pub leaves : CallsHaveLeaves
   pub pieces : TurnsInPieces
+  pub follow : ProcessorsFollow
   pub runs_end : RunsEnd
   pub others : OthersStay
   pub bundles : BundlesAreOfLines

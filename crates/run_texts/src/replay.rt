@@ -20,8 +20,8 @@ use crate::sealed::sealed_bundles;
 use crate::turns::{Nobody, script_run};
 use flat_bundles::bundle_law;
 use flat_core::{end_laws, event_laws, told_law};
-use leaf_dispatch::{FirstLists, LpState};
-use leaf_engine::turns_in_pieces;
+use leaf_dispatch::{FirstLists, Inputs, LpState};
+use leaf_engine::{Place, processors_follow, turns_in_pieces};
 use leaf_table::{Given, calls_have_leaves};
 use merge_laws::merge_law;
 use report_text::host_lines;
@@ -36,6 +36,7 @@ pub fn laws_of_turns()
     merge_law();
     calls_have_leaves();
     turns_in_pieces();
+    processors_follow();
     end_laws();
     event_laws();
     bundle_law();
@@ -61,16 +62,17 @@ pub(crate) fn processors<'a>(
     let Ok(mut lps) = Vec::with_capacity(alloc, lists.len()) else {
         return Err(OutOfMemory);
     };
+    let inputs = Inputs {
+        codes,
+        first_lists,
+        given,
+    };
     for lp in 0..lists.len() {
-        let state = LpState::new(
-            alloc,
+        let place = Place {
             machine,
-            lp as u8,
-            codes,
-            given,
-            first_lists,
-            &lists[lp],
-        )?;
+            lp: lp as u8,
+        };
+        let state = LpState::new(alloc, place, inputs, &lists[lp])?;
         let Ok(()) = lps.push(state) else {
             return Err(OutOfMemory);
         };

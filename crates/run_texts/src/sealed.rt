@@ -2,21 +2,22 @@
 
 ghost use Rattle.std.specs.Prelude.{◌≡◌, ◌++◌, option_map, IfOk, OnOk};
 ghost use Rattle.bundle_texts.specs.Ordered.{FitContainer, container_text};
+ghost use Rattle.leaf_dispatch.specs.Ended.{ended_seen};
 ghost use Rattle.run_texts.specs.Sealing.{bundles_seen};
 ghost use Rattle.run_texts.specs.Replaying.{where_named};
 
 use crate::key_pairs::KeyPair;
 use aes_block::Aes256;
 use bundle_texts::container_of;
-use bundles::{Bundle, Bundles};
+use bundles::Bundle;
 use gcm_seal::Keys;
-use leaf_dispatch::LpState;
+use leaf_dispatch::{EndedBundles, LpState};
 use std::alloc::Global;
 use td_words::OutOfMemory;
 
-// Adds the bundles of a processor at the end.
-fn add_bundles<'b>(bundles: &'b Bundles, all: &mut Vec<Bundle<'b>>) -> Result<(), OutOfMemory>
-    ensures { OnOk result (all.new.items ≡ all.old.items ++ bundles.now.made) }
+// Adds the bundles of a processor's calls that have ended, at the end.
+fn add_bundles<'b>(bundles: EndedBundles<'b>, all: &mut Vec<Bundle<'b>>) -> Result<(), OutOfMemory>
+    ensures { OnOk result (all.new.items ≡ all.old.items ++ ended_seen bundles.entry) }
 {
     for i in 0..bundles.len() {
         let Some(bundle) = bundles.get(i) else {

@@ -29,7 +29,7 @@ use Rattle.mig_laws.proofs.OneMore.{filling_fills, td_state_fills, vp_state_fill
 use Rattle.mig_laws.proofs.Rest.{Filled}
 use Rattle.mig_laws.proofs.RestRows.{is_import, row-rests}
 use Rattle.runner_laws.specs.Runner.{IsOver, CommitsHold}
-use Rattle.runner_laws.proofs.Goes.{Asked, asked}
+use Rattle.runner_laws.proofs.Moves.{Asked, asked}
 
 -- a bundle is no token back of this session
 abbrev pub OtherBack : (session : ℕ) → Made → Type 0

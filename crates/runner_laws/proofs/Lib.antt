@@ -1,4 +1,5 @@
-pub mod Goes
+pub mod Moves
 pub mod Commits
 pub mod Unstarted
 pub mod Runner
+pub mod Two

@@ -1,13 +1,12 @@
 -- The law of the one host that runs a TD: one event, and runs.
 use Rattle.std.proofs.Common.{◌≡◌, refl, sym, ◌∙◌, ap, subst, ℕ, ◌+◌, List, [], ◌∷◌, ◌++◌, length, Option, Some, None, Bool, true, false, not, ◌==◌}
 use Rattle.std.specs.List.{All, list_any}
-use Rattle.std.proofs.lemmas.Bool.{eqb-true, eq-eqb}
+use Rattle.std.proofs.lemmas.Bool.{eq-eqb}
 use Rattle.td_words.specs.declared.names.PageKind.TheVariants as kind
 use Rattle.td_words.specs.declared.names.LifeState.TheVariants as life
 use Rattle.td_words.specs.declared.names.OpState.{OpState}
 use Rattle.td_words.specs.declared.names.OpState.TheVariants as op
 use Rattle.td_words.specs.declared.calls.Call.{Call}
-use Rattle.td_words.specs.declared.calls.Call.TheVariants as call
 use Rattle.td_words.specs.NameNumber.{op_number, life_number}
 use Rattle.flat_core.specs.World.{World, Image, ClearHeader, Made}
 use Rattle.flat_core.specs.Opening.{Opening, Incoming}
@@ -21,50 +20,68 @@ use Rattle.flat_core.specs.Lawful.{IsAlive, Lawful, is_exporting}
 use Rattle.flat_core.specs.Event.{State, lines_left, start, event}
 use Rattle.flat_core.specs.Run.{play, bundles_in}
 use Rattle.flat_core.specs.Inside.{AreTimely}
-use Rattle.flat_core.specs.Laws.{reached, with_bundles, HoldsInRuns, IsKeptInRuns, ArePagesKnown}
+use Rattle.flat_core.specs.Laws.{reached, with_bundles, HoldsInRuns, ArePagesKnown}
 use Rattle.flat_core.specs.AccessLaw.{IsGuarded}
 use Rattle.flat_core.proofs.Tests.{by_test, tdr_kind}
 use Rattle.flat_core.proofs.Parts.{IsLive}
 use Rattle.flat_core.proofs.Acts.{event_world}
 use Rattle.flat_core.proofs.Always.{occ-of, always_guarded}
-use Rattle.flat_core.proofs.Induction.{in_runs, in_runs_of, play_append}
+use Rattle.flat_core.proofs.Induction.{in_runs, play_append}
 use Rattle.mig_laws.specs.Ivs.{is_forward, is_filling}
 use Rattle.mig_laws.specs.Source.{SourceHolds}
-use Rattle.mig_laws.specs.Paused.{has_start, is_start, is_paused, PausesHold}
+use Rattle.mig_laws.specs.Paused.{has_start, is_start, is_paused}
 use Rattle.mig_laws.specs.Image.{Unforged, IsSource}
-use Rattle.mig_laws.specs.Imports.{DestinationHolds, IsComplete}
+use Rattle.mig_laws.specs.Imports.{TakesIn}
 use Rattle.mig_laws.proofs.Places.{at_place}
-use Rattle.mig_laws.proofs.Ivs.{alive_of}
-use Rattle.mig_laws.proofs.OneMore.{any_at, commit_fills}
+use Rattle.mig_laws.proofs.OneMore.{any_at}
 use Rattle.mig_laws.proofs.Source.{source_kept}
 use Rattle.mig_laws.proofs.Paused.{pauses_kept}
 use Rattle.mig_laws.proofs.Started.{every_run_is_a_source}
-use Rattle.mig_laws.proofs.Destination.{destination_kept}
-use Rattle.runner_laws.specs.Runner.{Runs, LivesThrough, IsExportedAs, IsPausedAs, RestsAs, is_waiting, WaitsAs, IsCalledBack, IsAfterRest, rests, torn_down, called_back, SentTdsRest, CommitsHold, CommitsAreKept, NoneGivenBack, AreUnforged, CommitsAreStarted, SourcesRest, PausedSourcesStay, DestinationsWait, AtMostOneRuns}
-use Rattle.runner_laws.proofs.Goes.{Goes, stays, apart, exports, aborts, returns, waits, commits, row-goes, row-given, noted_stays, Asked, asked, operation_same, reach_same, left_same}
+use Rattle.mig_laws.proofs.Destination.{destination_kept, in_runs_where}
+use Rattle.runner_laws.specs.Runner.{Runs, LivesThrough, IsExportedAs, IsPausedAs, RestsAs, is_waiting, WaitsAs, IsCalledBack, IsAfterRest, rests, torn_down, called_back, SentTdsRest, CommitsHold, CommitsAreKept, NoneGivenBack, AreUnforged, CommitsAreStarted, SourcesRest, PausedSourcesStay, DestinationsWait, AtMostOneRuns, IsImportedAs}
+use Rattle.runner_laws.specs.Kept.{PausesIn, IsUnstarted, IsSent, exported, aborted, SentIsKept, SentRests, IsDue, waiting, noted, DueIsKept, DueWaits, CommitsHaveStarts}
+use Rattle.runner_laws.proofs.Moves.{is_new, Moves, stays, builds, begins, exports, aborts, returns, waits, commits, ends, row-moves, noted_stays, Asked, asked, operation_same, reach_same, left_same}
 use Rattle.runner_laws.proofs.Commits.{OtherBack, row-commits, same_commits}
-use Rattle.runner_laws.proofs.Unstarted.{IsUnstarted, aborted_unstarted, row-unstarted, same_unstarted}
+use Rattle.runner_laws.proofs.Unstarted.{aborted_unstarted, row-unstarted, same_unstarted}
 
 -- whose guest is on a processor, runs
-runs_in : (o : Opening) (s : State) → AreTimely o s → (t : ℕ) → Runs s t → list_any (λ a. op_number a == op_number (s.world.tds.ops t)) running_ops ≡ true
+pub runs_in : (o : Opening) (s : State) → AreTimely o s → (t : ℕ) → Runs s t → list_any (λ a. op_number a == op_number (s.world.tds.ops t)) running_ops ≡ true
 runs_in o s timely t r = subst (λ (z : ℕ). list_any (λ a. op_number a == op_number (s.world.tds.ops z)) running_ops ≡ true) r.own (occ-of o s timely r.lp r.guest r.there).running
 
-waiting_stops : (s : OpState) → is_waiting s ≡ true → list_any (λ a. op_number a == op_number s) running_ops ≡ true → ⊥
+pub waiting_stops : (s : OpState) → is_waiting s ≡ true → list_any (λ a. op_number a == op_number s) running_ops ≡ true → ⊥
 waiting_stops op.MemoryImport e f = cc
 waiting_stops op.StateImport e f = cc
 waiting_stops op.PostImport e f = cc
 waiting_stops op.FailedImport e f = cc
 waiting_stops _ e f = cc
 
-paused_stops : (s : OpState) → is_paused s ≡ true → list_any (λ a. op_number a == op_number s) running_ops ≡ true → ⊥
+pub paused_stops : (s : OpState) → is_paused s ≡ true → list_any (λ a. op_number a == op_number s) running_ops ≡ true → ⊥
 paused_stops op.PausedExport e f = cc
 paused_stops op.PostExport e f = cc
 paused_stops _ e f = cc
 
-paused_exports : (s : OpState) → is_paused s ≡ true → is_exporting s ≡ true
+pub paused_exports : (s : OpState) → is_paused s ≡ true → is_exporting s ≡ true
 paused_exports op.PausedExport e = refl
 paused_exports op.PostExport e = refl
 paused_exports _ e = cc
+
+new_apart : {A : Type 0} (s : OpState) → is_new s ≡ true → (is_exporting s ≡ true → A) × (is_waiting s ≡ true → A)
+new_apart op.Uninitialized e = (λ f. cc, λ f. cc)
+new_apart op.Initialized e = (λ f. cc, λ f. cc)
+new_apart _ e = cc
+
+waiting_apart : {A : Type 0} (s : OpState) → is_waiting s ≡ true → is_exporting s ≡ true → A
+waiting_apart op.MemoryImport e f = cc
+waiting_apart op.StateImport e f = cc
+waiting_apart op.PostImport e f = cc
+waiting_apart op.FailedImport e f = cc
+waiting_apart _ e f = cc
+
+not_exporting : {A : Type 0} (s x : OpState) → s ≡ x → is_exporting x ≡ false → is_exporting s ≡ true → A
+not_exporting s x e off f = absurd (let no : true ≡ false = sym f ∙ (ap is_exporting e ∙ off) in cc)
+
+not_waiting : {A : Type 0} (s x : OpState) → s ≡ x → is_waiting x ≡ false → is_waiting s ≡ true → A
+not_waiting s x e off f = absurd (let no : true ≡ false = sym f ∙ (ap is_waiting e ∙ off) in cc)
 
 rest_stops : (o : Opening) (s : State) (t session : ℕ) → AreTimely o s → RestsAs s.world t session → Runs s t → ⊥
 rest_stops o s t session timely r runs = let no : false ≡ true = ap (λ (x : OpState). list_any (λ a. op_number a == op_number x) running_ops) (sym r.started) ∙ runs_in o s timely t runs in cc
@@ -96,23 +113,25 @@ module _ (o : Opening) (s : State) (p t session : ℕ) (r : RestsAs s.world t se
   abbrev standing : is_exporting (w.tds.ops t) ≡ true
   standing = r.exported.exporting.standing
 
-  call_rests : (c : Call) (cs : List Call) → lines_left o p (s.lps p) ≡ c ∷ cs → (v : World) → Goes o c w v t → IsAfterRest o s p t session v
+  call_rests : (c : Call) (cs : List Call) → lines_left o p (s.lps p) ≡ c ∷ cs → (v : World) → Moves o c w v t → IsAfterRest o s p t session v
   call_rests c cs line v (stays ops same) = alive_or v t
       (λ alive. rests (record { exported = exported_still w v t session r.exported alive (ap is_exporting ops ∙ standing) same; started = ops ∙ r.started }))
       (λ dead. torn_down dead)
-  call_rests c cs line v (apart off other) = absurd (let x : true ≡ false = sym standing ∙ off in cc)
-  call_rests c cs line v (exports off never still same) = absurd (never r.started)
-  call_rests c cs line v (aborts off never is) = absurd (never r.started)
-  call_rests c cs line v (returns off back runnable) = called_back c cs line (subst (λ (n : ℕ). IsCalledBack o t n c) r.exported.own back) runnable
-  call_rests c cs line v (waits off still same) = absurd (let x : true ≡ false = sym standing ∙ off in cc)
-  call_rests c cs line v (commits off given) = absurd (let x : true ≡ false = sym standing ∙ off in cc)
+  call_rests c cs line v (builds new) = (new_apart (w.tds.ops t) new).0 standing
+  call_rests c cs line v (begins was now) = not_exporting (w.tds.ops t) op.Runnable was refl standing
+  call_rests c cs line v (exports on never still same) = absurd (never r.started)
+  call_rests c cs line v (aborts on never is) = absurd (never r.started)
+  call_rests c cs line v (returns was token runnable) = called_back c cs line (subst (λ (n : ℕ). IsCalledBack o t n c) r.exported.own token) runnable
+  call_rests c cs line v (waits on still same) = waiting_apart (w.tds.ops t) on standing
+  call_rests c cs line v (commits on live given) = waiting_apart (w.tds.ops t) on standing
+  call_rests c cs line v (ends was now) = not_exporting (w.tds.ops t) op.LiveImport was refl standing
 
   same_rests : (v : World) → asked v ≡ asked w → IsAfterRest o s p t session v
   same_rests v same = rests (record { exported = same_exported w v t session same r.exported; started = ap (λ (z : Asked). z.ops t) same ∙ r.started })
 
   event_rests : IsAfterRest o s p t session (event o s p).world
   event_rests = event_world o s p (IsAfterRest o s p t session) (same_rests w refl)
-      (λ c cs line none ps. call_rests c cs line _ (row-goes o p w c ps t r.exported.exporting.alive))
+      (λ c cs line none ps. call_rests c cs line _ (row-moves o p w c ps t r.exported.exporting.alive.kind))
       (λ c cs g op row i is ps. same_rests _ (operation_same o g.tdr g.vp (length (s.lps p).replies + 1) op row w is))
       (λ c cs g op access k gpa page i is found. same_rests _ (reach_same g.tdr g.vp access k gpa page w))
       (λ c cs g i. same_rests _ (left_same g.vp w))
@@ -148,44 +167,16 @@ pub none_given_back : NoneGivenBack
 none_given_back o ws schedule session from e = ((in_runs (λ o s. ((IsGuarded o s × ArePagesKnown s.world) × SourceHolds s.world) × CommitsHold s.world) commits_kept o ws schedule).1 session from e).kept
 
 -- What was committed has a start token, where no tag is forged.
-abbrev GivenStarted : (source w : World) → Type 0
-GivenStarted source w = (session : ℕ) (from : Image) → w.hidden.given session ≡ Some from → has_start session source.outgoing.bundles ≡ true
+pub commits_have_starts : CommitsHaveStarts
+commits_have_starts source w d session start e =
+    let c = (d.given session start e).come.complete in
+    subst (λ (bs : List Made). has_start session bs ≡ true) (sym c.place) (any_at (is_start session) c.before c.after c.token c.start)
 
-module _ (source : World) (src : IsSource source) (o : Opening) where
-  complete_starts : (session : ℕ) (counts : List ℕ) → IsComplete session counts source.outgoing.bundles → has_start session source.outgoing.bundles ≡ true
-  complete_starts session counts c = subst (λ (bs : List Made). has_start session bs ≡ true) (sym c.place) (any_at (is_start session) c.before c.after c.token c.start)
-
-  row_started : (me : ℕ) (w : World) → DestinationHolds source w → GivenStarted source w → (c : Call) → Passes ((row_of o me c).items w) → GivenStarted source ((row_of o me c).act w)
-  row_started me w d h (call.ImportCommit t) ps session from e = by_test (session == w.tds.sessions t)
-      (λ y. let ops = commit_fills (w.tds.ops t) ps.1.1.1.1.0 in
-      let own = (d.imports t (record { alive = alive_of w t ps.1.0 ps.1.1.0; standing = ops.0 })).complete ops.1 in
-      subst (λ (n : ℕ). has_start n source.outgoing.bundles ≡ true) (sym (eqb-true session _ y)) (complete_starts (w.tds.sessions t) _ own))
-      (λ y. h session from (rw y at e))
-  row_started me w d h c ps session from e = h session from (ap (λ (f : ℕ → Option Image). f session) (sym (row-given o me w c refl)) ∙ e)
-
-  same_started : (w v : World) → asked v ≡ asked w → GivenStarted source w → GivenStarted source v
-  same_started w v same h session from e = h session from (ap (λ (z : Asked). z.given session) (sym same) ∙ e)
-
-  event_started : (s : State) (p : ℕ) → DestinationHolds source s.world → GivenStarted source s.world → GivenStarted source (event o s p).world
-  event_started s p d h =
-      let w : World = s.world in
-      event_world o s p (GivenStarted source) h
-      (λ c cs line none ps. row_started p w d h c ps)
-      (λ c cs g op row i is ps. same_started w (tell_words (row.tells w) (row.act w)) (operation_same o g.tdr g.vp (length (s.lps p).replies + 1) op row w is) h)
-      (λ c cs g op access k gpa page i is found. same_started w (reach g.tdr g.vp access k gpa page w) (reach_same g.tdr g.vp access k gpa page w) h)
-      (λ c cs g i. same_started w (leave_guest g.vp w) (left_same g.vp w) h)
-
-abbrev StartedHolds : World → Opening → State → Type 0
-StartedHolds source o s = ((IsGuarded o s × ArePagesKnown s.world) × (Unforged o source.outgoing.bundles → DestinationHolds source s.world)) × (Unforged o source.outgoing.bundles → GivenStarted source s.world)
-
-started_kept : (source : World) → IsSource source → IsKeptInRuns (StartedHolds source)
-started_kept source src = record {
-  start = λ o ws. ((destination_kept source src).start o ws, λ unforged session from e. none_is_some e);
-  event = λ o s p h. ((destination_kept source src).event o s p h.0, λ unforged. event_started source src o s p (h.0.1 unforged) (h.1 unforged));
-}
-
-started_in : (source : World) → IsSource source → (o : Opening) (ws : Option (List ℕ)) (schedule : List ℕ) → Unforged o source.outgoing.bundles → GivenStarted source (reached o ws schedule).world
-started_in source src o ws schedule unforged = (in_runs_of (StartedHolds source) (started_kept source src) o ws schedule).1 unforged
+pub started_in : (source : World) → IsSource source → (o : Opening) (ws : Option (List ℕ)) (schedule : List ℕ) → Unforged o source.outgoing.bundles
+    → (session : ℕ) (start : Image) → (reached o ws schedule).world.hidden.given session ≡ Some start → has_start session source.outgoing.bundles ≡ true
+started_in source src o ws schedule unforged =
+    commits_have_starts source (reached o ws schedule).world
+    (in_runs_where (λ o. Unforged o source.outgoing.bundles) (TakesIn source) (destination_kept source src) o ws schedule unforged).1
 
 -- Runs
 
@@ -197,68 +188,83 @@ lives_now o (p ∷ ps) s t h = h.0
 in_parts : (holds : Opening → State → Type 0) → HoldsInRuns holds → (o : Opening) (ws : Option (List ℕ)) (before after : List ℕ) → holds o (play o after (reached o ws before))
 in_parts holds h o ws before after = subst (λ (s : State). holds o s) (play_append o before after (start o ws)) (h o ws (before ++ after))
 
-abbrev PausesIn : Opening → State → Type 0
-PausesIn o s = ((IsGuarded o s × ArePagesKnown s.world) × SourceHolds s.world) × PausesHold s.world
-
--- the source: the TD is exported still, and paused still where it was; or it was aborted before the start token
-data IsSent (was_paused : Bool) (w : World) (t session : ℕ) : Type 0 where
-  exported : IsExportedAs w t session → (was_paused ≡ true → is_paused (w.tds.ops t) ≡ true) → IsSent was_paused w t session
-  aborted : IsUnstarted w session → IsSent was_paused w t session
-
 -- what never began before its start token never does
-module _ (o : Opening) (session : ℕ) where
-  event_unstarted : (s : State) (p : ℕ) → PausesIn o s → IsUnstarted s.world session → IsUnstarted (event o s p).world session
-  event_unstarted s p h k =
+module _ (o : Opening) (bundles : ℕ → Option Incoming) (session : ℕ) (s : State) (p : ℕ) (h : PausesIn o s) (k : IsUnstarted s.world session) where
+  event_unstarted : IsUnstarted (event (with_bundles o bundles) s p).world session
+  event_unstarted =
+      let q : Opening = with_bundles o bundles in
       let u : World = s.world in
-      let l : Lawful o.machine u = h.0.0.0.timely.lawful in
-      event_world o s p (λ v. IsUnstarted v session) k
-      (λ c cs line none ps. row-unstarted o p u l session k c ps)
-      (λ c cs g op row i is ps. same_unstarted u _ session (operation_same o g.tdr g.vp (length (s.lps p).replies + 1) op row u is) k)
+      let l : Lawful q.machine u = h.0.0.0.timely.lawful in
+      event_world q s p (λ v. IsUnstarted v session) k
+      (λ c cs line none ps. row-unstarted q p u l session k c ps)
+      (λ c cs g op row i is ps. same_unstarted u _ session (operation_same q g.tdr g.vp (length (s.lps p).replies + 1) op row u is) k)
       (λ c cs g op access r gpa page i is found. same_unstarted u _ session (reach_same g.tdr g.vp access r gpa page u) k)
       (λ c cs g i. same_unstarted u _ session (left_same g.vp u) k)
 
-  all_unstarted : (ps : List ℕ) (s : State) → PausesIn o s → IsUnstarted s.world session → IsUnstarted (play o ps s).world session
-  all_unstarted [] s h k = k
-  all_unstarted (p ∷ ps) s h k = all_unstarted ps (event o s p) (pauses_kept.event o o.bundles s p h) (event_unstarted s p h k)
+all_unstarted : (o : Opening) (session : ℕ) (ps : List ℕ) (s : State) → PausesIn o s → IsUnstarted s.world session → IsUnstarted (play o ps s).world session
+all_unstarted o session [] s h k = k
+all_unstarted o session (p ∷ ps) s h k = all_unstarted o session ps (event o s p) (pauses_kept.event o o.bundles s p h) (event_unstarted o o.bundles session s p h k)
+
+-- the source: what is sent stays so, or is called back
+pub data StaysOr (B : Type 0) (was_paused : Bool) (w : World) (t session : ℕ) : Type 0 where
+  goes_on : IsSent was_paused w t session → StaysOr B was_paused w t session
+  instead : B → StaysOr B was_paused w t session
+
+module _ (B : Type 0) (was_paused : Bool) (o : Opening) (bundles : ℕ → Option Incoming) (s : State) (p t session : ℕ) (h : PausesIn o s) (called : (c : Call) → IsCalledBack (with_bundles o bundles) t session c → B) where
+  abbrev now : Opening
+  now = with_bundles o bundles
+
+  abbrev u : World
+  u = s.world
+
+  abbrev Pauses : World → Type 0
+  Pauses v = was_paused ≡ true → is_paused (v.tds.ops t) ≡ true
+
+  abbrev Then : World → Type 0
+  Then v = StaysOr B was_paused v t session
+
+  goes_sent : (c : Call) (v : World) → IsExportedAs u t session → Pauses u → Moves now c u v t → IsAlive v.pages v.tds t → Then v
+  goes_sent c v r was (stays ops same) alive = goes_on (exported (exported_still u v t session r alive (ap is_exporting ops ∙ r.exporting.standing) same) (λ e. ap is_paused ops ∙ was e))
+  goes_sent c v r was (builds new) alive = (new_apart (u.tds.ops t) new).0 r.exporting.standing
+  goes_sent c v r was (begins runs live) alive = not_exporting (u.tds.ops t) op.Runnable runs refl r.exporting.standing
+  goes_sent c v r was (exports on never paused same) alive = goes_on (exported (exported_still u v t session r alive (paused_exports (v.tds.ops t) paused) same) (λ e. paused))
+  goes_sent c v r was (aborts on never is) alive =
+      goes_on (aborted (subst (λ (z : World). IsUnstarted z session) (sym is) (subst (λ (n : ℕ). IsUnstarted (set_op t op.Runnable u) n) r.own (aborted_unstarted u t h.0.1 h.1 r.exporting never))))
+  goes_sent c v r was (returns sent token runnable) alive = instead (called c (subst (λ (n : ℕ). IsCalledBack now t n c) r.own token))
+  goes_sent c v r was (waits on still_on same) alive = waiting_apart (u.tds.ops t) on r.exporting.standing
+  goes_sent c v r was (commits on live given) alive = waiting_apart (u.tds.ops t) on r.exporting.standing
+  goes_sent c v r was (ends late runs) alive = not_exporting (u.tds.ops t) op.LiveImport late refl r.exporting.standing
+
+  same_sent : (v : World) → asked v ≡ asked u → IsExportedAs u t session → Pauses u → Then v
+  same_sent v same r was = goes_on (exported (same_exported u v t session same r) (λ e. ap (λ (z : Asked). is_paused (z.ops t)) same ∙ was e))
+
+  pub event_sent : IsSent was_paused u t session → IsAlive (event now s p).world.pages (event now s p).world.tds t → Then (event now s p).world
+  event_sent (aborted k) mine = goes_on (aborted (event_unstarted o bundles session s p h k))
+  event_sent (exported r was) mine = event_world now s p (λ v. IsAlive v.pages v.tds t → Then v) (λ alive. goes_on (exported r was))
+      (λ c cs line none ps alive. goes_sent c _ r was (row-moves now p u c ps t r.exporting.alive.kind) alive)
+      (λ c cs g op row i is ps alive. same_sent _ (operation_same now g.tdr g.vp (length (s.lps p).replies + 1) op row u is) r was)
+      (λ c cs g op access k gpa page i is found alive. same_sent _ (reach_same g.tdr g.vp access k gpa page u) r was)
+      (λ c cs g i alive. same_sent _ (left_same g.vp u) r was) mine
+
+pub sent_is_kept : SentIsKept
+sent_is_kept was_paused o bundles s p t session h never alive k = by (event_sent ⊥ was_paused o bundles s p t session h never k alive)
+  where
+    by : StaysOr ⊥ was_paused (event (with_bundles o bundles) s p).world t session → IsSent was_paused (event (with_bundles o bundles) s p).world t session
+    by (goes_on k) = k
+    by (instead x) = absurd x
 
 module _ (o : Opening) (t session : ℕ) (never_back : (c : Call) → IsCalledBack o t session c → ⊥) (was_paused : Bool) where
-  module _ (s : State) (p : ℕ) (h : PausesIn o s) where
-    abbrev u : World
-    u = s.world
-
-    abbrev Pauses : World → Type 0
-    Pauses v = was_paused ≡ true → is_paused (v.tds.ops t) ≡ true
-
-    goes_sent : (c : Call) (v : World) → IsExportedAs u t session → Pauses u → Goes o c u v t → IsAlive v.pages v.tds t → IsSent was_paused v t session
-    goes_sent c v r was (stays ops same) alive = exported (exported_still u v t session r alive (ap is_exporting ops ∙ r.exporting.standing) same) (λ e. ap is_paused ops ∙ was e)
-    goes_sent c v r was (apart off other) alive = absurd (let x : true ≡ false = sym r.exporting.standing ∙ off in cc)
-    goes_sent c v r was (exports off never still same) alive = exported (exported_still u v t session r alive (paused_exports (v.tds.ops t) still) same) (λ e. still)
-    goes_sent c v r was (aborts off never is) alive = aborted (subst (λ (z : World). IsUnstarted z session) (sym is) (subst (λ (n : ℕ). IsUnstarted (set_op t op.Runnable u) n) r.own (aborted_unstarted u t h.0.1 h.1 r.exporting never)))
-    goes_sent c v r was (returns off back runnable) alive = absurd (never_back c (subst (λ (n : ℕ). IsCalledBack o t n c) r.own back))
-    goes_sent c v r was (waits off still same) alive = absurd (let x : true ≡ false = sym r.exporting.standing ∙ off in cc)
-    goes_sent c v r was (commits off given) alive = absurd (let x : true ≡ false = sym r.exporting.standing ∙ off in cc)
-
-    same_pauses : (v : World) → asked v ≡ asked u → Pauses u → Pauses v
-    same_pauses v same was e = ap (λ (z : Asked). is_paused (z.ops t)) same ∙ was e
-
-    same_sent : (v : World) → asked v ≡ asked u → IsExportedAs u t session → Pauses u → IsSent was_paused v t session
-    same_sent v same r was = exported (same_exported u v t session same r) (same_pauses v same was)
-
-    event_sent : IsSent was_paused u t session → IsAlive u.pages u.tds t → IsAlive (event o s p).world.pages (event o s p).world.tds t → IsSent was_paused (event o s p).world t session
-    event_sent (aborted k) now mine = aborted (event_unstarted o session s p h k)
-    event_sent (exported r was) now mine = event_world o s p (λ v. IsAlive v.pages v.tds t → IsSent was_paused v t session) (λ alive. exported r was)
-        (λ c cs line none ps alive. goes_sent c _ r was (row-goes o p u c ps t now) alive)
-        (λ c cs g op row i is ps alive. same_sent _ (operation_same o g.tdr g.vp (length (s.lps p).replies + 1) op row u is) r was)
-        (λ c cs g op access k gpa page i is found alive. same_sent _ (reach_same g.tdr g.vp access k gpa page u) r was)
-        (λ c cs g i alive. same_sent _ (left_same g.vp u) r was) mine
-
   all_sent : (ps : List ℕ) (s : State) → PausesIn o s → IsSent was_paused s.world t session → LivesThrough o ps s t → IsSent was_paused (play o ps s).world t session
   all_sent [] s h k lives = k
-  all_sent (p ∷ ps) s h k lives = all_sent ps (event o s p) (pauses_kept.event o o.bundles s p h) (event_sent s p h k lives.0 (lives_now o ps (event o s p) t lives.1)) lives.1
+  all_sent (p ∷ ps) s h k lives =
+      all_sent ps (event o s p) (pauses_kept.event o o.bundles s p h) (sent_is_kept was_paused o o.bundles s p t session h never_back (lives_now o ps (event o s p) t lives.1) k) lives.1
 
 rests_then : (o : Opening) (s : State) (t session : ℕ) (was_paused : Bool) → PausesIn o s → has_start session s.world.outgoing.bundles ≡ true → IsSent was_paused s.world t session → RestsAs s.world t session
 rests_then o s t session was_paused h started (exported r was) = record { exported = r; started = h.1.started t r.exporting (subst (λ (n : ℕ). has_start n s.world.outgoing.bundles ≡ true) (sym r.own) started) }
 rests_then o s t session was_paused h started (aborted k) = absurd (let x : true ≡ false = sym started ∙ k.unstarted in cc)
+
+pub sent_rests : SentRests
+sent_rests was_paused o s t session h started k = (let r = rests_then o s t session was_paused h started k in (r, rest_stops o s t session h.0.0.0.timely r))
 
 -- a token back is one that the destination made
 never_returned : (q o : Opening) (made back : List Made) (t session : ℕ) → AreUnforged q o made back → All (OtherBack session) back → (c : Call) → IsCalledBack q t session c → ⊥
@@ -308,8 +314,7 @@ sources_rest q o tells ws before later more schedule t session from unforged exp
     let s : State = play q later (reached q tells before) in
     let h = pauses_there q o tells ws before later more schedule t session from unforged e in
     let sent = sent_there q o tells ws before later more schedule t session from unforged e false (exported exporting (λ x. cc)) lives in
-    let r = rests_then q s t session false h started sent in
-    (r, rest_stops q s t session h.0.0.0.timely r)
+    sent_rests false q s t session h started sent
 
 pub paused_sources_stay : PausedSourcesStay
 paused_sources_stay q o tells ws before later more schedule t session from unforged pausing lives e =
@@ -320,62 +325,71 @@ paused_sources_stay q o tells ws before later more schedule t session from unfor
     (r, λ runs. paused_stops (s.world.tds.ops t) r.paused (runs_in q s h.0.0.0.timely t runs))
 
 -- the destination: the TD waits, or its session was committed
-data IsDue (w : World) (t session : ℕ) : Type 0 where
-  waiting : WaitsAs w t session → IsDue w t session
-  noted : (image : Image) → w.hidden.given session ≡ Some image → IsDue w t session
+module _ (o : Opening) (bundles : ℕ → Option Incoming) (s : State) (p t session : ℕ) where
+  abbrev met : Opening
+  met = with_bundles o bundles
 
-module _ (o : Opening) (t session : ℕ) where
-  module _ (s : State) (p : ℕ) where
-    abbrev x : World
-    x = s.world
+  abbrev x : World
+  x = s.world
 
-    goes_due : (c : Call) (v : World) → WaitsAs x t session → Goes o c x v t → IsAlive v.pages v.tds t → IsDue v t session
-    goes_due c v r (stays ops same) alive = waiting (record { alive = alive; waiting = ap is_waiting ops ∙ r.waiting; own = same ∙ r.own })
-    goes_due c v r (apart other off) alive = absurd (let n : true ≡ false = sym r.waiting ∙ off in cc)
-    goes_due c v r (exports off never still same) alive = absurd (let n : true ≡ false = sym r.waiting ∙ off in cc)
-    goes_due c v r (aborts off never is) alive = absurd (let n : true ≡ false = sym r.waiting ∙ off in cc)
-    goes_due c v r (returns off back runnable) alive = absurd (let n : true ≡ false = sym r.waiting ∙ off in cc)
-    goes_due c v r (waits off still same) alive = waiting (record { alive = alive; waiting = still; own = same ∙ r.own })
-    goes_due c v r (commits off given) alive =
-        let self : (session == x.tds.sessions t) ≡ true = eq-eqb session (x.tds.sessions t) (sym r.own) in
-        noted (image_of x t) (ap (λ (f : ℕ → Option Image). f session) given ∙ rw self refl)
+  goes_due : (c : Call) (v : World) → WaitsAs x t session → Moves met c x v t → IsAlive v.pages v.tds t → IsDue v t session
+  goes_due c v r (stays ops same) alive = waiting (record { alive = alive; waiting = ap is_waiting ops ∙ r.waiting; own = same ∙ r.own })
+  goes_due c v r (builds new) alive = (new_apart (x.tds.ops t) new).1 r.waiting
+  goes_due c v r (begins was now) alive = not_waiting (x.tds.ops t) op.Runnable was refl r.waiting
+  goes_due c v r (exports on never still same) alive = waiting_apart (x.tds.ops t) r.waiting on
+  goes_due c v r (aborts on never is) alive = waiting_apart (x.tds.ops t) r.waiting on
+  goes_due c v r (returns was token runnable) alive = not_waiting (x.tds.ops t) op.PostExport was refl r.waiting
+  goes_due c v r (waits on still same) alive = waiting (record { alive = alive; waiting = still; own = same ∙ r.own })
+  goes_due c v r (commits on live given) alive =
+      let self : (session == x.tds.sessions t) ≡ true = eq-eqb session (x.tds.sessions t) (sym r.own) in
+      noted (image_of x t) (ap (λ (f : ℕ → Option Image). f session) given ∙ rw self refl)
+  goes_due c v r (ends was now) alive = not_waiting (x.tds.ops t) op.LiveImport was refl r.waiting
 
-    call_due : (c : Call) → Passes ((row_of o p c).items x) → IsDue x t session → IsAlive x.pages x.tds t → IsAlive ((row_of o p c).act x).pages ((row_of o p c).act x).tds t → IsDue ((row_of o p c).act x) t session
-    call_due c ps (waiting r) now alive = goes_due c _ r (row-goes o p x c ps t now) alive
-    call_due c ps (noted image e) now alive = let n = noted_stays o p x c session image e in noted n.0 n.1
+  call_due : (c : Call) → Passes ((row_of met p c).items x) → IsDue x t session → IsAlive ((row_of met p c).act x).pages ((row_of met p c).act x).tds t → IsDue ((row_of met p c).act x) t session
+  call_due c ps (waiting r) alive = goes_due c _ r (row-moves met p x c ps t r.alive.kind) alive
+  call_due c ps (noted image e) alive = let n = noted_stays met p x c session image e in noted n.0 n.1
 
-    same_due : (v : World) → asked v ≡ asked x → IsDue x t session → IsDue v t session
-    same_due v same (waiting r) = waiting (record { alive = same_alive x v t same r.alive; waiting = ap (λ (z : Asked). is_waiting (z.ops t)) same ∙ r.waiting; own = ap (λ (z : Asked). z.sessions t) same ∙ r.own })
-    same_due v same (noted image e) = noted image (ap (λ (z : Asked). z.given session) same ∙ e)
+  same_due : (v : World) → asked v ≡ asked x → IsDue x t session → IsDue v t session
+  same_due v same (waiting r) = waiting (record { alive = same_alive x v t same r.alive; waiting = ap (λ (z : Asked). is_waiting (z.ops t)) same ∙ r.waiting; own = ap (λ (z : Asked). z.sessions t) same ∙ r.own })
+  same_due v same (noted image e) = noted image (ap (λ (z : Asked). z.given session) same ∙ e)
 
-    event_due : IsDue x t session → IsAlive x.pages x.tds t → IsAlive (event o s p).world.pages (event o s p).world.tds t → IsDue (event o s p).world t session
-    event_due k now = event_world o s p (λ v. IsAlive v.pages v.tds t → IsDue v t session) (λ alive. k)
-        (λ c cs line none ps alive. call_due c ps k now alive)
-        (λ c cs g op row i is ps alive. same_due _ (operation_same o g.tdr g.vp (length (s.lps p).replies + 1) op row x is) k)
-        (λ c cs g op access r gpa page i is found alive. same_due _ (reach_same g.tdr g.vp access r gpa page x) k)
-        (λ c cs g i alive. same_due _ (left_same g.vp x) k)
+  event_due : IsAlive (event met s p).world.pages (event met s p).world.tds t → IsDue x t session → IsDue (event met s p).world t session
+  event_due mine k = event_world met s p (λ v. IsAlive v.pages v.tds t → IsDue v t session) (λ alive. k)
+      (λ c cs line none ps alive. call_due c ps k alive)
+      (λ c cs g op row i is ps alive. same_due _ (operation_same met g.tdr g.vp (length (s.lps p).replies + 1) op row x is) k)
+      (λ c cs g op access r gpa page i is found alive. same_due _ (reach_same g.tdr g.vp access r gpa page x) k)
+      (λ c cs g i alive. same_due _ (left_same g.vp x) k) mine
 
-  all_due : (ps : List ℕ) (s : State) → IsDue s.world t session → LivesThrough o ps s t → IsDue (play o ps s).world t session
-  all_due [] s k lives = k
-  all_due (p ∷ ps) s k lives = all_due ps (event o s p) (event_due s p k lives.0 (lives_now o ps (event o s p) t lives.1)) lives.1
+pub due_is_kept : DueIsKept
+due_is_kept o bundles s p t session alive k = event_due o bundles s p t session alive k
+
+all_due : (o : Opening) (t session : ℕ) (ps : List ℕ) (s : State) → IsDue s.world t session → LivesThrough o ps s t → IsDue (play o ps s).world t session
+all_due o t session [] s k lives = k
+all_due o t session (p ∷ ps) s k lives = all_due o t session ps (event o s p) (event_due o o.bundles s p t session (lives_now o ps (event o s p) t lives.1) k) lives.1
 
 waits_then : (w : World) (t session : ℕ) → w.hidden.given session ≡ None → IsDue w t session → WaitsAs w t session
 waits_then w t session none (waiting r) = r
 waits_then w t session none (noted image e) = none_is_some (sym none ∙ e)
 
-filling_waits : (s : OpState) → is_filling s ≡ true → is_waiting s ≡ true
+pub filling_waits : (s : OpState) → is_filling s ≡ true → is_waiting s ≡ true
 filling_waits op.MemoryImport e = refl
 filling_waits op.StateImport e = refl
 filling_waits op.PostImport e = refl
 filling_waits _ e = cc
 
+pub due_waits : DueWaits
+due_waits o s t session timely none k =
+    let r = waits_then s.world t session none k in
+    (r, λ runs. waiting_stops (s.world.tds.ops t) r.waiting (runs_in o s timely t runs))
+
+pub importing_due : (w : World) (t session : ℕ) → IsImportedAs w t session → IsDue w t session
+importing_due w t session h = waiting (record { alive = h.importing.alive; waiting = filling_waits _ h.importing.standing; own = h.own })
+
 pub destinations_wait : DestinationsWait
 destinations_wait o ws before later t session importing lives none =
     let first : State = reached o ws before in
     let destination : State = play o later first in
-    let begun : IsDue first.world t session = waiting (record { alive = importing.importing.alive; waiting = filling_waits _ importing.importing.standing; own = importing.own }) in
-    let r = waits_then destination.world t session none (all_due o t session later first begun lives) in
-    (r, λ runs. waiting_stops (destination.world.tds.ops t) r.waiting (runs_in o destination (in_parts IsGuarded always_guarded o ws before later).timely t runs))
+    due_waits o destination t session (in_parts IsGuarded always_guarded o ws before later).timely none (all_due o t session later first (importing_due first.world t session importing) lives)
 
 -- what was committed stays committed
 module _ (o : Opening) (session : ℕ) where

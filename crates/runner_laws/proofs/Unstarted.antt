@@ -1,5 +1,5 @@
 -- A session that ended before its start token has none, and never gets one: what keeps it, act by act.
-use Rattle.std.proofs.Common.{◌≡◌, ◌≢◌, refl, sym, ◌∙◌, ap, subst, ℕ, zero, suc, ◌+◌, ◌≤◌, List, [], ◌∷◌, ◌++◌, None, true, false, ◌==◌, arith}
+use Rattle.std.proofs.Common.{◌≡◌, refl, sym, ◌∙◌, ap, subst, ℕ, zero, suc, ◌+◌, List, [], ◌∷◌, ◌++◌, None, true, false, ◌==◌, arith}
 use Rattle.std.proofs.lemmas.Bool.{eqb-true, eq-eqb, ne_eqb}
 use Rattle.td_words.specs.declared.names.OpState.TheVariants as op
 use Rattle.td_words.specs.declared.calls.Call.{Call}
@@ -21,12 +21,8 @@ use Rattle.mig_laws.specs.Paused.{PausesHold}
 use Rattle.mig_laws.proofs.Ivs.{alive_of}
 use Rattle.mig_laws.proofs.Rows.{over_beside, row-beside}
 use Rattle.mig_laws.proofs.Paused.{start_end, not_post}
-use Rattle.runner_laws.proofs.Goes.{Asked, asked}
-
-pub record IsUnstarted (w : World) (session : ℕ) : Type 0 where
-  pub exported : session ≤ w.key_table.last_exported
-  pub ended : (t : ℕ) → IsExporting w t → w.tds.sessions t ≢ session
-  pub unstarted : has_start session w.outgoing.bundles ≡ false
+use Rattle.runner_laws.specs.Kept.{IsUnstarted}
+use Rattle.runner_laws.proofs.Moves.{Asked, asked}
 
 -- of an export that stands afterwards: it stood before, under the same number
 record GoesOn (w v : World) (x : ℕ) : Type 0 where

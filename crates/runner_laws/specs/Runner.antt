@@ -101,11 +101,15 @@ CommitsAreKept = IsKept (λ o s. ((IsGuarded o s × ArePagesKnown s.world) × So
 abbrev pub NoneGivenBack : Type 0
 NoneGivenBack = HoldsInRuns (λ o s. (session : ℕ) (start : Image) → s.world.hidden.given session ≡ Some start → All (λ b. is_forward b ≡ false → b.header.session ≢ session) (bundles_in s))
 
+-- each bundle of type 6 that comes in and opens is one of these
+abbrev pub Returned : Opening → List Made → Type 0
+Returned o back = (slot : ℕ) (b : Incoming) (h : ClearHeader) → o.bundles slot ≡ Some b → b.header ≡ Ok h → b.«opens» ≡ true → h.kind ≡ 6 → IsMade h b.payload back
+
 -- No tag is forged, and no third run has the keys: each bundle of types 0 to 5 that comes into the destination, of whatever session,
 -- and each of type 6 that comes into the source, was made by the other where it opens.
 pub record AreUnforged (source destination : Opening) (made back : List Made) : Type 0 where
   pub forward : Unforged destination made
-  pub returned : (slot : ℕ) (b : Incoming) (h : ClearHeader) → source.bundles slot ≡ Some b → b.header ≡ Ok h → b.«opens» ≡ true → h.kind ≡ 6 → IsMade h b.payload back
+  pub returned : Returned source back
 
 -- A session that the destination has committed has its start token from the source.
 abbrev pub CommitsAreStarted : Type 0

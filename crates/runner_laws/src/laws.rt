@@ -1,6 +1,7 @@
 //! The law of the one host that runs a TD, as the contract of a function that does nothing.
 
 ghost use Rattle.runner_laws.specs.Runner.{SentTdsRest, CommitsAreKept, NoneGivenBack, CommitsAreStarted, SourcesRest, PausedSourcesStay, DestinationsWait, AtMostOneRuns};
+ghost use Rattle.runner_laws.specs.Kept.{SentIsKept, SentRests, DueIsKept, DueWaits, CommitsHaveStarts, TwoAreKept};
 
 /// Of two hosts that both hold a TD, at most one runs it. Take any two runs, where each bundle of types 0
 /// to 5 that comes into the destination and opens, of whatever session, is made by the source in its run,
@@ -25,4 +26,20 @@ pub fn one_runner_law()
     ensures paused { PausedSourcesStay }
     ensures destinations { DestinationsWait }
     ensures one { AtMostOneRuns }
+{}
+
+/// The same by one event, whatever bundles have come in, so of two hosts that run at the same time. A TD
+/// that is exported under a session stays so, and paused where it was, unless it is torn down or a token
+/// back of its session has come in; or its session has ended and never gets a start token. With a start
+/// token it rests, and doesn't run. A TD that is imported waits, and doesn't run, until its session is
+/// committed, which has its start token from the source. Of two hosts that both hold a TD, the source's
+/// paused, each event of either keeps what that rests on, where each token back that has come into the
+/// source was made by the destination: so at most one of the two runs.
+pub fn one_event_law()
+    ensures sent { SentIsKept }
+    ensures rests { SentRests }
+    ensures due { DueIsKept }
+    ensures waits { DueWaits }
+    ensures starts { CommitsHaveStarts }
+    ensures two { TwoAreKept }
 {}

@@ -3,9 +3,9 @@
 //!
 //! It stands on the flat machine and on the laws of a migration, and joins a run of the source with a
 //! run of the destination; nothing that is run uses it. A layer above may use the law as the contract of
-//! the function of `laws`.
+//! the functions of `laws`.
 #![tactic(auto)]
 
 mod laws;
 
-pub use laws::one_runner_law;
+pub use laws::{one_event_law, one_runner_law};

@@ -11,18 +11,27 @@ use std::thread::Threads;
 const USAGE: &[u8] =
     b"usage: tdx replay|run SCRIPT [--bundles F] [--keys F] [--secrets F] [--out-bundles F] [--guest-out F] | tdx check SCRIPT | tdx soak N\n";
 
-// The script s, which has one reply; t, whose call makes a bundle where it isn't refused; e, whose bytes
-// are none; the container b, and c with 3 bytes more; keys of 64, 63 and 65 bytes; the most bytes that a
+// The script s, which has one reply; n, which has none; t, whose call makes a bundle where it isn't refused;
+// e, whose bytes are none; the container b, c with 3 bytes more, d, whose second entry has the slot of its first,
+// of 64 bytes, and f, whose entry is cut; keys of 64, 63 and 65 bytes; the most bytes that a
 // key or secrets file is loaded with, and one more; and secrets of 4,096, 4,095 and 4,097 bytes.
 fn files(alloc: Global, failing: &[u64]) -> Result<MemFiles, Fail> {
     let keys = [7u8; 65];
     let long = vec![in alloc; 7u8; 65_537]?;
-    let list: [(&str, &[u8]); 13] = [
+    let list: [(&str, &[u8]); 16] = [
         ("s", b"machine 1 8 1\nlp 0\nHOST.READ 1 0\nend\n"),
+        ("n", b"machine 1 8 1\n"),
         ("t", b"machine 1 8 1\nlp 0\nEXPORT.TRACK 1 0 0\nend\n"),
         ("e", b""),
         ("b", b"TDXBNDL1"),
         ("c", b"TDXBNDL1abc"),
+        (
+            "d",
+            b"TDXBNDL1\x05\x00\x00\x00\x40\x00\x00\x00\
+              0123456789abcdef0123456789abcdef0123456789abcdef0123456789abcdef\
+              \x05\x00\x00\x00\x00\x00\x00\x00",
+        ),
+        ("f", b"TDXBNDL1\x05\x00\x00\x00\x0a\x00\x00\x00abc"),
         ("k", &keys[..64]),
         ("k63", &keys[..63]),
         ("k65", &keys),
@@ -77,9 +86,26 @@ const ROWS: &[Row<'static>] = &[
         true,
     ),
     ("replay --out-bundles o s", &[], &[], 0, REPLY, true),
+    ("replay n --out-bundles o", &[], &[], 0, b"", true),
     ("replay s --keys k", &[], &[], 0, REPLY, false),
     (
         "replay s --bundles c --out-bundles o",
+        &[],
+        &[],
+        6,
+        b"bundle file byte 8\n",
+        false,
+    ),
+    (
+        "replay s --bundles d",
+        &[],
+        &[],
+        6,
+        b"bundle file byte 80\n",
+        false,
+    ),
+    (
+        "replay s --bundles f",
         &[],
         &[],
         6,

@@ -9,10 +9,11 @@ use std::test::Fail;
 const USAGE: &str =
     "usage: tdx replay|run SCRIPT [--bundles F] [--keys F] [--secrets F] [--out-bundles F] [--guest-out F] | tdx check SCRIPT | tdx soak N\n";
 
-// The script s, which has one reply; t, whose numbers are told by `check`, with its comments; e, whose
+// The script s, which has one reply; n, which has none; t, whose numbers are told by `check`, with its comments; e, whose
 // bytes are none; and f, with a bad third line behind a comment.
-const FILES: [(&str, &str); 4] = [
+const FILES: [(&str, &str); 5] = [
     ("s", "machine 1 8 1\nlp 0\nHOST.READ 1 0\nend\n"),
+    ("n", "machine 1 8 1\n"),
     (
         "t",
         "# no processor\nmachine 3 32 1\n\nschedule 0*4 2\ncode 5 7\n# no operation\nset 0 1\nload 1 8\nend\n\
@@ -204,7 +205,7 @@ const OUTPUTS: &[Row<'static>] = &[
 ];
 
 const CHECKS: &[Row<'static>] = &[
-    ("check s", &[], &[], 0, "ok 1 1 0 0\n", NONE, NONE),
+    ("check n", &[], &[], 0, "ok 1 0 0 0\n", NONE, NONE),
     ("check t", &[], &[], 0, "ok 3 3 3 7\n", NONE, NONE),
     (
         "check e",
@@ -231,15 +232,15 @@ const CHECKS: &[Row<'static>] = &[
     ("checks s", &[], &[], 1, USAGE, NONE, NONE),
     // A soak loads nothing, and saves nothing.
     (
-        "soak 1",
+        "soak 2",
         &[0],
         &[],
         0,
-        "soak 1 bundles 5 sum 1\n",
+        "soak 2 bundles 6 sum 14170967488582549419\n",
         NONE,
         NONE,
     ),
-    ("soak 1", &[], &[0], 4, "", NONE, NONE),
+    ("soak 2", &[], &[0], 4, "", NONE, NONE),
     ("soak 0", &[], &[], 1, USAGE, NONE, NONE),
     ("soak 513", &[], &[], 1, USAGE, NONE, NONE),
 ];

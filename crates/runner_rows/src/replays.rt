@@ -59,9 +59,9 @@ fn prints_each<R: Abort + Threads + Sync>(
 const REPLIES: &[&str] = &[
     "| machine 1 8 1\n",
     "| machine 2 8 1\n",
-    "0.1 SUCCESS\n0.2 SUCCESS 7\n0.3 OPERAND_INVALID 2\n0.4 OPERAND_INVALID 1\n\
-        | machine 1 8 1\nlp 0\nHOST.WRITE 5 511 7\nHOST.READ 5 511\nHOST.READ 5 512\n\
-        HOST.READ 8 0\nend\n",
+    "0.1 SUCCESS\n0.2 SUCCESS 7\n0.3 OPERAND_INVALID 2\n\
+        | machine 1 8 1\nlp 0\nHOST.WRITE 5 511 7\nHOST.READ 5 511\nHOST.READ 5 512\nend\n",
+    "0.1 OPERAND_INVALID 1\n| machine 1 8 1\nlp 0\nHOST.READ 8 0\nend\n",
     "0.1 SUCCESS\n0.2 SUCCESS 0\n0.3 NOT_HOST\n0.4 PAGE_METADATA_INCORRECT 1\n\
         0.5 HKID_NOT_FREE\n0.6 SUCCESS PT_TDR 1 0\n\
         | machine 1 32 1\nlp 0\nMNG.CREATE 1 1\nHOST.READ 1 0\nHOST.WRITE 1 0 9\nMNG.CREATE 1 1\n\
@@ -101,9 +101,6 @@ const TWO_PROCESSORS: &[&str] = &[
     // A page that is held alone.
     "0.1 SUCCESS\n1.1 OPERAND_BUSY P 1\n\
         | lp 0\nMNG.CREATE 1 1\nend\nlp 1\nHOST.READ 1 0\nend\nschedule 0 1*2\n",
-    // Two processors meet at the key table.
-    "0.1 SUCCESS\n1.1 OPERAND_BUSY K\n\
-        | lp 0\nMNG.CREATE 1 1\nend\nlp 1\nMNG.CREATE 2 1\nend\nschedule 0*2 1*2\n",
     // Shared tries of a page don't deny one another.
     "0.1 SUCCESS 0\n1.1 SUCCESS 0\n\
         | lp 0\nHOST.READ 1 0\nend\nlp 1\nHOST.READ 1 0\nend\nschedule 0 1 0 1\n",
@@ -135,6 +132,9 @@ const DENIED_BY_THE_DENIED: &[&str] = &[
 
 // Behind `machine`.
 const MORE_PROCESSORS: &[&str] = &[
+    // Two processors meet at the key table.
+    "0.1 SUCCESS\n1.1 OPERAND_BUSY K\n\
+        | 2 32 2\nlp 0\nMNG.CREATE 1 1\nend\nlp 1\nMNG.CREATE 2 1\nend\nschedule 0*2 1*2\n",
     // A schedule that names processors out of order.
     "0.1 PAGE_METADATA_INCORRECT 1\n1.1 PAGE_METADATA_INCORRECT 1\n2.1 SUCCESS\n\
         | 3 32 1\nlp 0\nMNG.CREATE 1 1\nend\nlp 1\nMNG.CREATE 1 1\nend\nlp 2\nMNG.CREATE 1 1\nend\n\
@@ -171,7 +171,7 @@ fn processors_follow_the_schedule(rt: HostRuntime) -> Result<(), Fail> {
 // schedule is read, and isn't used.
 const APART: &[&str] = &[
     "0.1 SUCCESS\n0.2 SUCCESS 7\n1.1 SUCCESS\n1.2 SUCCESS 8\n\
-        | machine 2 8 1\nlp 0\nHOST.WRITE 5 0 7\nHOST.READ 5 0\nend\n\
+        | machine 2 32 1\nlp 0\nHOST.WRITE 5 0 7\nHOST.READ 5 0\nend\n\
         lp 1\nHOST.WRITE 6 0 8\nHOST.READ 6 0\nend\n",
     "0.1 SUCCESS\n0.2 SUCCESS 7\n1.1 SUCCESS\n1.2 SUCCESS 8\n\
         | machine 2 8 1\nlp 0\nHOST.WRITE 5 0 7\nHOST.READ 5 0\nend\n\
@@ -189,29 +189,30 @@ fn processors_run_in_threads(rt: HostRuntime) -> Result<(), Fail> {
 const USAGE: &[u8] =
     b"usage: tdx replay|run SCRIPT [--bundles F] [--keys F] [--secrets F] [--out-bundles F] [--guest-out F] | tdx check SCRIPT | tdx soak N\n";
 
+const SCRIPT: &[u8] =
+    b"machine 1 8 1\nlp 0\nHOST.WRITE 5 511 7\nHOST.READ 5 511\nHOST.READ 5 512\nend\n";
+
 #[test]
 fn faults_end_with_their_status(rt: HostRuntime) -> Result<(), Fail> {
-    let table: [(&[&str], &[u64], &[u64], u8, &[u8]); 11] = [
-        (&["replay", "s"], &[0], &[], 3, b"cannot read s\n"),
-        (&["replay", "t"], &[], &[], 3, b"cannot read t\n"),
-        (&["replay", "s"], &[], &[0], 4, b""),
+    // The name of the script's file, words, the calls of files that fail, the puts that do, the status, and the
+    // text.
+    let table: [(&str, &[&str], &[u64], &[u64], u8, &[u8]); 11] = [
+        ("s", &["replay", "s"], &[0], &[], 3, b"cannot read s\n"),
+        ("t", &["replay", "s"], &[], &[], 3, b"cannot read s\n"),
+        ("s", &["replay", "s"], &[], &[0], 4, b""),
         // Failed puts of other texts than the replies leave the status.
-        (&["replay", "t"], &[], &[0], 3, b""),
-        (&["replay"], &[], &[0], 1, b""),
-        (&["replay"], &[], &[], 1, USAGE),
-        (&[], &[], &[], 1, USAGE),
-        (&["runs", "s"], &[], &[], 1, USAGE),
-        (&["run", "s"], &[0], &[], 3, b"cannot read s\n"),
-        (&["replay", "-s"], &[], &[], 1, USAGE),
-        (&["replay", "s", "t"], &[], &[], 1, USAGE),
+        ("t", &["replay", "s"], &[], &[0], 3, b""),
+        ("s", &["replay"], &[], &[0], 1, b""),
+        ("s", &["replay"], &[], &[], 1, USAGE),
+        ("s", &[], &[], &[], 1, USAGE),
+        ("s", &["runs", "s"], &[], &[], 1, USAGE),
+        ("s", &["run", "s"], &[0], &[], 3, b"cannot read s\n"),
+        ("s", &["replay", "-s"], &[], &[], 1, USAGE),
+        ("s", &["replay", "s", "t"], &[], &[], 1, USAGE),
     ];
     let alloc = rt.alloc();
-    for (list, loads, puts, status, want) in table {
-        let mut files = MemFiles::new(
-            alloc,
-            one_file(alloc, "s", b"machine 1 8 1\n")?,
-            loads.to_vec(alloc)?,
-        );
+    for (name, list, loads, puts, status, want) in table {
+        let mut files = MemFiles::new(alloc, one_file(alloc, name, SCRIPT)?, loads.to_vec(alloc)?);
         let mut out = MemSink::new(alloc, puts.to_vec(alloc)?);
         let got = tdx_main(
             &rt,

@@ -11,7 +11,7 @@ use Rattle.bundle_store.specs.declared.outside.PutFault.{PutFault}
 use Rattle.bundle_store.specs.Outside.{IsSaved, SavesTold}
 use Rattle.bundle_store.specs.History.{Loaded, Put}
 use Rattle.incoming.specs.Arrivals.{SlotIncoming, incoming_in, at_slot}
-use Rattle.image_laws.specs.Containers.{brought}
+use Rattle.image_laws.specs.Containers.{brought, AreWhole, ComeOf}
 use Rattle.script_text.specs.Seen.{ScriptSeen}
 use Rattle.script_text.specs.Laws.{IsInForm}
 use Rattle.script_words.specs.Given.{AreInputWords, ComeInAsWords}
@@ -61,15 +61,19 @@ module _ (laws : CarryingLaws) (handed : HandedOut) (s : ScriptSeen) (form : IsI
       ap (λ (k : KeyBytes). at_slot (map (incoming_in k.forward k.backward) other.bundles) slot) on.keys
       ∙ ap (λ (bs : List BundleSeen). at_slot (map (incoming_in handed.keys.forward handed.keys.backward) bs) slot) (read_there other on)
 
+  of_there : (other : HandedOut) (script : ScriptSeen) → HandedOn other → ComeOf handed.keys.forward handed.keys.backward made (opening_by other script).bundles
+  of_there other script on slot b is = sym (comes_there other script on slot) ∙ is
+
   pub brings_over : BringsOver handed s schedule (sealed_by handed s schedule)
   brings_over =
       let given = laws.gives o s form (record { calls = refl; codes = refl }) fit in
-      let come = laws.come handed.keys.forward handed.keys.backward o None (schedule ++ to_the_end 0 o.calls) given.1 given.0 tt fits.apart in
+      let whole : AreWhole made = laws.whole o None (schedule ++ to_the_end 0 o.calls) given.1 given.0 tt in
+      let come = laws.come handed.keys.forward handed.keys.backward made whole fits.apart in
       record {
         container = (sealed_there, read_back);
         bundles = λ other script on k d inside. comes_there other script on (get_or made k d).slot ∙ come k d inside;
-        unforged = λ other script on. laws.forged handed.keys.forward handed.keys.backward o None (schedule ++ to_the_end 0 o.calls) given.1 given.0 tt (opening_by other script) (comes_there other script on);
-        images = λ other script on events session start noted. laws.images handed.keys.forward handed.keys.backward o None (schedule ++ to_the_end 0 o.calls) given.1 given.0 tt (opening_by other script) None events (comes_there other script on) session start noted;
+        unforged = λ other script on. laws.forged handed.keys.forward handed.keys.backward made whole (opening_by other script) (of_there other script on);
+        images = λ other script on events session start noted. laws.images handed.keys.forward handed.keys.backward o None (schedule ++ to_the_end 0 o.calls) given.1 whole (opening_by other script) None events (of_there other script on) session start noted;
       }
 
 pub of_run : CarryingLaws → (c : Option CommandSeen) (loads loads' : List Loaded) (puts puts' : List Put) (answer : Result (Unit {0}) PutFault) → (run : PutsRun c loads loads' puts puts' answer)
@@ -114,7 +118,7 @@ file_brings laws held c old new w w' told run n name has named apart =
     let handed : HandedOut = handed_held held run.command in
     let saves : AllSaved (run_end n run.script handed run.order).files w w' = subst (λ (e : Ended). AllSaved e.files w w') (success_of run.command n run.script handed run.order has) run.saves in
     let (files, is, there) = both_there n.out_bundles n.guest_out (sealed_by handed run.script run.order) (guest_text (opening_by handed run.script) run.order) name named apart held w w' told saves in
-    (files, sealed_by handed run.script run.order, is, there, brings_over laws handed run.script (laws.forms.in_form run.bytes run.script run.reads) run.words run.order)
+    (files, is, there, brings_over laws handed run.script (laws.forms.in_form run.bytes run.script run.reads) run.words run.order)
 
 pub in-one : CarryingLaws → (held : List ℕ → Option (List ℕ)) (c : Option CommandSeen) (old new : Option (List ℕ)) (w w' : Writes) → w.contents ≡ Some held → OneRun held c old new w w'
     → (run : OneRun held c old new w w') × FileBringsOver run.command w'.contents (handed_held held run.command) run.script run.order

@@ -326,6 +326,24 @@ module _ (names : List (List ℕ)) (e : Ended) (few : length e.files ≤ length 
   write_cause r r' never four (Unsaved front f rest m b answer are all zero puts saves not_want last is) = inr (named front f rest are, rose_earlier w.faults m.faults w'.faults (saved_later front w m all) saves.cause)
   write_cause r r' never four (WantingAfter front f rest m b b' are all zero puts kept which want) = absurd (let q = want.0 in omega (arith, q, four))
 
+  -- what files have where not all was done
+  abbrev front_saved : HoldsOfRuns → (contents : Option (List ℕ → Option (List ℕ))) (c : Option CommandSeen) (r r' : Reads) (front : List ToSave) (f : ToSave) (rest : List ToSave) (m : Writes) (b : Outputs) → Came contents c r r' e
+      → e.files ≡ front ++ f ∷ rest → AllSaved front w m → e.status ≡ 0 → Puts e.text o (Ok tt) b → w'.contents ≡ m.contents → SavesFront c r.loads r'.loads w w' o.puts
+  front_saved holds contents c r r' front f rest m b h are all zero puts kept =
+      let d = run_done contents c r r' e o.puts b.puts (Ok tt) h zero puts.noted in
+      record {
+        between = b.puts;
+        replies = d.0;
+        holds = holds c r.loads r'.loads o.puts b.puts (Ok tt) d.0 d.2;
+        front = front;
+        out = f;
+        rest = rest;
+        are = ap (λ (x : Ended). x.files) (sym d.1) ∙ are;
+        before = m;
+        front_saved = all;
+        kept = kept;
+      }
+
   lost_done : HoldsOfRuns → (contents : Option (List ℕ → Option (List ℕ))) (c : Option CommandSeen) (r r' : Reads) → Came contents c r r' e → status ≡ 4 → Closing e w w' o o' status
       → PutsLost c r.loads r'.loads w w' o.puts o'.puts
   lost_done holds contents c r r' h four (Told puts not_zero is kept) = absurd (never_four contents c r r' e o.puts o'.puts h (sym is ∙ four))
@@ -337,56 +355,17 @@ module _ (names : List (List ℕ)) (e : Ended) (few : length e.files ≤ length 
   lost_done holds contents c r r' h four (Wanting b puts want kept) = absurd (let q = want.0 in omega (arith, q, four))
   lost_done holds contents c r r' h four (Whole puts zero is saved) = absurd (omega (arith, is, four))
   lost_done holds contents c r r' h four (Unsaved front f rest m b answer are all zero puts saves not_want last is) =
-      let (d, same, threads) = run_done contents c r r' e o.puts b.puts (Ok tt) h zero puts.noted in
-      inr (record {
-        between = b.puts;
-        replies = d;
-        holds = holds c r.loads r'.loads o.puts b.puts (Ok tt) d threads;
-        front = front;
-        out = f;
-        rest = rest;
-        are = ap (λ (x : Ended). x.files) (sym same) ∙ are;
-        before = m;
-        front_saved = all;
-        saved = saves.noted;
-        kept = saves.kept;
-        prints = (answer, not_want, last.noted);
-      })
+      inr (record { behind = front_saved holds contents c r r' front f rest m b h are all zero puts saves.kept; saved = saves.noted; prints = (answer, not_want, last.noted) })
   lost_done holds contents c r r' h four (WantingAfter front f rest m b b' are all zero puts kept which want) = absurd (let q = want.0 in omega (arith, q, four))
 
-  -- what files have where not all was done
-  front_saved : (contents : Option (List ℕ → Option (List ℕ))) (c : Option CommandSeen) (r r' : Reads) (front : List ToSave) (f : ToSave) (rest : List ToSave) (m : Writes) (b : Outputs) → Came contents c r r' e
-      → e.files ≡ front ++ f ∷ rest → AllSaved front w m → e.status ≡ 0 → Puts e.text o (Ok tt) b → w'.contents ≡ m.contents → SavesFront c r.loads r'.loads w w'
-  front_saved contents c r r' front f rest m b h are all zero puts kept =
-      let (d, same, threads) = run_done contents c r r' e o.puts b.puts (Ok tt) h zero puts.noted in
-      record {
-        command = d.command;
-        read_as = d.read_as;
-        given = d.given;
-        loaded = d.loaded;
-        script = d.script;
-        reads = d.reads;
-        handed = d.handed;
-        handed_out = d.handed_out;
-        order = d.order;
-        is_order = d.is_order;
-        front = front;
-        out = f;
-        rest = rest;
-        are = ap (λ (x : Ended). x.files) (sym same) ∙ are;
-        before = m;
-        front_saved = all;
-        kept = kept;
-      }
-
-  keeps_or_saves : (contents : Option (List ℕ → Option (List ℕ))) (c : Option CommandSeen) (r r' : Reads) → Came contents c r r' e → status ≢ 0 → Closing e w w' o o' status
-      → KeepsOrSaves c r.loads r'.loads w w'
-  keeps_or_saves contents c r r' h x0 (Told puts not_zero is kept) = inl (ap (λ (x : Writes). x.contents) kept)
-  keeps_or_saves contents c r r' h x0 (Lost puts is kept) = inl (ap (λ (x : Writes). x.contents) kept)
-  keeps_or_saves contents c r r' h x0 (Wanting b puts want kept) = inl (ap (λ (x : Writes). x.contents) kept)
-  keeps_or_saves contents c r r' h x0 (Whole puts zero is saved) = absurd (x0 is)
-  keeps_or_saves contents c r r' h x0 (Unsaved front f rest m b answer are all zero puts saves not_want last four) = inr (front_saved contents c r r' front f rest m b h are all zero puts saves.kept)
-  keeps_or_saves contents c r r' h x0 (WantingAfter front f rest m b b' are all zero puts kept which want) = inr (front_saved contents c r r' front f rest m b h are all zero puts kept)
+  keeps_or_saves : HoldsOfRuns → (contents : Option (List ℕ → Option (List ℕ))) (c : Option CommandSeen) (r r' : Reads) → Came contents c r r' e → status ≢ 0 → Closing e w w' o o' status
+      → KeepsOrSaves c r.loads r'.loads w w' o.puts
+  keeps_or_saves holds contents c r r' h x0 (Told puts not_zero is kept) = inl (ap (λ (x : Writes). x.contents) kept)
+  keeps_or_saves holds contents c r r' h x0 (Lost puts is kept) = inl (ap (λ (x : Writes). x.contents) kept)
+  keeps_or_saves holds contents c r r' h x0 (Wanting b puts want kept) = inl (ap (λ (x : Writes). x.contents) kept)
+  keeps_or_saves holds contents c r r' h x0 (Whole puts zero is saved) = absurd (x0 is)
+  keeps_or_saves holds contents c r r' h x0 (Unsaved front f rest m b answer are all zero puts saves not_want last four) = inr (front_saved holds contents c r r' front f rest m b h are all zero puts saves.kept)
+  keeps_or_saves holds contents c r r' h x0 (WantingAfter front f rest m b b' are all zero puts kept which want) = inr (front_saved holds contents c r r' front f rest m b h are all zero puts kept)
 
 -- ---- the whole call
 
@@ -577,10 +556,10 @@ module _ (contents : Option (List ℕ → Option (List ℕ))) (c : Option Comman
   same_files (inl (e, comes, p)) h = same_contents names e (few_of e comes) w w' o o' status h (closing e w w' o o' status p)
   same_files (inr (part, kept, want)) h = ap (λ (x : Writes). x.contents) kept
 
-  pub kept_or_saved : Does → status ≢ 0 → KeepsOrSaves c r.loads r'.loads w w'
-  kept_or_saved (inl (e, comes, p)) x0 =
-      keeps_or_saves names e (few_of e comes) w w' o o' status contents c r r' (came contents c r r' e comes) x0 (closing e w w' o o' status p)
-  kept_or_saved (inr (part, kept, want)) x0 = inl (ap (λ (x : Writes). x.contents) kept)
+  pub kept_or_saved : HoldsOfRuns → Does → status ≢ 0 → KeepsOrSaves c r.loads r'.loads w w' o.puts
+  kept_or_saved holds (inl (e, comes, p)) x0 =
+      keeps_or_saves names e (few_of e comes) w w' o o' status holds contents c r r' (came contents c r r' e comes) x0 (closing e w w' o o' status p)
+  kept_or_saved holds (inr (part, kept, want)) x0 = inl (ap (λ (x : Writes). x.contents) kept)
 
   pub none_saved : Does → SavesNothing names status → w' ≡ w
   none_saved (inl (e, comes, p)) h = keeps names e (few_of e comes) w w' o o' status h (closing e w w' o o' status p)

@@ -1,13 +1,13 @@
 -- What the top call promises follows from what it does.
 use Rattle.std.proofs.Common.{◌≡◌, ◌⊎◌, inl, inr, refl, ap, ℕ, ◌≤◌, List, Option, Some, None, IfSome, arith}
 use Rattle.flat_core.specs.AccessLaw.{AccessesAreOwn}
-use Rattle.isol_laws.specs.Worlds.{BlindRunsPrintTheSame, BlindRunsMakeTheSameBundles, AgreeingRunsShowTheSame}
 use Rattle.mig_laws.specs.Image.{ImageLaw}
 use Rattle.command_files.specs.Commands.{CommandSeen, AskedSeen, OfScript, Soak}
 use Rattle.command_files.specs.Inputs.{Reads}
 use Rattle.bundle_store.specs.Outside.{Rose}
 use Rattle.script_runner.specs.Saving.{Writes}
 use Rattle.script_runner.specs.Done.{PutsHeadline}
+use Rattle.script_runner.specs.Blind.{BlindLaws}
 use Rattle.script_runner.specs.Brings.{CarryingLaws}
 use Rattle.script_runner.specs.Commanded.{Outputs, DoesCommand}
 use Rattle.script_runner.specs.Asked.{OfScripts}
@@ -22,7 +22,7 @@ use Rattle.script_runner.proofs.Soaked.{does_soak}
 
 -- ---- of one command on a script
 
-module _ (access : AccessesAreOwn) (prints : BlindRunsPrintTheSame) (bundles : BlindRunsMakeTheSameBundles) (agreeing : AgreeingRunsShowTheSame) (image : ImageLaw) (carrying : CarryingLaws) where
+module _ (access : AccessesAreOwn) (worlds : BlindLaws) (image : ImageLaw) (carrying : CarryingLaws) where
   module _ (contents : Option (List ℕ → Option (List ℕ))) (r r' : Reads) (w w' : Writes) (o o' : Outputs) (status : ℕ) where
     abbrev Does : Option AskedSeen → Type 0
     Does asked = DoesCommand contents asked r r' w w' o o' status
@@ -35,7 +35,7 @@ module _ (access : AccessesAreOwn) (prints : BlindRunsPrintTheSame) (bundles : B
       saved = past.all_saved contents c r r' w w' o o' status d;
       put_accesses = λ zero. in-put access _ _ _ _ _ _ (past.put_run contents c r r' w w' o o' status d zero);
       put_threads = past.put_threads contents c r r' w w' o o' status d;
-      put_blind = λ zero. blind.put-blind prints bundles agreeing _ _ _ _ _ (past.put_run contents c r r' w w' o o' status d zero);
+      put_blind = λ zero. blind.put-blind worlds _ _ _ _ _ (past.put_run contents c r r' w w' o o' status d zero);
       put_images = λ zero. images.in-put image _ _ _ _ _ _ (past.put_run contents c r r' w w' o o' status d zero);
       put_brings = λ zero. brings.in-put carrying _ _ _ _ _ _ (past.put_run contents c r r' w w' o o' status d zero);
       put_usage = past.put_usage contents c r r' w w' o o' status d;
@@ -43,20 +43,20 @@ module _ (access : AccessesAreOwn) (prints : BlindRunsPrintTheSame) (bundles : B
       put_name = past.put_name contents c r r' w w' o o' status d;
       put_place = past.put_place contents c r r' w w' o o' status d;
       put_keys = past.put_keys contents c r r' w w' o o' status d;
-      put_lost = past.put_lost contents c r r' w w' o o' status (blind.holds-of-run prints bundles agreeing access image carrying) d;
-      put_memory = past.put_memory contents c r r' w w' o o' status (blind.holds-of-run prints bundles agreeing access image carrying) d;
+      put_lost = past.put_lost contents c r r' w w' o o' status (blind.holds-of-run worlds access image carrying) d;
+      put_memory = past.put_memory contents c r r' w w' o o' status (blind.holds-of-run worlds access image carrying) d;
       read = past.unread_cause contents c r r' w w' o o' status d;
       write = past.lost_cause contents c r r' w w' o o' status d;
       put = past.one_text contents c r r' w w' o o' status d;
       tried = past.some_text contents c r r' w w' o o' status d;
       same = past.same_files contents c r r' w w' o o' status d;
-      kept = past.kept_or_saved contents c r r' w w' o o' status d;
+      kept = past.kept_or_saved contents c r r' w w' o o' status (blind.holds-of-run worlds access image carrying) d;
       saves = λ h. ap (λ (x : Writes). x.saves) (past.none_saved contents c r r' w w' o o' status d h);
       writes = λ h. ap (λ (x : Writes). x.faults) (past.none_saved contents c r r' w w' o o' status d h);
     }
 
     headline : status ≡ 0 → (c : Option CommandSeen) → Does (asks c) → PutsHeadline c r.loads r'.loads o.puts o'.puts w w'
-    headline zero c d = blind.headline prints bundles agreeing access image carrying _ _ _ _ _ _ _ (past.put_threads contents c r r' w w' o o' status d zero)
+    headline zero c d = blind.headline worlds access image carrying _ _ _ _ _ _ _ (past.put_threads contents c r r' w w' o o' status d zero)
 
   by_contents : (held : List ℕ → Option (List ℕ)) (r r' : Reads) (w w' : Writes) (o o' : Outputs) (status : ℕ) → w.contents ≡ Some held → (c : Option CommandSeen) → DoesCommand (Some held) (asks c) r r' w w' o o' status
       → ByContents held c r r' w w' o o' status
@@ -64,7 +64,7 @@ module _ (access : AccessesAreOwn) (prints : BlindRunsPrintTheSame) (bundles : B
     one_run = past.told_run (Some held) c r r' w w' o o' status d;
     one_accesses = λ zero. in-one access (Some held) _ _ _ _ _ (past.told_run (Some held) c r r' w w' o o' status d zero);
     one_threads = past.told_threads (Some held) c r r' w w' o o' status d;
-    one_blind = λ zero. blind.one-blind prints bundles agreeing (Some held) _ _ _ _ _ (past.told_run (Some held) c r r' w w' o o' status d zero);
+    one_blind = λ zero. blind.one-blind worlds (Some held) _ _ _ _ _ (past.told_run (Some held) c r r' w w' o o' status d zero);
     one_images = λ zero. images.in-one image (Some held) _ _ _ _ _ (past.told_run (Some held) c r r' w w' o o' status d zero);
     one_brings = λ zero. brings.in-one carrying held _ _ _ _ _ told (past.told_run (Some held) c r r' w w' o o' status d zero);
     ends = past.all_ends (Some held) c r r' w w' o o' status d;

@@ -7,7 +7,7 @@ use Rattle.flat_core.specs.Laws.{reached}
 use Rattle.flat_bundles.specs.Bundles.{BundlesAreOfLines}
 use Rattle.mig_laws.specs.Image.{Unforged, StartsFromPause}
 use Rattle.bundle_texts.specs.Laws.{BundlesReadAgain}
-use Rattle.image_laws.specs.Containers.{as_made, ContainersBringBundles, NothingIsForged, ContainersBringImages}
+use Rattle.image_laws.specs.Containers.{as_made, RunsMakeWhole, ContainersBringBundles, NothingIsForged, ContainersBringImages}
 use Rattle.bundle_store.specs.Containers.{container_in}
 use Rattle.script_text.specs.Seen.{ScriptSeen}
 use Rattle.script_text.specs.Laws.{ScriptsAreInForm}
@@ -40,14 +40,15 @@ pub record BringsOver (handed : HandedOut) (s : ScriptSeen) (order bytes : List 
   pub images : (other : HandedOut) (script : ScriptSeen) → IsHandedOn handed bytes other → (events : List ℕ) (session : ℕ) (start : Image)
       → (reached (opening_by other script) None events).world.hidden.given session ≡ Some start → StartsFromPause (run (opening_by handed s) order).world session start
 
--- The bytes that the named container file has behind the run, where what files have is told, bring its bundles over. Where the
--- guest file has that name too, it was saved over them.
+-- Behind the run the named container file has just this container, where what files have is told, and it brings its bundles over.
+-- Where the guest file has that name too, it was saved over it.
 abbrev pub FileBringsOver : CommandSeen → Option (List ℕ → Option (List ℕ)) → HandedOut → ScriptSeen → (order : List ℕ) → Type 0
 FileBringsOver c behind handed s order = (n : NamedSeen) (name : List ℕ) → named_of c ≡ Some n → n.out_bundles ≡ Some name → n.guest_out ≢ Some name
-    → (files : List ℕ → Option (List ℕ)) × (bytes : List ℕ) × (behind ≡ Some files) × (files name ≡ Some bytes) × BringsOver handed s order bytes
+    → (files : List ℕ → Option (List ℕ)) × (behind ≡ Some files) × (files name ≡ Some (sealed_by handed s order)) × BringsOver handed s order (sealed_by handed s order)
 
 -- the laws by which it is so
 pub record CarryingLaws : Type 0 where
+  pub whole : RunsMakeWhole
   pub come : ContainersBringBundles
   pub forged : NothingIsForged
   pub images : ContainersBringImages

@@ -25,7 +25,7 @@ use Rattle.script_runner.specs.Threads.{ThreadsOf}
 use Rattle.script_runner.specs.Accesses.{OwnAccesses}
 use Rattle.script_runner.specs.Images.{StartsFromPauses}
 use Rattle.script_runner.specs.Brings.{HandsWords, sealed_by, BringsOver}
-use Rattle.script_runner.specs.Blind.{HasBlindText}
+use Rattle.script_runner.specs.Blind.{IsBlindRun}
 use Rattle.script_runner.specs.Ends.{IsRead}
 use Rattle.command_files.specs.declared.inputs.KeyBytes.{KeyBytes}
 
@@ -78,13 +78,13 @@ pub record AreHandedOut (c : CommandSeen) (loads loads' : List Loaded) (handed :
   pub fit : HandsWords handed
 
 -- What holds of the run of a script that a command names, under that order of its events: for run the order is one that threads
--- can have made, each access of guests to their private memory is to a page of their own, what is put is the same in two worlds,
--- what the run committed starts from the source's pause, where each bundle that came in and opened is that one run's, and the
--- container that it seals brings over what it paused.
+-- can have made, each access of guests to their private memory is to a page of their own, what is put and what is sealed is the
+-- same in two worlds, what the run committed starts from the source's pause, where each bundle that came in and opened is that one
+-- run's, and the container that it seals brings over what it paused.
 pub record HoldsOfRun (c : CommandSeen) (s : ScriptSeen) (handed : HandedOut) (order : List ℕ) : Type 0 where
   pub threads : ThreadsOf c s handed order (success_end c s handed order)
   pub accesses : OwnAccesses (opening_by handed s) order
-  pub blind : HasBlindText c s handed order (success_end c s handed order).text
+  pub blind : IsBlindRun c s handed order (success_end c s handed order).text
   pub images : StartsFromPauses (opening_by handed s) order
   pub brings : BringsOver handed s order (sealed_by handed s order)
 
@@ -115,10 +115,10 @@ PutsThreads c loads loads' puts puts' written written' =
     (r : PutsRun c loads loads' puts puts' (Ok tt)) × AllSaved (success_end r.command r.script r.handed r.order).files written written'
     × ThreadsOf r.command r.script r.handed r.order (success_end r.command r.script r.handed r.order)
 
--- the text of the run was put, which is the same in two worlds
+-- the text of the run was put, which is the same in two worlds, as what it seals is
 abbrev pub PutsBlind : Option CommandSeen → (loads loads' : List Loaded) → (puts puts' : List Put) → Type 0
 PutsBlind c loads loads' puts puts' =
-    (r : PutsRun c loads loads' puts puts' (Ok tt)) × HasBlindText r.command r.script r.handed r.order (success_end r.command r.script r.handed r.order).text
+    (r : PutsRun c loads loads' puts puts' (Ok tt)) × IsBlindRun r.command r.script r.handed r.order (success_end r.command r.script r.handed r.order).text
 
 -- All of it of one run: its text was put, each file that is named was saved with what it leaves, and all that holds of a run holds
 -- of it.
@@ -224,9 +224,9 @@ pub record PutsNoKeys (c : Option CommandSeen) (loads loads' : List Loaded) (put
 abbrev pub PutsKeysOrSecrets : Option CommandSeen → (loads loads' : List Loaded) → (puts puts' : List Put) → Type 0
 PutsKeysOrSecrets c loads loads' puts puts' = PutsKeys c loads loads' puts puts' ⊎ PutsSecrets c loads loads' puts puts' ⊎ PutsNoKeys c loads loads' puts puts'
 
--- The text of a run was put, of which all of this holds, all files before one were saved, the save of this one failed, and its
--- name was put. Files have what they had behind the saves that came through.
-pub record PutsUnsaved (c : Option CommandSeen) (loads loads' : List Loaded) (written written' : Writes) (puts puts' : List Put) : Type 0 where
+-- Files have what they had behind the saves of the first files of a run, of which at least one more was left. The text of that run
+-- was put, and all of this holds of it.
+pub record SavesFront (c : Option CommandSeen) (loads loads' : List Loaded) (written written' : Writes) (puts : List Put) : Type 0 where
   pub between : List Put
   pub replies : PutsRun c loads loads' puts between (Ok tt)
   pub holds : HoldsOfRun replies.command replies.script replies.handed replies.order
@@ -236,34 +236,17 @@ pub record PutsUnsaved (c : Option CommandSeen) (loads loads' : List Loaded) (wr
   pub are : (success_end replies.command replies.script replies.handed replies.order).files ≡ front ++ out ∷ rest
   pub before : Writes
   pub front_saved : AllSaved front written before
-  pub saved : written'.saves ≡ before.saves ++ record { name = out.name; bytes = out.bytes; answer = Err save.Failed } ∷ []
-  pub kept : written'.contents ≡ before.contents
-  pub prints : PutsText between (unwritten_end out.name).text puts'
-
--- Files have what they had behind the saves of the first files that a run of the script that was loaded is to save, of which at
--- least one more was left.
-pub record SavesFront (c : Option CommandSeen) (loads loads' : List Loaded) (written written' : Writes) : Type 0 where
-  pub command : CommandSeen
-  pub read_as : c ≡ Some command
-  pub given : Vec ℕ
-  pub loaded : LoadsFirst loads (script_name command) (Ok given) loads'
-  pub script : ScriptSeen
-  pub reads : read_of given.items ≡ Ok script
-  pub handed : HandedOut
-  pub handed_out : AreHandedOut command loads loads' handed
-  pub order : List ℕ
-  pub is_order : IsOrderOf command script order
-  pub front : List ToSave
-  pub out : ToSave
-  pub rest : List ToSave
-  pub are : (success_end command script handed order).files ≡ front ++ out ∷ rest
-  pub before : Writes
-  pub front_saved : AllSaved front written before
   pub kept : written'.contents ≡ before.contents
 
 -- what files have is as before, or as the saves that came through left it
-abbrev pub KeepsOrSaves : Option CommandSeen → (loads loads' : List Loaded) → (written written' : Writes) → Type 0
-KeepsOrSaves c loads loads' written written' = (written'.contents ≡ written.contents) ⊎ SavesFront c loads loads' written written'
+abbrev pub KeepsOrSaves : Option CommandSeen → (loads loads' : List Loaded) → (written written' : Writes) → List Put → Type 0
+KeepsOrSaves c loads loads' written written' puts = (written'.contents ≡ written.contents) ⊎ SavesFront c loads loads' written written' puts
+
+-- the save of the first file that was left failed, and its name was put
+pub record PutsUnsaved (c : Option CommandSeen) (loads loads' : List Loaded) (written written' : Writes) (puts puts' : List Put) : Type 0 where
+  pub behind : SavesFront c loads loads' written written' puts
+  pub saved : written'.saves ≡ behind.before.saves ++ record { name = behind.out.name; bytes = behind.out.bytes; answer = Err save.Failed } ∷ []
+  pub prints : PutsText behind.between (unwritten_end behind.out.name).text puts'
 
 -- the put of a run's text failed, of which all of this holds, and nothing was saved; or the save of a file did
 abbrev pub PutsLost : Option CommandSeen → (loads loads' : List Loaded) → (written written' : Writes) → (puts puts' : List Put) → Type 0

@@ -10,7 +10,7 @@ use Rattle.bundle_store.specs.Containers.{container_in}
 use Rattle.command_files.specs.Commands.{NamedSeen, CommandSeen, Replay, Run, Check, named_of, script_name}
 use Rattle.script_runner.specs.Ending.{ToSave, Ended, unread_end, memory_end, unwritten_end, success_end, command_wrong, handed_held, ending_of, IsOrderOf, IsOrderIn, without}
 use Rattle.script_runner.specs.Saving.{Writes, AllSaved, IsAmong}
-use Rattle.script_runner.specs.Blind.{HasBlindText}
+use Rattle.script_runner.specs.Blind.{IsBlindRun}
 use Rattle.script_runner.specs.Brings.{HandsWords}
 use Rattle.script_runner.specs.Threads.{ThreadsOf}
 
@@ -102,11 +102,11 @@ ShowsThreads contents c old new written written' =
     (run : OneRun contents c old new written written')
     × ThreadsOf run.command run.script (handed_held contents run.command) run.order (success_end run.command run.script (handed_held contents run.command) run.order)
 
--- the text that the output got is the same in two worlds
+-- the text that the output got is the same in two worlds, as what the run seals is
 abbrev pub ShowsBlind : (contents : List ℕ → Option (List ℕ)) → (c : Option CommandSeen) → (old new : Option (List ℕ)) → (written written' : Writes) → Type 0
 ShowsBlind contents c old new written written' =
     (run : OneRun contents c old new written written')
-    × HasBlindText run.command run.script (handed_held contents run.command) run.order (success_end run.command run.script (handed_held contents run.command) run.order).text
+    × IsBlindRun run.command run.script (handed_held contents run.command) run.order (success_end run.command run.script (handed_held contents run.command) run.order).text
 
 -- the named script is there and isn't in the grammar
 pub record IsBadScript (contents : List ℕ → Option (List ℕ)) (c : Option CommandSeen) : Type 0 where

@@ -40,8 +40,9 @@ pub record ByHistories (c : Option CommandSeen) (contents : Option (List ℕ →
   -- flat machine's run prints and notes the same.
   pub put_threads : status ≡ 0 → PutsThreads c loaded.loads loaded'.loads output.puts output'.puts written written'
   -- What was put is what the same run prints with every private word 0, in which the same words are told; and so what each run
-  -- prints that agrees on all that is public, and tells the same. The bundles of all these have the same public part. Private are
-  -- secret words, and the payloads of states and pages that came in.
+  -- prints that agrees on all that is public, and tells the same. The bundles of all these have the same public part, and their
+  -- containers the same bytes but for tags and sealed texts, under whatever keys; under the same ones but for those of private
+  -- payloads alone. Private are secret words, and the payloads of states and pages that came in.
   pub put_blind : status ≡ 0 → PutsBlind c loaded.loads loaded'.loads output.puts output'.puts
   -- Each TD that the run committed started from the pause of its source: of every run that made all
   -- bundles that came in and opened, whatever its script.
@@ -70,9 +71,9 @@ pub record ByHistories (c : Option CommandSeen) (contents : Option (List ℕ →
   pub put : (out_names c ≡ []) ⊎ (status ≢ 4) → status ≢ 5 → (p : Put) × (output'.puts ≡ output.puts ++ p ∷ [])
   pub tried : (p : Put) × (more : List Put) × (output'.puts ≡ output.puts ++ p ∷ more) × (length more ≤ 2)
   -- What files have changes only where all was done, and a file was to be saved; where two were, it may also change at the statuses
-  -- 4 and 5, by the first, and then just as that save left it. A save is tried only where the text was put.
+  -- 4 and 5, by the first, and then just as that save left it, of a run whose text was put and of which all holds that holds at 0.
   pub same : ChangesNothing (out_names c) status → written'.contents ≡ written.contents
-  pub kept : status ≢ 0 → KeepsOrSaves c loaded.loads loaded'.loads written written'
+  pub kept : status ≢ 0 → KeepsOrSaves c loaded.loads loaded'.loads written written' output.puts
   pub saves : SavesNothing (out_names c) status → written'.saves ≡ written.saves
   pub writes : SavesNothing (out_names c) status → written'.faults ≡ written.faults
 
@@ -85,7 +86,8 @@ pub record ByContents (held : List ℕ → Option (List ℕ)) (c : Option Comman
   pub one_threads : status ≡ 0 → ShowsThreads held c output.told output'.told written written'
   pub one_blind : status ≡ 0 → ShowsBlind held c output.told output'.told written written'
   pub one_images : status ≡ 0 → (run : OneRun held c output.told output'.told written written') × StartsFromPauses (opening_by (handed_held held run.command) run.script) run.order
-  -- The bytes that the named container file then has bring the bundles of that run over.
+  -- The named container file then has just the container that the run seals, which is the one that is the same in two worlds, and
+  -- brings the bundles of that run over.
   pub one_brings : status ≡ 0 → (run : OneRun held c output.told output'.told written written') × FileBringsOver run.command written'.contents (handed_held held run.command) run.script run.order
   -- Each status comes with its text.
   pub ends : EndsWith (faults_of loaded written output) (faults_of loaded' written' output') held c output.told output'.told status

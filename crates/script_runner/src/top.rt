@@ -8,6 +8,7 @@ ghost use Rattle.script_runner.specs.Done.{PutsOnce, PutsHeadline};
 ghost use Rattle.script_runner.specs.Commanded.{Comes, ComesPart, TellsBy, PutsWant, SavesAll, PutsAndSaves, DoesCommand};
 ghost use Rattle.script_runner.specs.Asked.{OfScripts, OfSoaks, DoesSoak};
 ghost use Rattle.script_runner.specs.Promised.{ByHistories, ByContents};
+ghost use Rattle.script_runner.specs.Blind.{BlindLaws};
 ghost use Rattle.script_runner.specs.Brings.{CarryingLaws};
 
 use crate::commanded::of_command;
@@ -17,7 +18,7 @@ use bundle_texts::bundles_read_again;
 use command_files::{Asked, read_command};
 use flat_bundles::bundle_law;
 use flat_core::access_law;
-use image_laws::container_law;
+use image_laws::{container_law, covered_law};
 use isol_laws::two_world_law;
 use leaf_engine::Gate;
 use mig_laws::image_law;
@@ -26,6 +27,16 @@ use script_words::scripts_give_words;
 use std::alloc::{AllocError, Global};
 use std::thread::Threads;
 use td_words::OutOfMemory;
+
+// By which laws what is put and what is sealed is the same in two worlds.
+fn laws_of_worlds()
+    ensures { BlindLaws }
+{
+    two_world_law();
+    covered_law();
+    bundle_law();
+    scripts_are_in_form();
+}
 
 // By which laws the container that a run seals brings its bundles over.
 fn laws_of_carrying()
@@ -238,7 +249,7 @@ pub fn tdx_main<R: Threads + Sync, F: Files, K: Sink, G: Gate + Sync>(
     ensures puts_later { K.faults out.old ≤ K.faults out.new }
 {
     access_law();
-    two_world_law();
+    laws_of_worlds();
     image_law();
     laws_of_carrying();
     do_command(threads, alloc, words, files, out, gate)

@@ -21,7 +21,7 @@ fn line_of(alloc: Global, pages: u16) -> Result<String, Fail> {
     Ok(format!(in alloc; "soak {pages} bundles {bundles} sum {sum}\n")?)
 }
 
-const PAGES: [u16; 3] = [1, 2, 101];
+const PAGES: [u16; 2] = [1, 101];
 
 #[test]
 fn sums_the_words_of_its_pages(rt: HostRuntime) -> Result<(), Fail> {
@@ -33,15 +33,5 @@ fn sums_the_words_of_its_pages(rt: HostRuntime) -> Result<(), Fail> {
             "{pages} pages"
         );
     }
-    Ok(())
-}
-
-#[test]
-fn has_the_line_of_two_pages(rt: HostRuntime) -> Result<(), Fail> {
-    let line = soak_line(rt.alloc(), 2)?;
-    assert_eq!(rt;
-        line.as_slice(),
-        "soak 2 bundles 6 sum 14170967488582549419\n".as_bytes()
-    );
     Ok(())
 }

@@ -1,5 +1,5 @@
 -- What is read of a page from words that show a state is what is told of it.
-use Rattle.std.proofs.Common.{◌≡◌, refl, ◌∙◌, ap, subst, ℕ, zero, suc, ◌+◌, ◌-◌, ◌%◌, ◌<◌, ◌^◌, List, [], ◌∷◌, length, Option, Some, None, Bool, true, false, ◌==◌, if◌then◌else◌, arith, slice_index, ◌&&◌}
+use Rattle.std.proofs.Common.{◌≡◌, refl, ◌∙◌, ap, subst, ℕ, zero, suc, ◌+◌, ◌-◌, ◌%◌, ◌<◌, ◌^◌, ◌*◌, ◌++◌, List, [], ◌∷◌, length, Option, Some, None, Bool, true, false, ◌==◌, if◌then◌else◌, arith, slice_index, ◌&&◌}
 use Rattle.std.proofs.lemmas.Bool.{eq-eqb, ne_eqb, lt-ltb}
 use Rattle.td_words.specs.Limits.{IsMachine}
 use Rattle.td_words.specs.Laws.{PackingsUndone}
@@ -10,28 +10,32 @@ use Rattle.td_words.specs.declared.names.LifeState.{LifeState}
 use Rattle.td_words.specs.declared.names.LifeState.TheVariants as life
 use Rattle.td_words.specs.declared.names.VcpuState.{VcpuState}
 use Rattle.td_words.specs.declared.names.VcpuState.TheVariants as vcpu
-use Rattle.td_words.specs.declared.places.TheConstants.{TDR_LIFE, TDR_HKID, TDR_CHILDREN, TDR_TDCX_COUNT, TDR_TDCS, TDCS_OP, TDCS_EPOCH, TDCS_ENTERED, TDCS_MIG_EPOCH, TDCS_SESSION, TDCS_VP_COUNT, TDCS_STREAM_COUNT, VP_INDEX, VP_STATE, VP_ASSOCIATED, VP_LAST_EPOCH, VP_POSITION, STREAM_COUNTER}
+use Rattle.td_words.specs.declared.places.TheConstants.{TDR_LIFE, TDR_HKID, TDR_CHILDREN, TDR_TDCX_COUNT, TDR_TDCS, TDR_ROOT, TDCS_OP, TDCS_EPOCH, TDCS_ENTERED, TDCS_MIG_EPOCH, TDCS_SESSION, TDCS_VP_COUNT, TDCS_STREAM_COUNT, VP_INDEX, VP_STATE, VP_ASSOCIATED, VP_LAST_EPOCH, VP_POSITION, STREAM_COUNTER}
 use Rattle.td_words.specs.NameNumber.{kind_number, life_number, vcpu_number}
-use Rattle.td_words.specs.Packing.{pamt_in, is_lawful_pamt}
+use Rattle.td_words.specs.Packing.{Entry, pamt_in, is_lawful_pamt, entry_in, entry_word, is_lawful_entry}
 use Rattle.td_words.specs.Place.{Pamt as PamtPlace, Word}
 use Rattle.flat_core.specs.World.{World}
 use Rattle.flat_core.specs.Processor.{LockId}
 use Rattle.flat_core.specs.Conditions.{children, is_host_in}
-use Rattle.flat_core.specs.Lawful.{Lawful, IsPageOf, AreControls}
+use Rattle.flat_core.specs.Arguments.{level_size}
+use Rattle.flat_core.specs.Lawful.{Lawful, IsAlive, IsPageOf, IsNodeOf, AreControls, is_free}
 use Rattle.flat_core.specs.Event.{State}
+use Rattle.field_lines.specs.declared.lines.Form.{Form}
 use Rattle.word_rules.specs.Lines.{in_lines}
-use Rattle.word_rules.specs.Cells.{IsAs, page_cell, lock_word, associated_word, if_stands, entered_of_parity, tdr_lines, td_lock_lines, tdcs_lines, vp_lines, stream_lines, root_cell, control_cell}
+use Rattle.word_rules.specs.Cells.{IsAs, page_cell, lock_word, associated_word, if_stands, entered_of_parity, tdr_lines, td_lock_lines, tdcs_lines, vp_lines, stream_lines, entry_cell, root_cell, control_cell}
 use Rattle.leaf_parts.specs.Words.{life_told, op_told}
 use Rattle.leaf_parts.proofs.Told.{life-back, op-back}
 use Rattle.state_lines.specs.declared.seen.TdcsSeen.{TdcsSeen}
 use Rattle.state_lines.specs.declared.seen.TdSeen.{TdSeen}
 use Rattle.state_lines.specs.declared.seen.VcpuSeen.{VcpuSeen}
 use Rattle.state_lines.specs.declared.seen.StreamSeen.{StreamSeen}
+use Rattle.state_lines.specs.declared.seen.Content.{Content}
 use Rattle.state_lines.specs.declared.seen.Content.TheVariants as content
 use Rattle.state_lines.specs.Laws.{AreShown}
-use Rattle.state_lines.specs.Lines.{page_text}
-use Rattle.state_lines.specs.StateText.{stands, entered_at, tdcs_of, tdcs_in, td_of, vcpu_of, stream_of, content_of, pamt_of, page_seen}
-use Rattle.state_lines.specs.WordText.{word_in, pamt_seen, tdcs_seen, tdcs_found, td_seen, lp_in, vcpu_seen, stream_seen, content_in, page_if, page_read, owner_if, owner_read, vcpu_told}
+use Rattle.state_lines.specs.Lines.{in_use, entry_lines, page_text}
+use Rattle.state_lines.specs.StateText.{stands, entered_at, tdcs_of, tdcs_in, td_of, vcpu_of, stream_of, content_of, pamt_of, entry_seen, table_text, tree_of, page_seen}
+use Rattle.state_lines.proofs.Texts.{same-texts}
+use Rattle.state_lines.specs.WordText.{word_in, pamt_seen, tdcs_seen, tdcs_found, td_seen, lp_in, vcpu_seen, stream_seen, content_in, if_used, used_entry, entry_read, table_read, tree_from, root_in, tree_in, page_if, page_read, owner_if, owner_read, vcpu_told}
 
 -- numbers read back
 
@@ -248,9 +252,100 @@ module _ (back : PackingsUndone) (m : Machine) (words : List ℕ) (s : State) (l
       ap pamt_in (shown (PamtPlace p) inside)
       ∙ back.pamt (pamt_of w p) (lawful-if (w.pages.kinds p) (w.pages.owners p) (w.pages.blocked p) (owner-small p (is_host_in w.pages p) refl) (lawful.pages.blocked p) (λ h. lawful.pages.host p h))
 
-  pub page-told : (p : ℕ) → p < m.pages → page_read words p ≡ page_seen w p
-  page-told p inside =
-      ap (page_if words p) (pamt-read p inside) ∙ ap (page_text p (pamt_of w p)) (content-told p (w.pages.kinds p) inside refl)
+  -- a TD's secure EPT: the entries in a page are those of its node
+
+  entry-is : (p i : ℕ) (e : Entry) → is_lawful_entry e ≡ true → word_in words p i ≡ entry_word e → used_entry words p i ≡ in_use e
+  entry-is p i e lawful_is is = ap (λ (n : ℕ). if_used (entry_in n)) is ∙ ap if_used (back.entry e lawful_is)
+
+  abbrev HasEntries : (t l n p : ℕ) → Type 0
+  HasEntries t l n p = (i : ℕ) → i < 512 → word_in words p i ≡ entry_word (w.tds.entries t l (512 * n + i))
+
+  module _ (form : Form) (t : ℕ) (alive : IsAlive w.pages w.tds t) where
+    node-entries : (l n p : ℕ) → IsNodeOf w.pages t p kind.Ept (suc l) n → HasEntries t l n p
+    node-entries l n p is i short =
+        word-is p i kind.Ept _ (lawful.pages.in_machine p (not-host p kind.Ept is.page.kind refl)) short is.page.kind
+        (ap (λ (u : ℕ). if_stands (w.tds.lives u) (entry_cell w u (w.pages.levels p) (w.pages.numbers p) i)) is.page.owner
+        ∙ (still-there (w.tds.lives t) (entry_cell w t (w.pages.levels p) (w.pages.numbers p) i) alive.life
+        ∙ (ap (λ (z : ℕ). entry_cell w t z (w.pages.numbers p) i) is.level_is ∙ ap (λ (z : ℕ). entry_cell w t (suc l) z i) is.number_is)))
+
+    root-entries : (c r : ℕ) → w.tds.controls t ≡ c ∷ r ∷ [] → IsPageOf w.pages t r kind.Tdcx → (c == r) ≡ false → HasEntries t 3 0 r
+    root-entries c r two is apart i short =
+        word-is r i kind.Tdcx _ (lawful.pages.in_machine r (not-host r kind.Tdcx is.kind refl)) short is.kind
+        (ap (λ (u : ℕ). if_stands (w.tds.lives u) (control_cell w locks u r (w.tds.controls u) i)) is.owner
+        ∙ (still-there (w.tds.lives t) (control_cell w locks t r (w.tds.controls t) i) alive.life
+        ∙ (ap (λ (xs : List ℕ). control_cell w locks t r xs i) two
+        ∙ (ap (λ (b : Bool). if b then in_lines (td_lock_lines locks t (tdcs_lines w t)) i else root_cell w t r (r ∷ []) i) apart
+        ∙ ap (λ (b : Bool). if b then entry_cell w t 4 0 i else None) (eq-eqb r r refl)))))
+
+    abbrev entry_of : (l n i : ℕ) → Entry
+    entry_of l n i = w.tds.entries t l (512 * n + i)
+
+    entries-alike : (l n p i g : ℕ) → word_in words p i ≡ entry_word (entry_of l n i)
+        → (is_free (entry_of l n i).state ≡ false → table_read form words t l (entry_of l n i).page (g + level_size l * i) ≡ table_text form w t l (512 * n + i) (g + level_size l * i))
+        → entry_read form words (λ q at. table_read form words t l q at) t l p g i ≡ entry_seen form w (λ m at. table_text form w t l m at) t l n g i
+    entries-alike l n p i g is below =
+        ap (λ (o : Option Entry). entry_lines form t l (g + level_size l * i) (λ e. table_read form words t l e.page (g + level_size l * i)) o) (entry-is p i (entry_of l n i) (lawful.tree.entry limits.pages.1 t l (512 * n + i)) is)
+        ∙ by (is_free (entry_of l n i).state) below
+      where
+        by : (b : Bool) → (b ≡ false → table_read form words t l (entry_of l n i).page (g + level_size l * i) ≡ table_text form w t l (512 * n + i) (g + level_size l * i))
+            → entry_lines form t l (g + level_size l * i) (λ e. table_read form words t l e.page (g + level_size l * i)) (if b then None else Some (entry_of l n i))
+            ≡ entry_lines form t l (g + level_size l * i) (λ e. table_text form w t l (512 * n + i) (g + level_size l * i)) (if b then None else Some (entry_of l n i))
+        by true f = refl
+        by false f = ap (λ (xs : List ℕ). entry_lines form t l (g + level_size l * i) (λ e. xs) (Some (entry_of l n i))) (f refl)
+
+    -- the page that a used entry names is the node below it
+    table-told : (l n p g : ℕ) → HasEntries t l n p → table_read form words t (suc l) p g ≡ table_text form w t (suc l) n g
+    unfolding table_read table_text
+    table-told zero n p g h = same-texts _ _ 512 (λ i short. entries-alike zero n p i g (h i short) (λ used. refl))
+    table-told (suc k) n p g h =
+        same-texts _ _ 512
+        (λ i short. entries-alike (suc k) n p i g (h i short)
+        (λ used. table-told k (512 * n + i) (entry_of (suc k) n i).page (g + level_size (suc k) * i) (node-entries k (512 * n + i) (entry_of (suc k) n i).page (lawful.tree.upper t k (512 * n + i) alive used).1)))
+
+  -- from the root on
+  module _ (form : Form) (t : ℕ) (is : w.pages.kinds t ≡ kind.Tdr) where
+    abbrev root_word : ℕ
+    root_word = word_in words t TDR_ROOT % 65536
+
+    root-told : (c r : ℕ) → w.tds.controls t ≡ c ∷ r ∷ [] → (b : Bool) → (life_number (w.tds.lives t) == life_number life.Teardown) ≡ b
+        → tree_from form words t (if b then None else Some root_word) ≡ (if b then [] else table_text form w t 4 0 0)
+    root-told c r two true e = refl
+    root-told c r two false e =
+        let alive : IsAlive w.pages w.tds t = record { kind = is; life = e } in
+        let pages = subst (λ (xs : List ℕ). AreControls w.pages t xs) two (lawful.tds.controls t alive) in
+        let at : word_in words t TDR_ROOT ≡ r = tdr-word t is TDR_ROOT (λ u. slice_index (w.tds.controls u) 1) (omega arith) (λ u. refl) ∙ ap (λ (xs : List ℕ). slice_index xs 1) two in
+        let less : r < m.pages = lawful.pages.in_machine r (not-host r kind.Tdcx pages.1.kind refl) in
+        let whole : root_word ≡ r = omega (arith, at, less, limits.pages) in
+        ap (λ (p : ℕ). table_read form words t 4 p 0) whole ∙ table-told form t alive 3 0 r 0 (root-entries form t alive c r two pages.1 pages.2)
+
+    tree-is : (cs : List ℕ) → w.tds.controls t ≡ cs
+        → tree_from form words t (if length cs == 2 then stands (life_told (word_in words t TDR_LIFE)) (Some root_word) None else None)
+        ≡ (if length cs == 2 then stands (w.tds.lives t) (table_text form w t 4 0 0) [] else [])
+    tree-is [] e = refl
+    tree-is (c ∷ []) e = refl
+    tree-is (c ∷ r ∷ []) e =
+        ap (λ (l : LifeState). tree_from form words t (stands l (Some root_word) None)) (life-is t is) ∙ root-told c r e (life_number (w.tds.lives t) == life_number life.Teardown) refl
+    tree-is (c ∷ r ∷ x ∷ cs) e = rw (ne_eqb (length (c ∷ r ∷ x ∷ cs)) 2 (λ z. absurd (omega (arith, z)))) refl
+
+    tree-told : tree_from form words t (root_in words t) ≡ tree_of form w t kind.Tdr
+    tree-told =
+        ap (λ (n : ℕ). tree_from form words t (if n == 2 then stands (life_told (word_in words t TDR_LIFE)) (Some root_word) None else None)) (count-is t is)
+        ∙ tree-is (w.tds.controls t) refl
+
+  tree-of-page : (form : Form) (p : ℕ) (k : PageKind) → w.pages.kinds p ≡ k → tree_in form words p k ≡ tree_of form w p k
+  tree-of-page form p kind.Tdr is = tree-told form p is
+  tree-of-page form p kind.Nda is = refl
+  tree-of-page form p kind.Reg is = refl
+  tree-of-page form p kind.Tdcx is = refl
+  tree-of-page form p kind.Tdvpr is = refl
+  tree-of-page form p kind.Ept is = refl
+  tree-of-page form p kind.Migsc is = refl
+
+  pub page-told : (form : Form) (p : ℕ) → p < m.pages → page_read form words p ≡ page_seen form w p
+  page-told form p inside =
+      ap (page_if form words p) (pamt-read p inside)
+      ∙ (ap (λ (z : Content). page_text form p (pamt_of w p) z ++ tree_in form words p (w.pages.kinds p)) (content-told p (w.pages.kinds p) inside refl)
+      ∙ ap (λ (xs : List ℕ). page_text form p (pamt_of w p) (content_of w p (w.pages.kinds p)) ++ xs) (tree-of-page form p (w.pages.kinds p) refl))
 
   pub owner-told : (p : ℕ) → p < m.pages → owner_read words p ≡ w.pages.owners p
   owner-told p inside = ap owner_if (pamt-read p inside)

@@ -4,6 +4,7 @@ use Rattle.td_words.specs.Limits.{IsMachine}
 use Rattle.td_words.specs.declared.machines.Machine.{Machine}
 use Rattle.td_words.specs.Place.{WordPlace, IsIn, address}
 use Rattle.flat_core.specs.Lawful.{Lawful}
+use Rattle.field_lines.specs.declared.lines.Form.{Form}
 use Rattle.flat_core.specs.Opening.{Opening}
 use Rattle.flat_core.specs.Event.{State, Event, start, next_event, event, lines_left}
 use Rattle.flat_core.specs.Run.{play, to_the_end}
@@ -22,15 +23,15 @@ AreShown m words s = (q : WordPlace) → IsIn m q → IsAs (cell s q) (slice_ind
 
 -- Words that show a lawful state tell what is told of its pages, and whose each page is.
 pub record WordsTellPages : Type 0 where
-  pub pages : (m : Machine) (words : List ℕ) (s : State) → IsMachine m → Lawful m s.world → AreShown m words s
-      → texts_below (page_read words) m.pages ≡ texts_below (page_seen s.world) m.pages
+  pub pages : (f : Form) (m : Machine) (words : List ℕ) (s : State) → IsMachine m → Lawful m s.world → AreShown m words s
+      → texts_below (page_read f words) m.pages ≡ texts_below (page_seen f s.world) m.pages
   pub owner : (m : Machine) (words : List ℕ) (s : State) (p : ℕ) → IsMachine m → Lawful m s.world → AreShown m words s → p < m.pages
       → owner_read words p ≡ s.world.pages.owners p
 
 -- And a logical processor that stands where such a state has it knows of itself what is told of it.
 abbrev pub LpsTell : Type 0
-LpsTell = (o : Opening) (t : LeafTable) (p calls : ℕ) (words : List ℕ) (s : State) (at_words : WordPlace → ℕ) (at : WordLp) → IsMachine o.machine → Lawful o.machine s.world → AreShown o.machine words s
-    → LpStands o t p s.world at_words (s.lps p) at → lp_read words p calls at ≡ lp_text p calls (s.lps p)
+LpsTell = (f : Form) (o : Opening) (t : LeafTable) (p calls : ℕ) (words : List ℕ) (s : State) (at_words : WordPlace → ℕ) (at : WordLp) → IsMachine o.machine → Lawful o.machine s.world → AreShown o.machine words s
+    → LpStands o t p s.world at_words (s.lps p) at → lp_read f words p calls at ≡ lp_text f p calls (s.lps p)
 
 -- How events lead on. An item of a processor that has ended changes nothing, and neither does one more of a processor before which
 -- all have ended, where the run goes on to its end; and where all have ended nothing is left.

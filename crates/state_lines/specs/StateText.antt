@@ -1,5 +1,5 @@
--- What is told of a state, line by line.
-use Rattle.std.specs.Prelude.{ℕ, ◌+◌, ◌%◌, ◌==◌, if◌then◌else◌, List, [], ◌∷◌, ◌++◌, length, map, Option, Some, None}
+-- What is told of a state, line by line, in either form.
+use Rattle.std.specs.Prelude.{ℕ, zero, suc, ◌+◌, ◌*◌, ◌%◌, ◌==◌, if◌then◌else◌, List, [], ◌∷◌, ◌++◌, length, map, Option, Some, None}
 use Rattle.std.specs.List.{concat}
 use Rattle.td_words.specs.declared.names.PageKind.{PageKind}
 use Rattle.td_words.specs.declared.names.PageKind.TheVariants as kind
@@ -8,11 +8,13 @@ use Rattle.td_words.specs.declared.names.LifeState.TheVariants as life
 use Rattle.td_words.specs.NameNumber.{life_number}
 use Rattle.td_words.specs.Packing.{Pamt}
 use Rattle.flat_core.specs.World.{World}
+use Rattle.flat_core.specs.Arguments.{level_size}
 use Rattle.flat_core.specs.Processor.{LockId, OfPage, OfOp, OfTree, OfEpoch, OfRtmr, OfKeys, name_of, Held, Guest, Translation, Lp}
 use Rattle.flat_core.specs.Conditions.{children}
 use Rattle.flat_core.specs.Opening.{Opening}
 use Rattle.flat_core.specs.Event.{State, calls_of}
 use Rattle.word_rules.specs.Cells.{entered_of_parity}
+use Rattle.field_lines.specs.declared.lines.Form.{Form}
 use Rattle.state_lines.specs.declared.seen.TdcsSeen.{TdcsSeen}
 use Rattle.state_lines.specs.declared.seen.TdSeen.{TdSeen}
 use Rattle.state_lines.specs.declared.seen.VcpuSeen.{VcpuSeen}
@@ -21,7 +23,7 @@ use Rattle.state_lines.specs.declared.seen.Content.{Content}
 use Rattle.state_lines.specs.declared.seen.Content.TheVariants as content
 use Rattle.state_lines.specs.declared.seen.Holder.{Holder}
 use Rattle.state_lines.specs.declared.seen.Holder.TheVariants as holder
-use Rattle.state_lines.specs.Lines.{texts_below, page_text, done_line, held_line, guest_line, cached_line}
+use Rattle.state_lines.specs.Lines.{texts_below, in_use, entry_lines, page_text, done_line, held_line, guest_line, cached_line}
 
 -- the PAMT's entry of a page
 abbrev pub pamt_of : World → ℕ → Pamt
@@ -69,8 +71,22 @@ content_of w p kind.Tdvpr = stands (w.tds.lives (w.pages.owners p)) (content.Vcp
 content_of w p kind.Migsc = stands (w.tds.lives (w.pages.owners p)) (content.Stream (stream_of w p)) content.Nothing
 content_of w p _ = content.Nothing
 
-abbrev pub page_seen : World → ℕ → List ℕ
-page_seen w p = page_text p (pamt_of w p) (content_of w p (w.pages.kinds p))
+-- the entries that aren't FREE of a node of a TD's secure EPT, each with those below it: of the node of that level and number, which
+-- begins at that GPA
+abbrev pub entry_seen : Form → World → (below : (number gpa : ℕ) → List ℕ) → (t level number gpa index : ℕ) → List ℕ
+entry_seen f w below t l n g i = let at = g + level_size l * i in entry_lines f t l at (λ e. below (512 * n + i) at) (in_use (w.tds.entries t l (512 * n + i)))
+
+unfoldable pub table_text : Form → World → (t level number gpa : ℕ) → List ℕ
+table_text f w t zero n g = []
+table_text f w t (suc l) n g = texts_below (entry_seen f w (λ m at. table_text f w t l m at) t l n g) 512
+
+-- of a TD with both control pages, from the root on, which is a node of level 4 here
+abbrev pub tree_of : Form → World → ℕ → PageKind → List ℕ
+tree_of f w t kind.Tdr = if length (w.tds.controls t) == 2 then stands (w.tds.lives t) (table_text f w t 4 0 0) [] else []
+tree_of f w t _ = []
+
+abbrev pub page_seen : Form → World → ℕ → List ℕ
+page_seen f w p = page_text f p (pamt_of w p) (content_of w p (w.pages.kinds p)) ++ tree_of f w p (w.pages.kinds p)
 
 -- the TD that a lock is of; 0 where it is of none
 abbrev pub td_of_lock : LockId → ℕ
@@ -82,22 +98,22 @@ td_of_lock (OfRtmr t) = t
 td_of_lock OfKeys = 0
 
 -- the locks that are held, the oldest first
-abbrev pub held_text : ℕ → Holder → List Held → List ℕ
-held_text p who [] = []
-held_text p who (h ∷ hs) = held_text p who hs ++ held_line p who (name_of h.lock) (td_of_lock h.lock) h.mode
+abbrev pub held_text : Form → ℕ → Holder → List Held → List ℕ
+held_text f p who [] = []
+held_text f p who (h ∷ hs) = held_text f p who hs ++ held_line f p who (name_of h.lock) (td_of_lock h.lock) h.mode
 
-abbrev pub guest_text : ℕ → Option Guest → List ℕ
-guest_text p None = []
-guest_text p (Some g) = guest_line p g.tdr g.vp g.completed g.most ++ held_text p holder.Guest g.operation.held
+abbrev pub guest_text : Form → ℕ → Option Guest → List ℕ
+guest_text f p None = []
+guest_text f p (Some g) = guest_line f p g.tdr g.vp g.completed g.most ++ held_text f p holder.Guest g.operation.held
 
-abbrev pub translation_line : ℕ → Translation → List ℕ
-translation_line p c = cached_line p c.tdr c.gpa_page c.page c.may_write
+abbrev pub translation_line : Form → ℕ → Translation → List ℕ
+translation_line f p c = cached_line f p c.tdr c.gpa_page c.page c.may_write
 
 -- a logical processor with so many calls
-abbrev pub lp_text : (p calls : ℕ) → Lp → List ℕ
-lp_text p calls lp =
-    done_line p (length lp.replies) calls ++ (held_text p holder.Call lp.call.held ++ (guest_text p lp.guest ++ concat (map (translation_line p) lp.cached)))
+abbrev pub lp_text : Form → (p calls : ℕ) → Lp → List ℕ
+lp_text f p calls lp =
+    done_line f p (length lp.replies) calls ++ (held_text f p holder.Call lp.call.held ++ (guest_text f p lp.guest ++ concat (map (translation_line f p) lp.cached)))
 
 -- all pages, and then all logical processors
-unfoldable pub state_text : Opening → State → List ℕ
-state_text o s = texts_below (page_seen s.world) o.machine.pages ++ texts_below (λ p. lp_text p (length (calls_of o.calls p)) (s.lps p)) (length o.calls)
+unfoldable pub state_text : Form → Opening → State → List ℕ
+state_text f o s = texts_below (page_seen f s.world) o.machine.pages ++ texts_below (λ p. lp_text f p (length (calls_of o.calls p)) (s.lps p)) (length o.calls)

@@ -4,17 +4,19 @@ ghost use Rattle.std.specs.Prelude.{◌≡◌, slice_index, true, false};
 ghost use Rattle.state_lines.specs.StateText.{stands};
 ghost use Rattle.td_words.specs.declared.places.TheConstants.{TDR_LIFE};
 ghost use Rattle.leaf_parts.specs.Words.{life_told};
-ghost use Rattle.state_lines.specs.WordText.{word_in, pamt_seen, tdcs_seen, tdcs_found, td_seen, lp_in, vcpu_seen, stream_seen, content_in, owner_read, vcpu_told};
+ghost use Rattle.state_lines.specs.WordText.{word_in, used_entry, root_in, pamt_seen, tdcs_seen, tdcs_found, td_seen, lp_in, vcpu_seen, stream_seen, content_in, owner_read, vcpu_told};
 
 use crate::seen::{Content, StreamSeen, TdSeen, TdcsSeen, VcpuSeen};
 use leaf_parts::{life_told, op_told};
 use pamt_core::PamtWord;
+use sept_entry::Entry;
 use td_words::places::{
     STREAM_COUNTER, TDCS_ENTERED, TDCS_EPOCH, TDCS_MIG_EPOCH, TDCS_OP, TDCS_SESSION,
-    TDCS_STREAM_COUNT, TDCS_VP_COUNT, TDR_CHILDREN, TDR_HKID, TDR_LIFE, TDR_TDCS, TDR_TDCX_COUNT,
-    VP_ASSOCIATED, VP_INDEX, VP_LAST_EPOCH, VP_POSITION, VP_STATE,
+    TDCS_STREAM_COUNT, TDCS_VP_COUNT, TDR_CHILDREN, TDR_HKID, TDR_LIFE, TDR_ROOT, TDR_TDCS,
+    TDR_TDCX_COUNT, VP_ASSOCIATED, VP_INDEX, VP_LAST_EPOCH, VP_POSITION, VP_STATE,
 };
-use td_words::{LifeState, PageKind, VcpuState};
+use td_words::{EntryState, LifeState, PageKind, VcpuState};
+use tlb_epochs::count_at;
 
 // The word at an address, and 0 behind the last one.
 fn word_at(words: &[u64], at: usize) -> u64
@@ -62,7 +64,7 @@ fn tdcs_seen(words: &[u64], page: u16) -> TdcsSeen
     ensures { result ≡ tdcs_seen words.now page }
 {
     let epoch = word_in(words, page, TDCS_EPOCH);
-    let parity = (epoch % 2) as u16;
+    let parity = u16::from(count_at((epoch % (1 << 32)) as u32));
     TdcsSeen {
         page: page as u64,
         op: op_told(word_in(words, page, TDCS_OP)),
@@ -85,6 +87,27 @@ fn tdcs_found(words: &[u64], tdr: u16) -> Option<TdcsSeen>
     }
     let page = (word_in(words, tdr, TDR_TDCS) % 65536) as u16;
     Some(tdcs_seen(words, page))
+}
+
+// The entry at an index of a page; None where the word is none, or one that is FREE.
+pub(crate) fn used_entry(words: &[u64], page: u16, index: u16) -> Option<Entry>
+    ensures { result ≡ used_entry words.now page index }
+{
+    let entry = Entry::unpack(word_in(words, page, index))?;
+    match entry.state {
+        EntryState::Free => None,
+        _ => Some(entry),
+    }
+}
+
+// The root of a TD's secure EPT, where it has one that counts.
+pub(crate) fn root_in(words: &[u64], tdr: u16) -> Option<u16>
+    ensures { result ≡ root_in words.now tdr }
+{
+    if word_in(words, tdr, TDR_TDCX_COUNT) != 2 || !stands(words, tdr) {
+        return None;
+    }
+    Some((word_in(words, tdr, TDR_ROOT) % 65536) as u16)
 }
 
 // Whether a TD isn't in TD_TEARDOWN.

@@ -1,3 +1,4 @@
+pub mod Asked
 pub mod Entries
 pub mod Keys
 pub mod Ops

@@ -1,5 +1,5 @@
 -- In which operation states calls come, and to which they lead; and in which life states.
-use Rattle.std.proofs.Common.{◌≡◌, refl, sym, ◌∙◌, ap, ℕ, zero, suc, [], ◌∷◌, Option, Some, None, Bool, true, false, ◌==◌}
+use Rattle.std.proofs.Common.{◌≡◌, refl, sym, ◌∙◌, ap, ℕ, zero, suc, Option, Some, None, Bool, true, false, ◌==◌}
 use Rattle.std.specs.Prelude.{slice_index_or}
 use Rattle.std.proofs.lemmas.Bool.{eqb-true}
 use Rattle.td_words.specs.declared.names.ReadField.TheVariants as field
@@ -18,13 +18,15 @@ use Rattle.flat_core.specs.Row.{Passes}
 use Rattle.flat_core.specs.Conditions.{is_host_in}
 use Rattle.flat_core.specs.Tree.{entry_at}
 use Rattle.flat_core.specs.Inputs.{Input, input_in}
-use Rattle.flat_core.specs.ImportRows.{is_start, import_token_ops, op_then, fill_page}
+use Rattle.flat_core.specs.ImportRows.{is_start, op_then, fill_page}
 use Rattle.flat_core.specs.Table.{row_of}
 use Rattle.flat_core.specs.Event.{event}
 use Rattle.flat_core.proofs.Tests.{by_test}
 use Rattle.td_laws.specs.Steps.{Step, is_among, values_after, ComesIn, may_move}
 use Rattle.td_laws.specs.Ops.{each, token_in, op_step, ops_of, next_ops, CallsComeInTheirOps, EventsLeadOps, EventsMoveOps, FailedImportsStay}
 use Rattle.td_laws.specs.Lives.{each as each_life, with_keys, life_step, lives_of, next_lives, CallsComeInTheirLives, EventsLeadLives, EventsMoveLives}
+use Rattle.td_laws.specs.Asked.{life_refused, op_refused}
+use Rattle.td_laws.proofs.Asked.{comes_as_said, rows_ask_for_lives, rows_ask_for_ops}
 use Rattle.td_laws.proofs.Steps.{IsFit, put_elsewhere, moves, events_lead, events_move}
 
 -- A state is told by its number.
@@ -56,85 +58,14 @@ any_life : (s : LifeState) → is_among life_number s each_life ≡ true
 any_life life.HkidAssigned = refl
 any_life _ = refl
 
--- What a call asks of its TD besides: it has its keys, and is in one of these operation states. A TD that begins isn't asked.
-abbrev asked : Opening → Call → Option (Step OpState)
-asked o (call.MngCreate tdr hkid) = None
-asked o c = op_step o c
-
-abbrev Asks : World → Option (Step OpState) → Type 0
-Asks w None = Unit {0}
-Asks w (Some step) = (is_among life_number (w.tds.lives step.tdr) (life.KeysConfigured ∷ []) ≡ true) × (is_among op_number (w.tds.ops step.tdr) step.from ≡ true)
-
 module _ (o : Opening) (me : ℕ) (w : World) where
-  token_asks : (t : ℕ) (b : Bool) → is_among life_number (w.tds.lives t) (life.KeysConfigured ∷ []) ≡ true → is_among op_number (w.tds.ops t) (import_token_ops b) ≡ true → Asks w (token_in t b)
-  token_asks t true k h = (k, h)
-  token_asks t false k h = (k, h)
-
-  call_asks : (c : Call) → Passes ((row_of o me c).items w) → Asks w (asked o c)
-  call_asks (call.MngInit tdr) ps = let x = ps.1 in (x.1.0, x.1.1.1.0)
-  call_asks (call.MngRd tdr field.Op) ps = let x = ps.1 in (x.1.0, x.1.1.1.0)
-  call_asks (call.MngRd tdr field.Epoch) ps = let x = ps.1 in (x.1.0, x.1.1.1.0)
-  call_asks (call.MngRd tdr field.Mrtd) ps = let x = ps.1 in (x.1.0, x.1.1.1.0)
-  call_asks (call.MngRd tdr field.Life) ps = tt
-  call_asks (call.MrExtend tdr gpa) ps = let x = ps.1.1.1 in (x.1.0, x.1.1.1.0)
-  call_asks (call.MrFinalize tdr) ps = let x = ps.1 in (x.1.0, x.1.1.1.0)
-  call_asks (call.VpCreate tdr page) ps = let x = ps.1.1.1 in (x.1.0, x.1.1.1.0)
-  call_asks (call.VpInit tdr vp value) ps = let x = ps.1.1.1 in (x.1.0, x.1.1.1.0)
-  call_asks (call.VpEnter tdr vp max) ps = let x = ps.1.1.1.1 in (x.1.0, x.1.1.1.0)
-  call_asks (call.MemSeptAdd tdr gpa level page) ps = let x = ps.1.1.1.1.1.1 in (x.1.0, x.1.1.1.0)
-  call_asks (call.MemSeptRd tdr gpa level) ps = let x = ps.1.1.1.1 in (x.1.0, x.1.1.1.0)
-  call_asks (call.MemSeptRemove tdr gpa level) ps = let x = ps.1.1.1.1 in (x.1.0, x.1.1.1.0)
-  call_asks (call.MemPageAdd tdr gpa page source) ps = let x = ps.1.1.1.1.1.1.1.1 in (x.1.0, x.1.1.1.0)
-  call_asks (call.MemPageAug tdr gpa page) ps = let x = ps.1.1.1.1.1 in (x.1.0, x.1.1.1.0)
-  call_asks (call.MemPageRemove tdr gpa) ps = let x = ps.1.1.1 in (x.1.0, x.1.1.1.0)
-  call_asks (call.MemRangeBlock tdr gpa level) ps = let x = ps.1.1.1.1 in (x.1.0, x.1.1.1.0)
-  call_asks (call.MemRangeUnblock tdr gpa level) ps = let x = ps.1.1.1.1 in (x.1.0, x.1.1.1.0)
-  call_asks (call.MemTrack tdr) ps = let x = ps.1 in (x.1.0, x.1.1.1.0)
-  call_asks (call.MigStreamCreate tdr page) ps = let x = ps.1.1.1 in (x.1.0, x.1.1.1.0)
-  call_asks (call.ExportStateImmutable tdr slot) ps = let x = ps.1 in (x.1.0, x.1.1.1.0)
-  call_asks (call.ExportBlockw tdr gpa) ps = let x = ps.1.1.1 in (x.1.0, x.1.1.1.0)
-  call_asks (call.ExportUnblockw tdr gpa) ps = let x = ps.1.1.1 in (x.1.0, x.1.1.1.0)
-  call_asks (call.ExportMem tdr gpa stream slot) ps = let x = ps.1.1.1.1 in (x.1.0, x.1.1.1.0)
-  call_asks (call.ExportTrack tdr slot zero) ps = let x = ps.1.1 in (x.1.0, x.1.1.1.0)
-  call_asks (call.ExportTrack tdr slot (suc n)) ps = let x = ps.1.1 in (x.1.0, x.1.1.1.0)
-  call_asks (call.ExportPause tdr) ps = let x = ps.1 in (x.1.0, x.1.1.1.0)
-  call_asks (call.ExportStateTd tdr slot) ps = let x = ps.1 in (x.1.0, x.1.1.1.0)
-  call_asks (call.ExportStateVp tdr vp slot) ps = let x = ps.1.1.1 in (x.1.0, x.1.1.1.0)
-  call_asks (call.ExportAbort tdr) ps = let x = ps.1 in (x.1.0, x.1.1.1.0)
-  call_asks (call.ExportAbortByToken tdr slot) ps = let x = ps.1.1.1.1 in (x.1.0, x.1.1.1.0)
-  call_asks (call.ExportRestore tdr gpa) ps = let x = ps.1.1.1 in (x.1.0, x.1.1.1.0)
-  call_asks (call.ImportStateImmutable tdr slot) ps = let x = ps.1.1.1.1 in (x.1.0, x.1.1.1.0)
-  call_asks (call.ImportMem tdr slot page) ps = let x = ps.1.1.1.1.1.1 in (x.1.0, x.1.1.1.0)
-  call_asks (call.ImportTrack tdr slot) ps = let x = ps.1.1.1.1 in token_asks tdr (is_start (input_in (o.bundles slot)).header) x.1.0 x.1.1.1.0
-  call_asks (call.ImportStateTd tdr slot) ps = let x = ps.1.1.1.1 in (x.1.0, x.1.1.1.0)
-  call_asks (call.ImportStateVp tdr vp slot) ps = let x = ps.1.1.1.1.1.1 in (x.1.0, x.1.1.1.0)
-  call_asks (call.ImportCommit tdr) ps = let x = ps.1 in (x.1.0, x.1.1.1.0)
-  call_asks (call.ImportEnd tdr) ps = let x = ps.1 in (x.1.0, x.1.1.1.0)
-  call_asks (call.ImportAbort tdr slot) ps = let x = ps.1 in (x.1.0, x.1.1.1.0)
-  call_asks (call.HostRead page word) ps = tt
-  call_asks _ ps = tt
-
-  op_asked : (x : Option (Step OpState)) → Asks w x → ComesIn op_number w.tds.ops x
-  op_asked None h = tt
-  op_asked (Some step) h = h.1
-
-  keys_asked : (x : Option (Step OpState)) → Asks w x → ComesIn life_number w.tds.lives (with_keys x)
-  keys_asked None h = tt
-  keys_asked (Some step) h = h.0
-
   pub op_comes : (c : Call) → Passes ((row_of o me c).items w) → ComesIn op_number w.tds.ops (op_step o c)
   op_comes (call.MngCreate tdr hkid) ps = any_op (w.tds.ops tdr)
-  op_comes c ps = op_asked (asked o c) (call_asks c ps)
+  op_comes c ps = comes_as_said op_refused op_number w.tds.ops (op_step o c) ((row_of o me c).items w) (rows_ask_for_ops o me c w) ps
 
   pub life_comes : (c : Call) → Passes ((row_of o me c).items w) → ComesIn life_number w.tds.lives (life_step o c)
   life_comes (call.MngCreate tdr hkid) ps = any_life (w.tds.lives tdr)
-  life_comes (call.MngKeyConfig tdr) ps = ps.1.1.0
-  life_comes (call.MngAddcx tdr page) ps = ps.1.1.1.1.0
-  life_comes (call.VpFlush tdr vp) ps = ps.1.1.1.1.0
-  life_comes (call.MngVpflushdone tdr) ps = ps.1.1.0
-  life_comes (call.MngKeyFreeid tdr) ps = ps.1.1.0
-  life_comes (call.PhymemPageReclaim tdr page) ps = ps.1.1.1.0
-  life_comes c ps = keys_asked (asked o c) (call_asks c ps)
+  life_comes c ps = comes_as_said life_refused life_number w.tds.lives (life_step o c) ((row_of o me c).items w) (rows_ask_for_lives o me c w) ps
 
   module _ (t : ℕ) where
     token_leads : (tdr : ℕ) (b : Bool) → put w.tds.ops tdr (op_then b (w.tds.ops tdr)) t ≡ values_after (token_in tdr b) w.tds.ops t

@@ -34,7 +34,8 @@ abbrev pub token_in : (tdr : ℕ) → Bool → Option (Step OpState)
 token_in t true = leads t (op.StateImport ∷ []) op.PostImport
 token_in t false = comes t (op.MemoryImport ∷ op.StateImport ∷ [])
 
--- The calls. MNG.CREATE begins a TD, whatever there was at its page before. A call that isn't named asks for no operation state.
+-- The calls. MNG.CREATE begins a TD, whatever there was at its page before. A call that isn't named asks for no operation state
+-- (RowsAskForOps).
 abbrev pub op_step : Opening → Call → Option (Step OpState)
 op_step o (call.MngCreate tdr hkid) = leads tdr each op.Uninitialized
 op_step o (call.MngInit tdr) = leads tdr (op.Uninitialized ∷ []) op.Initialized

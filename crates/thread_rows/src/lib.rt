@@ -1,9 +1,7 @@
 //! Rows of scripts whose processors run in threads: what no clause says of them, that they run beside
-//! each other, under `threaded_texts` and under the top call's `run`. They have a crate of their own,
-//! since one with tests is proved twice.
+//! each other under the top call's `run`. They have a crate of their own, since one with tests is proved
+//! twice.
 #![tactic(auto)]
 
-#[cfg(test)]
-mod hand_overs;
 #[cfg(test)]
 mod meetings;

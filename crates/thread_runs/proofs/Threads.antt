@@ -37,12 +37,13 @@ own-turns : (place : Place) (given : Given) (codes : List CodeSeen) (s t : LpSta
 own-turns place given codes s t [] at same has h = ap seen_of h
 own-turns place given codes s t (ps ∷ pss) at same has h =
     let r = h.1.0 in
-    let m = h.1.1 in (
-      h.0,
+    let m = h.1.1 in
+    let e : Event = m.3.event_is in (
+      e,
       (
         seen_of r,
-        subst (λ (z : Place). TurnsAt z given codes s h.0 ps r) at
-            (subst (λ (z : Given). TurnsAt s.place z codes s h.0 ps r) same (subst (λ (cs : List CodeSeen). TurnsAt s.place (given_in s.given) cs s h.0 ps r) has m.3)),
+        subst (λ (z : Place). TurnsAt z given codes s e ps r) at
+            (subst (λ (z : Given). TurnsAt s.place z codes s e ps r) same (subst (λ (cs : List CodeSeen). TurnsAt s.place (given_in s.given) cs s e ps r) has m.3.turns)),
         own-turns place given codes r t pss (m.0 ∙ at) (m.1 ∙ same) (m.2 ∙ has) h.1.2,
       ),
     )

@@ -3,6 +3,7 @@ use Rattle.std.proofs.Common.{◌≡◌, ◌⊎◌, inl, inr, ℕ, ◌+◌, ◌<
 use Rattle.td_words.specs.declared.machines.Machine.{Machine}
 use Rattle.td_words.specs.declared.calls.Call.{Call}
 use Rattle.td_words.specs.declared.calls.GuestOp.{GuestOp}
+use Rattle.td_words.specs.declared.replies.Outcome.{Outcome}
 use Rattle.td_words.specs.declared.replies.Reply.{Reply}
 use Rattle.mrtd_measure.specs.declared.measures.Measure.{Measure}
 use Rattle.flat_core.specs.World.{World}
@@ -12,6 +13,7 @@ use Rattle.flat_core.specs.Lawful.{Lawful}
 use Rattle.flat_core.specs.Row.{Move, Attempts, Undoes, Refuses, Succeeds, Releases, Rests, next_in}
 use Rattle.flat_core.specs.Guest.{walk_level}
 use Rattle.flat_core.specs.Event.{State, start, Event, next_event, event_for, lines_left, after_event, event, is_granted}
+use Rattle.flat_core.specs.Event as flat
 use Rattle.flat_core.specs.Run.{play}
 use Rattle.word_rules.specs.Cells.{Shows}
 use Rattle.step_core.specs.Items.{Table, PlaysTo}
@@ -43,7 +45,7 @@ use Rattle.trace_lines.specs.declared.traces.What.TheVariants as what
 use Rattle.trace_lines.specs.declared.traces.Traced.{Traced}
 use Rattle.trace_lines.specs.Traces.{move_is, what_is, guest_level, reply_behind, traced, traced_first, traces_from}
 use Rattle.trace_laws.specs.Told.{step_told, act_told, event_told, told, turn_told}
-use Rattle.trace_laws.specs.Laws.{TurnsAreTold}
+use Rattle.trace_laws.specs.Laws.{IsExitOf, WasTold, TurnsAreTold}
 use Rattle.trace_laws.proofs.Moves.{move-told}
 use Rattle.trace_laws.proofs.Steps.{StepFits, step-fits}
 
@@ -122,6 +124,28 @@ module _ (o : Opening) (leaf : ℕ → LeafTable) (are : AreLeaves o leaf) (p : 
         step-at st (step-fits o call-line t.codes b.cached x) (are.step_row p x.tdr x.vp call-line st) run m
         ∙ ap (λ (z : ℕ → ℕ → List GuestOp). event_told (step_told (step_of z b.cached x)) e) same-codes
 
+    -- which is left by a count step alone
+    step-left : (st : Step) → step_of t.codes b.cached x ≡ st → StepFits o call-line x st → ByItsRow o x.tdr x.vp call-line st (leaf_at st).meaning → (run : Standing) (m : IsMoved o s p (leaf_at st) run e) → (v : ℕ) (out : Outcome)
+        → event_of (leaf_at st).meaning m.move ≡ flat.Leaves v out → IsExitOf o (record { lines = c ∷ cs; run = None; guest = Some x; replies = rs; beside = b }) e v
+    step-left (Operates op) at fits row run m v out is = (let same = sym (ap (λ (k : Meaning). event_of k m.move) (row fits.0 fits.1)) ∙ is in cc)
+    step-left (Accesses access r gpa page) at fits row run m v out is = (let same = sym (ap (λ (k : Meaning). event_of k m.move) row) ∙ is in cc)
+    step-left (Loads access gpa level page) at fits row run m v out is = (let same = sym (ap (λ (k : Meaning). event_of k m.move) row) ∙ is in cc)
+    step-left (Leaves z) at fits row run m v out is =
+        let same : flat.Leaves x.vp z ≡ flat.Leaves v out = sym (ap (λ (k : Meaning). event_of k m.move) row) ∙ is in
+        record {
+          guest = x;
+          is_in = refl;
+          vp_is = cc;
+          outcome = z;
+          step = ap (λ (y : ℕ → ℕ → List GuestOp). step_of y b.cached x) (sym same-codes) ∙ at;
+          acts = m.single (λ h. subst HasMoves row h);
+        }
+
+    left-in : (give : Bool) (run : Standing) (m : IsMoved o s p (task_in t c x rs b give) run e) → (v : ℕ) (out : Outcome) → event_of (task_in t c x rs b give).meaning m.move ≡ flat.Leaves v out
+        → IsExitOf o (record { lines = c ∷ cs; run = None; guest = Some x; replies = rs; beside = b }) e v
+    left-in true run m v out is = (let same = sym (ap (λ (k : Meaning). event_of k m.move) (are.row p c)) ∙ is in cc)
+    left-in false run m v out is = (let st : Step = step_of t.codes b.cached x in step-left st refl (step-fits o call-line t.codes b.cached x) (are.step_row p x.tdr x.vp call-line st) run m v out is)
+
   line-stage : (x : WordGuest) (line : Standing) (reply : Reply) (give : Bool) (task : Task) → line.stage ≡ stages.Answered reply → give ≡ true → (running task (run_in x line give)).stage ≡ stages.Answered reply
   line-stage x line reply true task a g = a
   line-stage x line reply false task a g = cc
@@ -134,6 +158,16 @@ module _ (o : Opening) (leaf : ℕ → LeafTable) (are : AreLeaves o leaf) (p : 
       let level : guest_level (s.lps p).guest ≡ walk_level x.walk = ap guest_level i.is_in ∙ ap walk_level i.at.walk in
       let give : Bool = gives_epoch_back line.held in
       in-guest x level give (running (task_in t c x rs b give) (run_in x line give)) i.reply (line-stage x line i.reply give (task_in t c x rs b give) i.answered) m
+
+  what-left : (guest : Option WordGuest) (run : Option Standing) → RunStands o t p s.world words.words (s.lps p) (c ∷ cs) run guest rs b
+      → (let task = task_at t c guest run rs b in (m : IsMoved o s p task (running task (run_at guest run)) e) → (v : ℕ) (out : Outcome) → event_of task.meaning m.move ≡ flat.Leaves v out → IsExitOf o (record { lines = c ∷ cs; run = run; guest = guest; replies = rs; beside = b }) e v)
+  what-left None run i m v out is = (let same = sym (ap (λ (k : Meaning). event_of k m.move) (are.row p c)) ∙ is in cc)
+  what-left (Some x) None i m v out is = absurd i
+  what-left (Some x) (Some line) i m v out is =
+      let level : guest_level (s.lps p).guest ≡ walk_level x.walk = ap guest_level i.is_in ∙ ap walk_level i.at.walk in
+      let give : Bool = gives_epoch_back line.held in
+      let l = left-in x level give (running (task_in t c x rs b give) (run_in x line give)) m v out is in
+      record { guest = l.guest; is_in = l.is_in; vp_is = l.vp_is; outcome = l.outcome; step = l.step; acts = l.acts }
 
 -- the turn
 
@@ -223,13 +257,21 @@ module _ (follow : LeavesFollow) (law : ProcessorsFollow) (o : Opening) (leaf : 
       fresh none (inl h) = absurd (none h)
       fresh none (inr f) = f
 
+  shown-here : WasTold o s p at e
+  shown-here = record {
+    event_is = event_of task.meaning moved.move;
+    next = moved.next;
+    what = what-told o leaf are p s mem c cs rs b e guest run on.stands.run moved;
+    leaves = what-left o leaf are p s mem c cs rs b e guest run on.stands.run moved;
+  }
+
   turned : (number : ℕ) (further : List ℕ) → traces_from o s number (p ∷ further) ≡ turn_told o.codes number p at after e ∷ traces_from o (event o s p) (number + 1) further
   turned number further =
-      let ev : Event = event_of task.meaning moved.move in
+      let ev : Event = shown-here.event_is in
       let s' : State = event o s p in
       let before : (s.lps p).replies ≡ rs = on.stands.replies in
       let behind : (s'.lps p).replies ≡ after.replies = (law.follow o leaf p s t u at after e ps are codes runs inside on lt plays).stands.stands.replies in
-      let is : what_is s p ev ≡ told o.codes at e = what-told o leaf are p s mem c cs rs b e guest run on.stands.run moved in
+      let is : what_is s p ev ≡ told o.codes at e = shown-here.what in
       let head : traced s s' number p ev ≡ turn_told o.codes number p at after e = λ i. record {
         number = number;
         lp = p;
@@ -237,7 +279,7 @@ module _ (follow : LeavesFollow) (law : ProcessorsFollow) (o : Opening) (leaf : 
         what = is i;
         reply = reply_behind (length (before i)) (behind i);
       } in
-      ap (λ (z : Option Event). traced_first s s' number p z (λ n. traces_from o s' n further)) moved.next ∙ ap (λ (z : Traced). z ∷ traces_from o s' (number + 1) further) head
+      ap (λ (z : Option Event). traced_first s s' number p z (λ n. traces_from o s' n further)) shown-here.next ∙ ap (λ (z : Traced). z ∷ traces_from o s' (number + 1) further) head
 
 turned-at : LeavesFollow → ProcessorsFollow → (o : Opening) (leaf : ℕ → LeafTable) (p : ℕ) (s : State) (t u : Table) (lines : List Call) (run : Option Standing) (guest : Option WordGuest) (rs : List Reply) (b : Beside) (after : WordLp) (e : RunEvent) (ps : List Piece)
     → AreLeaves o leaf → AreCodes o → IsRunning o s → p < s.lp_count → (let at : WordLp = record { lines = lines; run = run; guest = guest; replies = rs; beside = b } in StandsOn o (leaf p) p s t at
@@ -247,8 +289,15 @@ turned-at follow law o leaf p s t u [] run guest rs b after e ps are codes runs 
 turned-at follow law o leaf p s t u (c ∷ cs) run guest rs b after e ps are codes runs inside on lt plays number further =
     turned follow law o leaf p s t u run guest rs b c cs after e ps are codes runs inside on lt plays number further
 
+told-at : LeavesFollow → ProcessorsFollow → (o : Opening) (leaf : ℕ → LeafTable) (p : ℕ) (s : State) (t u : Table) (lines : List Call) (run : Option Standing) (guest : Option WordGuest) (rs : List Reply) (b : Beside) (after : WordLp) (e : RunEvent) (ps : List Piece)
+    → AreLeaves o leaf → AreCodes o → IsRunning o s → p < s.lp_count → (let at : WordLp = record { lines = lines; run = run; guest = guest; replies = rs; beside = b } in StandsOn o (leaf p) p s t at
+    → LinesTurn (leaf p) o.machine lines run guest rs b e ps after → PlaysTo t (taken_in ps) u → WasTold o s p at e)
+told-at follow law o leaf p s t u [] run guest rs b after e ps are codes runs inside on lt plays = absurd lt
+told-at follow law o leaf p s t u (c ∷ cs) run guest rs b after e ps are codes runs inside on lt plays = shown-here follow law o leaf p s t u run guest rs b c cs after e ps are codes runs inside on lt plays
+
 pub turns-are-told : LeavesFollow → ProcessorsFollow → MergesAreRuns → TurnsAreTold
 turns-are-told follow law merges = record {
+  one = λ o leaf p s t u at after e ps are codes runs inside on lt plays. told-at follow law o leaf p s t u at.lines at.run at.guest at.replies at.beside after e ps are codes runs inside on lt plays;
   told = λ o leaf is now u u' p after e ps few are codes merge inside lt plays number further.
       let s : State = play o (order is) (start o None) in
       let runs : IsRunning o s = law.runs o (order is) few in

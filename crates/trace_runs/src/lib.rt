@@ -10,4 +10,4 @@
 mod runs;
 mod turns;
 
-pub use runs::{bare_trace, traced_run};
+pub use runs::traced_run;

@@ -4,13 +4,12 @@ ghost use Rattle.std.specs.Prelude.{◌≡◌, IfOk};
 ghost use Rattle.script_text.specs.Laws.{IsInForm};
 ghost use Rattle.leaf_table.specs.Given.{given_in};
 ghost use Rattle.trace_lines.specs.Traces.{traces};
-ghost use Rattle.run_texts.specs.Openings.{opening_of, bare_opening};
+ghost use Rattle.run_texts.specs.Openings.{opening_of};
 
 use crate::turns::Telling;
-use incoming::IncomingBundles;
 use leaf_dispatch::FirstLists;
 use leaf_table::Given;
-use run_texts::{laws_of_turns, no_secrets, script_run};
+use run_texts::{laws_of_turns, script_run};
 use script_text::Script;
 use std::alloc::Global;
 use td_words::OutOfMemory;
@@ -35,21 +34,4 @@ pub fn traced_run(
     } else {
         Err(OutOfMemory)
     }
-}
-
-/// The trace of a script's run with secret words that are 0, and no bundles that come in.
-pub fn bare_trace(alloc: Global, script: &Script) -> Result<Vec<Traced>, OutOfMemory>
-    requires { IsInForm script.now }
-    ensures { IfOk result (λ v. v.items ≡ traces (bare_opening script.now) script.now.schedule) }
-{
-    let secrets = no_secrets(alloc, 512)?;
-    let bundles = IncomingBundles::new(alloc);
-    traced_run(
-        alloc,
-        script,
-        Given {
-            secrets: &secrets,
-            bundles: &bundles,
-        },
-    )
 }

@@ -2,16 +2,15 @@
 use Rattle.std.specs.Prelude.{ℕ, ◌-◌, ◌/◌, ◌%◌, true, false, List, [], ◌∷◌, ◌++◌, length, map, max, replicate, Option, Some, None, codes}
 use Rattle.std.specs.List.{concat}
 use Rattle.std.specs.Fmt.{decimal}
-use Rattle.td_words.specs.declared.names.Mode.{Mode}
-use Rattle.td_words.specs.declared.names.Mode.TheVariants.{Shared, Exclusive}
 use Rattle.td_words.specs.declared.replies.Reply.{Reply}
 use Rattle.td_words.specs.NameText.{access_text, lock_text}
-use Rattle.td_words.specs.ReplyText.{gpa_text, reply_text}
+use Rattle.td_words.specs.ReplyText.{reply_text}
+use Rattle.field_lines.specs.declared.lines.Form.{Form}
+use Rattle.field_lines.specs.declared.lines.Form.TheVariants as form
+use Rattle.field_lines.specs.Fields.{Number, Address, Word, FieldSeen, field, mode_text, fields_text}
 use Rattle.trace_lines.specs.declared.traces.What.{What}
 use Rattle.trace_lines.specs.declared.traces.What.TheVariants as what
 use Rattle.trace_lines.specs.declared.traces.Traced.{Traced}
-use Rattle.trace_texts.specs.declared.lines.Form.{Form}
-use Rattle.trace_texts.specs.declared.lines.Form.TheVariants as form
 use Rattle.trace_texts.specs.CallLines.{CallLineSeen, line_of}
 
 -- what an event was, in a word
@@ -25,43 +24,33 @@ what_word (what.Accesses access gpa page) = codes "access"
 what_word what.Counts = codes "count"
 what_word (what.Releases lock) = codes "release"
 
-abbrev pub mode_word : Mode → List ℕ
-mode_word Shared = codes "shared"
-mode_word Exclusive = codes "exclusive"
-
 -- the number of the word of its page that an access reaches
 abbrev pub word_at : ℕ → ℕ
 word_at gpa = gpa % 4096 / 8
 
 -- the lock and the mode of a try, the address and the level of a walk's entry, and the address, the page and the word of an access
-abbrev pub more_text : What → List ℕ
-more_text (what.Tries lock mode granted) = codes " " ++ (lock_text lock ++ (codes " " ++ mode_word mode))
-more_text (what.Undoes lock) = codes " " ++ lock_text lock
-more_text what.Acts = []
-more_text (what.Walks gpa level) = codes " gpa " ++ (gpa_text gpa ++ (codes " level " ++ decimal level))
-more_text (what.Accesses access gpa page) = codes " " ++ (access_text access ++ (codes " gpa " ++ (gpa_text gpa ++ (codes " page " ++ (decimal page ++ (codes " word " ++ decimal (word_at gpa)))))))
-more_text what.Counts = []
-more_text (what.Releases lock) = codes " " ++ lock_text lock
-
--- the same as members of an object
-abbrev pub more_members : What → List ℕ
-more_members (what.Tries lock mode granted) = codes ", \"lock\": \"" ++ (lock_text lock ++ (codes "\", \"mode\": \"" ++ (mode_word mode ++ codes "\"")))
-more_members (what.Undoes lock) = codes ", \"lock\": \"" ++ (lock_text lock ++ codes "\"")
-more_members what.Acts = []
-more_members (what.Walks gpa level) = codes ", \"gpa\": " ++ (decimal gpa ++ (codes ", \"level\": " ++ decimal level))
-more_members (what.Accesses access gpa page) =
-    codes ", \"access\": \"" ++ (access_text access ++ (codes "\", \"gpa\": " ++ (decimal gpa ++ (codes ", \"page\": " ++ (decimal page ++ (codes ", \"word\": " ++ decimal (word_at gpa)))))))
-more_members what.Counts = []
-more_members (what.Releases lock) = codes ", \"lock\": \"" ++ (lock_text lock ++ codes "\"")
+abbrev pub more_fields : What → List FieldSeen
+more_fields (what.Tries lock mode granted) = field (codes " ") (codes "lock") (Word (lock_text lock)) ∷ field (codes " ") (codes "mode") (Word (mode_text mode)) ∷ []
+more_fields (what.Undoes lock) = field (codes " ") (codes "lock") (Word (lock_text lock)) ∷ []
+more_fields what.Acts = []
+more_fields (what.Walks gpa level) = field (codes " gpa ") (codes "gpa") (Address gpa) ∷ field (codes " level ") (codes "level") (Number level) ∷ []
+more_fields (what.Accesses access gpa page) =
+    field (codes " ") (codes "access") (Word (access_text access))
+    ∷ field (codes " gpa ") (codes "gpa") (Address gpa)
+    ∷ field (codes " page ") (codes "page") (Number page)
+    ∷ field (codes " word ") (codes "word") (Number (word_at gpa))
+    ∷ []
+more_fields what.Counts = []
+more_fields (what.Releases lock) = field (codes " ") (codes "lock") (Word (lock_text lock)) ∷ []
 
 -- the reply that came with it
-abbrev pub reply_told : Option Reply → List ℕ
-reply_told None = []
-reply_told (Some r) = codes " -> " ++ reply_text r
+abbrev pub reply_fields : Option Reply → List FieldSeen
+reply_fields None = []
+reply_fields (Some r) = field (codes " -> ") (codes "reply") (Word (reply_text r)) ∷ []
 
-abbrev pub reply_member : Option Reply → List ℕ
-reply_member None = []
-reply_member (Some r) = codes ", \"reply\": \"" ++ (reply_text r ++ codes "\"")
+-- what an event was, with the reply, in either form
+abbrev pub told : Form → Traced → List ℕ
+told f t = fields_text f (field (codes "") (codes "what") (Word (what_word t.what)) ∷ []) ++ (fields_text f (more_fields t.what) ++ fields_text f (reply_fields t.reply))
 
 -- a text, with spaces behind it up to a width, and one at least
 abbrev pub column : ℕ → List ℕ → List ℕ
@@ -69,8 +58,8 @@ column width text = text ++ replicate (max (width - length text) 1) 32
 
 -- The event's number; the processor, a dot, and the number of its call; the line of the call in the script, and the call's name;
 -- and what the event was, with the reply.
-abbrev pub told_text : Traced → List ℕ
-told_text t = what_word t.what ++ (more_text t.what ++ (reply_told t.reply ++ 10 ∷ []))
+unfoldable pub told_text : Traced → List ℕ
+told_text t = told form.Plain t ++ 10 ∷ []
 
 abbrev pub place_text : Traced → List ℕ
 place_text t = decimal t.lp ++ (codes "." ++ decimal t.line)
@@ -84,7 +73,7 @@ first_members n t =
     codes "{\"event\": " ++ (decimal t.number ++ (codes ", \"processor\": " ++ (decimal t.lp ++ (codes ", \"line\": " ++ (decimal t.line ++ (codes ", \"script_line\": " ++ (decimal n ++ codes ", \"call\": \"")))))))
 
 abbrev pub last_members : Traced → List ℕ
-last_members t = codes "\", \"what\": \"" ++ (what_word t.what ++ (codes "\"" ++ (more_members t.what ++ (reply_member t.reply ++ codes "}\n"))))
+last_members t = codes "\"" ++ (told form.Json t ++ codes "}\n")
 
 abbrev pub json_line : CallLineSeen → Traced → List ℕ
 json_line c t = first_members c.number t ++ (c.name ++ last_members t)

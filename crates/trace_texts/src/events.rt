@@ -1,11 +1,12 @@
 //! What an event was, as texts.
 
 ghost use Rattle.std.specs.Prelude.{◌≡◌, ◌++◌, IfOk, OnOk, string_bytes};
-ghost use Rattle.trace_texts.specs.Lines.{what_word, mode_word, more_text, more_members, reply_told, reply_member, told_text, first_members, last_members};
+ghost use Rattle.field_lines.specs.Fields.{fields_text};
+ghost use Rattle.trace_texts.specs.Lines.{what_word, more_fields, reply_fields, told, told_text, first_members, last_members};
 
+use field_lines::{Field, Form, Value, push_fields};
 use std::alloc::{AllocError, Global};
-use std::fmt::Write;
-use td_words::{Mode, Reply};
+use td_words::Reply;
 use trace_lines::{Traced, What};
 
 fn what_word(what: What) -> &'static str
@@ -23,84 +24,97 @@ fn what_word(what: What) -> &'static str
     }
 }
 
-fn mode_word(mode: Mode) -> &'static str
-    ensures { result.now ≡ mode_word mode }
-{
-    match mode {
-        Mode::Shared => "shared",
-        Mode::Exclusive => "exclusive",
-    }
-}
-
-fn push_more(text: &mut String, what: What) -> Result<(), AllocError>
-    ensures { OnOk result (string_bytes text.new ≡ string_bytes text.old ++ more_text what) }
+fn push_more(alloc: Global, text: &mut String, form: Form, what: What) -> Result<(), AllocError>
+    ensures { OnOk result (string_bytes text.new ≡ string_bytes text.old ++ fields_text form (more_fields what)) }
 {
     match what {
-        What::Tries { lock, mode, .. } => {
-            let mode = mode_word(mode);
-            write!(text, " {lock} {mode}")
-        }
-        What::Undoes(lock) => write!(text, " {lock}"),
+        What::Tries { lock, mode, .. } => push_fields(
+            alloc,
+            text,
+            form,
+            &[
+                Field(" ", "lock", Value::Lock(lock)),
+                Field(" ", "mode", Value::Mode(mode)),
+            ],
+        ),
+        What::Undoes(lock) => push_fields(
+            alloc,
+            text,
+            form,
+            &[Field(" ", "lock", Value::Lock(lock))],
+        ),
         What::Acts => Ok(()),
-        What::Walks { gpa, level } => write!(text, " gpa 0x{gpa:x} level {level}"),
-        What::Accesses { access, gpa, page } => {
-            let word = gpa % 4096 / 8;
-            write!(text, " {access} gpa 0x{gpa:x} page {page} word {word}")
-        }
+        What::Walks { gpa, level } => push_fields(
+            alloc,
+            text,
+            form,
+            &[
+                Field(" gpa ", "gpa", Value::Address(gpa)),
+                Field(" level ", "level", Value::Number(level as u64)),
+            ],
+        ),
+        What::Accesses { access, gpa, page } => push_fields(
+            alloc,
+            text,
+            form,
+            &[
+                Field(" ", "access", Value::Access(access)),
+                Field(" gpa ", "gpa", Value::Address(gpa)),
+                Field(" page ", "page", Value::Number(page as u64)),
+                Field(" word ", "word", Value::Number(gpa % 4096 / 8)),
+            ],
+        ),
         What::Counts => Ok(()),
-        What::Releases(lock) => write!(text, " {lock}"),
+        What::Releases(lock) => push_fields(
+            alloc,
+            text,
+            form,
+            &[Field(" ", "lock", Value::Lock(lock))],
+        ),
     }
 }
 
-fn push_members(text: &mut String, what: What) -> Result<(), AllocError>
-    ensures { OnOk result (string_bytes text.new ≡ string_bytes text.old ++ more_members what) }
-{
-    match what {
-        What::Tries { lock, mode, .. } => {
-            let mode = mode_word(mode);
-            write!(text, ", \"lock\": \"{lock}\", \"mode\": \"{mode}\"")
-        }
-        What::Undoes(lock) => write!(text, ", \"lock\": \"{lock}\""),
-        What::Acts => Ok(()),
-        What::Walks { gpa, level } => write!(text, ", \"gpa\": {gpa}, \"level\": {level}"),
-        What::Accesses { access, gpa, page } => {
-            let word = gpa % 4096 / 8;
-            write!(
-                text,
-                ", \"access\": \"{access}\", \"gpa\": {gpa}, \"page\": {page}, \"word\": {word}"
-            )
-        }
-        What::Counts => Ok(()),
-        What::Releases(lock) => write!(text, ", \"lock\": \"{lock}\""),
-    }
-}
-
-fn push_reply(text: &mut String, reply: Option<Reply>) -> Result<(), AllocError>
-    ensures { OnOk result (string_bytes text.new ≡ string_bytes text.old ++ reply_told reply) }
+fn push_reply(
+    alloc: Global,
+    text: &mut String,
+    form: Form,
+    reply: Option<Reply>,
+) -> Result<(), AllocError>
+    ensures { OnOk result (string_bytes text.new ≡ string_bytes text.old ++ fields_text form (reply_fields reply)) }
 {
     match reply {
         None => Ok(()),
-        Some(reply) => write!(text, " -> {reply}"),
+        Some(reply) => push_fields(
+            alloc,
+            text,
+            form,
+            &[Field(" -> ", "reply", Value::Reply(reply))],
+        ),
     }
 }
 
-fn push_reply_member(text: &mut String, reply: Option<Reply>) -> Result<(), AllocError>
-    ensures { OnOk result (string_bytes text.new ≡ string_bytes text.old ++ reply_member reply) }
+// What an event was, with its reply.
+fn push_told(
+    alloc: Global,
+    text: &mut String,
+    form: Form,
+    traced: &Traced,
+) -> Result<(), AllocError>
+    ensures { OnOk result (string_bytes text.new ≡ string_bytes text.old ++ told form traced.now) }
 {
-    match reply {
-        None => Ok(()),
-        Some(reply) => write!(text, ", \"reply\": \"{reply}\""),
-    }
+    let what = Field("", "what", Value::Word(what_word(traced.what)));
+    push_fields(alloc, text, form, &[what])?;
+    push_more(alloc, text, form, traced.what)?;
+    push_reply(alloc, text, form, traced.reply)
 }
 
 /// What an event was, with its reply, for reading.
+#[tactic(auto, unfolding(crate::specs::Lines::told_text))]
 pub fn told_text(alloc: Global, traced: &Traced) -> Result<String, AllocError>
     ensures { IfOk result (λ s. string_bytes s ≡ told_text traced.now) }
 {
     let mut text = String::new(alloc);
-    text.push_str(what_word(traced.what))?;
-    push_more(&mut text, traced.what)?;
-    push_reply(&mut text, traced.reply)?;
+    push_told(alloc, &mut text, Form::Plain, traced)?;
     text.push_str("\n")?;
     Ok(text)
 }
@@ -124,10 +138,8 @@ pub fn first_members(alloc: Global, script_line: u64, traced: &Traced) -> Result
 pub fn last_members(alloc: Global, traced: &Traced) -> Result<String, AllocError>
     ensures { IfOk result (λ s. string_bytes s ≡ last_members traced.now) }
 {
-    let word = what_word(traced.what);
-    let mut text = format!(in alloc; "\", \"what\": \"{word}\"")?;
-    push_members(&mut text, traced.what)?;
-    push_reply_member(&mut text, traced.reply)?;
+    let mut text = String::from_str(alloc, "\"")?;
+    push_told(alloc, &mut text, Form::Json, traced)?;
     text.push_str("}\n")?;
     Ok(text)
 }

@@ -6,16 +6,10 @@ ghost use Rattle.trace_texts.specs.Lines.{column, plain_line, json_line, line_in
 
 use crate::call_lines::{CallLine, line_of};
 use crate::events::{first_members, last_members, told_text};
+use field_lines::Form;
 use std::alloc::{AllocError, Global};
 use td_words::OutOfMemory;
 use trace_lines::Traced;
-
-/// The form of a trace: for reading, or JSON, an object a line.
-#[derive(Clone, Copy, Debug, PartialEq, Eq)]
-pub enum Form {
-    Plain,
-    Json,
-}
 
 // A text, with spaces behind it up to a width, and one at least.
 fn push_column(text: &mut Vec<u8>, part: &[u8], width: usize) -> Result<(), AllocError>

@@ -5,11 +5,13 @@ use std::alloc::Global;
 use std::test::Fail;
 use view_runner::view_main;
 
-const SCRIPT: &str =
+/// Two processors meet at a page's lock.
+pub const SCRIPT: &str =
     "machine 2 8 1\nschedule 0 1\nlp 0\n\n# a comment\n HOST.READ 1 0\nend\nlp 1\nMNG.CREATE 1 1\nend\n";
 
-const USAGE: &str =
-    "usage: tdx-view bundles CONTAINER | tdx-view trace SCRIPT [--json] | tdx-view state SCRIPT --after N\n";
+/// The line of words that are no command.
+pub const USAGE: &str =
+    "usage: tdx-view bundles CONTAINER | tdx-view trace SCRIPT [--json] [--bundles F] [--keys F] [--secrets F] | tdx-view state SCRIPT --after N [--json] [--bundles F] [--keys F] [--secrets F]\n";
 
 // As checks/second/trace has them.
 const EVENTS: &str = "1      0.1    line 6     HOST.READ               try P 1 shared
@@ -27,6 +29,11 @@ const OBJECTS: &str =
 
 // As checks/second/stating.py has it after two events.
 const STATE: &str = "lp 0 done 0 of 1\nlp 0 call holds P 1 shared\nlp 1 done 1 of 1\n";
+
+const STATE_OBJECTS: &str = "{\"what\": \"done\", \"processor\": 0, \"done\": 0, \"calls\": 1}
+{\"what\": \"holds\", \"processor\": 0, \"holder\": \"call\", \"lock\": \"P 1\", \"mode\": \"shared\"}
+{\"what\": \"done\", \"processor\": 1, \"done\": 1, \"calls\": 1}
+";
 
 // And after all of them.
 const END: &str = "lp 0 done 1 of 1\nlp 1 done 1 of 1\n";
@@ -61,7 +68,11 @@ const ROWS: &[(&str, u8, &str)] = &[
     ("state s --after two", 1, USAGE),
     ("state s --after 2 --after 2", 1, USAGE),
     ("state --after 2", 1, USAGE),
-    ("state s --json --after 2", 1, USAGE),
+    ("state s --json --after 2", 0, STATE_OBJECTS),
+    ("state --after=2 s --json", 0, STATE_OBJECTS),
+    ("state s --json --after 2 --json", 1, USAGE),
+    ("state s --json=true --after 2", 1, USAGE),
+    ("state s --json", 1, USAGE),
     ("trace s --after 2", 1, USAGE),
     ("replay s", 1, USAGE),
     // an option's value may stand behind `=`

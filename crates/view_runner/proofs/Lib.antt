@@ -1,2 +1,3 @@
+mod Due
 mod FirstWords
 mod Worked

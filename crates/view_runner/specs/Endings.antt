@@ -1,9 +1,10 @@
--- What a command comes to, by the file that it loads.
-use Rattle.std.specs.Prelude.{◌≡◌, ◌⊎◌, ℕ, ◌^◌, ◌≤◌, ◌==◌, if◌then◌else◌, List, [], ◌∷◌, ◌++◌, map, Option, Some, None, Result, Ok, Err, codes}
+-- What a command comes to, by the files that it loads.
+use Rattle.std.specs.Prelude.{◌≡◌, ◌⊎◌, ℕ, ◌^◌, ◌≤◌, ◌==◌, if◌then◌else◌, Bool, false, List, [], ◌∷◌, ◌++◌, map, replicate, Option, Some, None, Result, Ok, Err, codes}
 use Rattle.std.specs.List.{concat}
 use Rattle.std.specs.Fmt.{decimal}
 use Rattle.std.specs.Global.{Vec}
 use Rattle.td_words.specs.Seen.{BundleSeen}
+use Rattle.td_words.specs.declared.calls.Call.{Call}
 use Rattle.bundle_store.specs.declared.outside.LoadFault.{LoadFault}
 use Rattle.bundle_store.specs.declared.outside.LoadFault.TheVariants as load
 use Rattle.bundle_store.specs.declared.outside.PutFault.{PutFault}
@@ -12,21 +13,31 @@ use Rattle.bundle_store.specs.Outside.{PutsTold, PutCause}
 use Rattle.bundle_store.specs.History.{Put}
 use Rattle.bundle_store.specs.Containers.{container_in}
 use Rattle.bundle_lines.specs.BundleLines.{bundle_line}
-use Rattle.command_files.specs.Inputs.{Reads, Loads}
+use Rattle.command_files.specs.declared.inputs.Input.{Input}
+use Rattle.command_files.specs.declared.inputs.Input.TheVariants as input
+use Rattle.command_files.specs.declared.inputs.InputFault.{InputFault}
+use Rattle.command_files.specs.declared.inputs.InputFault.TheVariants as fault
+use Rattle.command_files.specs.declared.inputs.Inputs.{Inputs}
+use Rattle.command_files.specs.declared.inputs.KeyBytes.{KeyBytes}
+use Rattle.command_files.specs.Commands.{NamedSeen}
+use Rattle.command_files.specs.Inputs.{Reads, Loads, TakesInputs}
+use Rattle.incoming.specs.Arrivals.{SlotIncoming, incoming_in, at_slot}
+use Rattle.leaf_table.specs.Given.{Given, secrets_in}
 use Rattle.script_text.specs.declared.faults.Reason.{Reason}
 use Rattle.script_text.specs.declared.faults.Reason.TheVariants as reason
 use Rattle.script_text.specs.declared.faults.ScriptFault.{ScriptFault}
 use Rattle.script_text.specs.declared.faults.ScriptFault.TheVariants.{Bad, OutOfMemory}
 use Rattle.script_text.specs.ReasonText.{reason_text}
+use Rattle.script_text.specs.Needs.{needs_keys}
 use Rattle.script_text.specs.Reading.{read_of}
 use Rattle.script_text.specs.Seen.{ScriptSeen}
 use Rattle.trace_lines.specs.Traces.{traces}
 use Rattle.trace_texts.specs.CallLines.{call_lists}
 use Rattle.trace_texts.specs.Lines.{trace_text}
-use Rattle.run_texts.specs.Openings.{bare_opening}
+use Rattle.run_texts.specs.Openings.{opening_of}
 use Rattle.state_lines.specs.After.{state_after}
 use Rattle.state_lines.specs.StateText.{state_text}
-use Rattle.view_runner.specs.Views.{ViewSeen, Bundles, Run, name_of}
+use Rattle.view_runner.specs.Views.{ViewSeen, Bundles, Run}
 use Rattle.view_runner.specs.declared.commands.Shown.{Shown}
 use Rattle.view_runner.specs.declared.commands.Shown.TheVariants as shown
 use Rattle.view_runner.specs.declared.ending.Told.{Told}
@@ -40,7 +51,7 @@ abbrev pub told_seen : Told → Ended
 told_seen t = record { status = t.status; text = t.text.items }
 
 abbrev pub usage_end : Ended
-usage_end = record { status = 1; text = codes "usage: tdx-view bundles CONTAINER | tdx-view trace SCRIPT [--json] | tdx-view state SCRIPT --after N" ++ 10 ∷ [] }
+usage_end = record { status = 1; text = codes "usage: tdx-view bundles CONTAINER | tdx-view trace SCRIPT [--json] [--bundles F] [--keys F] [--secrets F] | tdx-view state SCRIPT --after N [--json] [--bundles F] [--keys F] [--secrets F]" ++ 10 ∷ [] }
 
 -- that line of the script is bad
 abbrev pub bad_end : ℕ → Reason → Ended
@@ -61,19 +72,49 @@ abbrev pub container_view : Result (List BundleSeen) ℕ → Ended
 container_view (Ok bundles) = record { status = 0; text = concat (map bundle_line bundles) }
 container_view (Err place) = container_end place
 
--- The events of a script's run, a line each, by its text, or the state after so many; its secret words are 0, and no bundles
--- come in.
-abbrev pub run_view : Shown → (text : List ℕ) → ScriptSeen → Ended
-run_view (shown.Trace f) text s = record { status = 0; text = trace_text f (call_lists text 0 s.machine.lps) (traces (bare_opening s) s.schedule) }
-run_view (shown.State n) text s = record { status = 0; text = state_text (bare_opening s) (state_after (bare_opening s) n s.schedule) }
+-- the key file hasn't its length, or none is named where it is needed
+abbrev pub keys_end : Ended
+keys_end = record { status = 7; text = codes "key file" ++ 10 ∷ [] }
 
--- or the first bad line
-abbrev pub script_view : Shown → (text : List ℕ) → Result ScriptSeen ScriptFault → Ended
-script_view x text (Ok s) = run_view x text s
-script_view x text (Err (Bad line reason)) = bad_end line reason
-script_view x text (Err OutOfMemory) = memory_end
+-- the secrets file hasn't its length
+abbrev pub secrets_end : Ended
+secrets_end = record { status = 7; text = codes "secrets file" ++ 10 ∷ [] }
 
--- ---- the ending that is due by what the load answered; want of memory is no ending
+-- ---- a script's run
+
+-- the bundles of a container, opened under the keys of a key file; without one each byte of these is 0
+abbrev pub opened_by : Option KeyBytes → List BundleSeen → List SlotIncoming
+opened_by None bundles = map (incoming_in (replicate 32 0) (replicate 32 0)) bundles
+opened_by (Some keys) bundles = map (incoming_in keys.forward keys.backward) bundles
+
+-- what a run is given by its inputs: the secret words, and in each slot its bundle
+abbrev pub given_by : Inputs → Given
+given_by inputs = record { secrets = secrets_in inputs.secrets.items; bundles = at_slot (opened_by inputs.keys inputs.bundles.items) }
+
+-- The events of a script's run with these, a line each, by its text, or the state after so many, in a form.
+abbrev pub run_view : Shown → (text : List ℕ) → ScriptSeen → Given → Ended
+run_view (shown.Trace f) text s given = record { status = 0; text = trace_text f (call_lists text 0 s.machine.lps) (traces (opening_of given s) s.schedule) }
+run_view (shown.State f n) text s given = record { status = 0; text = state_text f (opening_of given s) (state_after (opening_of given s) n s.schedule) }
+
+abbrev pub fault_end : ScriptFault → Ended
+fault_end (Bad line reason) = bad_end line reason
+fault_end OutOfMemory = memory_end
+
+abbrev pub name_in : Option (List ℕ) → List ℕ
+name_in None = []
+name_in (Some name) = name
+
+abbrev pub input_name : NamedSeen → Input → List ℕ
+input_name n input.Bundles = name_in n.bundles
+input_name n input.Keys = name_in n.keys
+input_name n input.Secrets = name_in n.secrets
+
+-- No bundle is sealed, so the key file is needed where a container is named alone, and a call makes a bundle or takes one.
+abbrev pub keys_due : (container : Option (List ℕ)) → List (List Call) → Bool
+keys_due None calls = false
+keys_due (Some name) calls = needs_keys calls
+
+-- ---- the ending that is due by what the loads answered; want of memory is no ending
 
 abbrev pub BundlesEnd : List ℕ → Result (Vec ℕ) LoadFault → Ended → Type 0
 BundlesEnd name (Ok given) e = e ≡ container_view (container_in given.items)
@@ -82,43 +123,84 @@ BundlesEnd name (Err load.TooLong) e = e ≡ container_end (2 ^ 29)
 BundlesEnd name (Err load.Failed) e = e ≡ unread_end name
 BundlesEnd name (Err load.OutOfMemory) e = ⊥
 
-abbrev pub RunEnd : Shown → List ℕ → Result (Vec ℕ) LoadFault → Ended → Type 0
-RunEnd x name (Ok given) e = e ≡ script_view x given.items (read_of given.items)
-RunEnd x name (Err load.Absent) e = e ≡ unread_end name
-RunEnd x name (Err load.TooLong) e = e ≡ bad_end 0 reason.Length
-RunEnd x name (Err load.Failed) e = e ≡ unread_end name
-RunEnd x name (Err load.OutOfMemory) e = ⊥
+-- a script's run is shown where its inputs have no fault, which else is told
+abbrev pub InputsEnd : Shown → NamedSeen → (text : List ℕ) → ScriptSeen → Result Inputs InputFault → Ended → Type 0
+InputsEnd x n text s (Ok inputs) e = e ≡ run_view x text s (given_by inputs)
+InputsEnd x n text s (Err (fault.Unread i)) e = e ≡ unread_end (input_name n i)
+InputsEnd x n text s (Err (fault.Container place)) e = e ≡ container_end place
+InputsEnd x n text s (Err fault.Keys) e = e ≡ keys_end
+InputsEnd x n text s (Err fault.Secrets) e = e ≡ secrets_end
+InputsEnd x n text s (Err fault.OutOfMemory) e = ⊥
 
-abbrev pub AnswerEnd : ViewSeen → Result (Vec ℕ) LoadFault → Ended → Type 0
-AnswerEnd (Bundles name) answer e = BundlesEnd name answer e
-AnswerEnd (Run x name) answer e = RunEnd x name answer e
+-- the inputs are loaded behind a script
+abbrev pub ScriptEnd : Option (List ℕ → Option (List ℕ)) → Shown → NamedSeen → (text : List ℕ) → ScriptSeen → Reads → Reads → Ended → Type 0
+ScriptEnd contents x n text s old new e = (r : Result Inputs InputFault) × TakesInputs contents (keys_due n.bundles s.calls) n old new r × InputsEnd x n text s r e
 
--- the most bytes that its file may have
-abbrev pub most_of : ViewSeen → ℕ
-most_of (Bundles name) = 2 ^ 29
-most_of (Run x name) = 2 ^ 24
+-- and nothing else is loaded where it isn't in the grammar, or isn't there
+abbrev pub ReadEnd : Option (List ℕ → Option (List ℕ)) → Shown → NamedSeen → (text : List ℕ) → Reads → Reads → Result ScriptSeen ScriptFault → Ended → Type 0
+ReadEnd contents x n text old new (Ok s) e = ScriptEnd contents x n text s old new e
+ReadEnd contents x n text old new (Err f) e = (new ≡ old) × (e ≡ fault_end f)
+
+abbrev pub AnswerEnd : Option (List ℕ → Option (List ℕ)) → Shown → NamedSeen → Reads → Reads → Result (Vec ℕ) LoadFault → Ended → Type 0
+AnswerEnd contents x n old new (Ok given) e = ReadEnd contents x n given.items old new (read_of given.items) e
+AnswerEnd contents x n old new (Err load.Absent) e = (new ≡ old) × (e ≡ unread_end n.script)
+AnswerEnd contents x n old new (Err load.TooLong) e = (new ≡ old) × (e ≡ bad_end 0 reason.Length)
+AnswerEnd contents x n old new (Err load.Failed) e = (new ≡ old) × (e ≡ unread_end n.script)
+AnswerEnd contents x n old new (Err load.OutOfMemory) e = ⊥
 
 -- ---- what is loaded
 
--- The file that is named is loaded once, and nothing else; and that ending is due by it.
-pub record Reaches (contents : Option (List ℕ → Option (List ℕ))) (v : ViewSeen) (old new : Reads) (e : Ended) : Type 0 where
+-- The container is loaded once, and nothing else; and that ending is due by it.
+pub record ReachesBundles (contents : Option (List ℕ → Option (List ℕ))) (name : List ℕ) (old new : Reads) (e : Ended) : Type 0 where
   pub answer : Result (Vec ℕ) LoadFault
-  pub loaded : Loads contents (most_of v) (name_of v) old answer new
-  pub ends : AnswerEnd v answer e
+  pub loaded : Loads contents (2 ^ 29) name old answer new
+  pub ends : BundlesEnd name answer e
 
--- it is loaded, whatever the load answers
-abbrev pub LoadsFile : Option (List ℕ → Option (List ℕ)) → ViewSeen → Reads → Reads → Type 0
-LoadsFile contents v old new = (answer : Result (Vec ℕ) LoadFault) × Loads contents (most_of v) (name_of v) old answer new
+-- The script is loaded once, then each input that is named and due, and nothing else; and that ending is due by these loads.
+pub record ReachesRun (contents : Option (List ℕ → Option (List ℕ))) (x : Shown) (n : NamedSeen) (old new : Reads) (e : Ended) : Type 0 where
+  pub answer : Result (Vec ℕ) LoadFault
+  pub between : Reads
+  pub loaded : Loads contents (2 ^ 24) n.script old answer between
+  pub ends : AnswerEnd contents x n between new answer e
+
+abbrev pub Reaches : Option (List ℕ → Option (List ℕ)) → ViewSeen → Reads → Reads → Ended → Type 0
+Reaches contents (Bundles name) old new e = ReachesBundles contents name old new e
+Reaches contents (Run x n) old new e = ReachesRun contents x n old new e
+
+-- the same, where memory was wanting on the way: the container was loaded
+abbrev pub LoadsBundles : Option (List ℕ → Option (List ℕ)) → List ℕ → Reads → Reads → Type 0
+LoadsBundles contents name old new = (answer : Result (Vec ℕ) LoadFault) × Loads contents (2 ^ 29) name old answer new
+
+-- or the inputs of a script
+abbrev pub TakesSome : Option (List ℕ → Option (List ℕ)) → NamedSeen → ScriptSeen → Reads → Reads → Type 0
+TakesSome contents n s old new = (r : Result Inputs InputFault) × TakesInputs contents (keys_due n.bundles s.calls) n old new r
+
+-- behind a script nothing was loaded, or its inputs; and these only where what was loaded is a script
+abbrev pub ReadPart : Option (List ℕ → Option (List ℕ)) → NamedSeen → Reads → Reads → Result ScriptSeen ScriptFault → Type 0
+ReadPart contents n old new read = (new ≡ old) ⊎ ((s : ScriptSeen) × (read ≡ Ok s) × TakesSome contents n s old new)
+
+abbrev pub AnswerPart : Option (List ℕ → Option (List ℕ)) → NamedSeen → Reads → Reads → Result (Vec ℕ) LoadFault → Type 0
+AnswerPart contents n old new answer = (new ≡ old) ⊎ ((given : Vec ℕ) × (answer ≡ Ok given) × (s : ScriptSeen) × (read_of given.items ≡ Ok s) × TakesSome contents n s old new)
+
+pub record LoadsRun (contents : Option (List ℕ → Option (List ℕ))) (n : NamedSeen) (old new : Reads) : Type 0 where
+  pub answer : Result (Vec ℕ) LoadFault
+  pub between : Reads
+  pub loaded : Loads contents (2 ^ 24) n.script old answer between
+  pub further : AnswerPart contents n between new answer
+
+abbrev pub ReachesPart : Option (List ℕ → Option (List ℕ)) → ViewSeen → Reads → Reads → Type 0
+ReachesPart contents (Bundles name) old new = LoadsBundles contents name old new
+ReachesPart contents (Run x n) old new = LoadsRun contents n old new
 
 -- words that are no command load nothing
 abbrev pub Comes : Option (List ℕ → Option (List ℕ)) → Option ViewSeen → Reads → Reads → Ended → Type 0
 Comes contents None old new e = (new ≡ old) × (e ≡ usage_end)
 Comes contents (Some v) old new e = Reaches contents v old new e
 
--- the same, where memory was wanting on the way, as it may be before the file is loaded
+-- the same, where memory was wanting on the way, as it may be before anything is loaded
 abbrev pub ComesPart : Option (List ℕ → Option (List ℕ)) → Option ViewSeen → Reads → Reads → Type 0
 ComesPart contents None old new = new ≡ old
-ComesPart contents (Some v) old new = (new ≡ old) ⊎ LoadsFile contents v old new
+ComesPart contents (Some v) old new = (new ≡ old) ⊎ ReachesPart contents v old new
 
 -- ---- what is put
 

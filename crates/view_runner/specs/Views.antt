@@ -4,27 +4,22 @@ use Rattle.std.specs.Str.{bytes_eq}
 use Rattle.clap.specs.Words.{App, Row, Rule, first_of, new_rule}
 use Rattle.clap.specs.declared.builder.action.ArgAction.TheVariants.{SetTrue}
 use Rattle.line_words.specs.Number.{number}
-use Rattle.trace_texts.specs.declared.lines.Form.{Form}
-use Rattle.trace_texts.specs.declared.lines.Form.TheVariants as form
-use Rattle.command_files.specs.Commands.{option_rule, word_rule, line_of, found_in}
+use Rattle.field_lines.specs.declared.lines.Form.{Form}
+use Rattle.field_lines.specs.declared.lines.Form.TheVariants as form
+use Rattle.command_files.specs.Commands.{NamedSeen, named_seen, option_rule, word_rule, line_of, found_in}
 use Rattle.view_runner.specs.declared.commands.Shown.{Shown}
 use Rattle.view_runner.specs.declared.commands.Shown.TheVariants as shown
 use Rattle.view_runner.specs.declared.commands.View.{View}
 use Rattle.view_runner.specs.declared.commands.View.TheVariants as view
 
--- the bundles of the container of that name, or what is shown of a run of the script of that name
+-- the bundles of the container of that name, or what is shown of a script's run with the input files that are named
 pub data ViewSeen : Type 0 where
   Bundles : List ℕ → ViewSeen
-  Run : Shown → List ℕ → ViewSeen
+  Run : Shown → NamedSeen → ViewSeen
 
 abbrev pub view_seen : View → ViewSeen
 view_seen (view.Bundles name) = Bundles name.now
-view_seen (view.Run x name) = Run x name.now
-
--- the file that a command names
-abbrev pub name_of : ViewSeen → List ℕ
-name_of (Bundles name) = name
-name_of (Run x name) = name
+view_seen (view.Run x named) = Run x (named_seen named)
 
 -- ---- the command lines of clap
 
@@ -36,13 +31,17 @@ flag_rule name = record (new_rule name) { long = Some name; action = Some SetTru
 abbrev pub bundles_line : App
 bundles_line = line_of (word_rule (codes "CONTAINER") ∷ [])
 
+-- the input files of a run
+abbrev pub input_rules : List Rule
+input_rules = option_rule (codes "bundles") ∷ option_rule (codes "keys") ∷ option_rule (codes "secrets") ∷ []
+
 -- the rest of `trace`
 abbrev pub trace_line : App
-trace_line = line_of (word_rule (codes "SCRIPT") ∷ flag_rule (codes "json") ∷ [])
+trace_line = line_of (word_rule (codes "SCRIPT") ∷ flag_rule (codes "json") ∷ input_rules)
 
 -- the rest of `state`
 abbrev pub state_line : App
-state_line = line_of (word_rule (codes "SCRIPT") ∷ option_rule (codes "after") ∷ [])
+state_line = line_of (word_rule (codes "SCRIPT") ∷ option_rule (codes "after") ∷ flag_rule (codes "json") ∷ input_rules)
 
 -- ---- what was found
 
@@ -55,18 +54,29 @@ abbrev pub form_of : Option (List ℕ) → Form
 form_of None = form.Plain
 form_of (Some value) = if bytes_eq value (codes "true") then form.Json else form.Plain
 
+-- the script, and the input files that the options name; no file is saved
+abbrev pub named_in : List Row → Option NamedSeen
+named_in rows = option_map (λ script. record {
+  script = script;
+  bundles = first_of (codes "bundles") rows;
+  keys = first_of (codes "keys") rows;
+  secrets = first_of (codes "secrets") rows;
+  out_bundles = None;
+  guest_out = None;
+}) (first_of (codes "SCRIPT") rows)
+
 -- the events of a script's run
 abbrev pub trace_in : List Row → Option ViewSeen
-trace_in rows = option_map (λ script. Run (shown.Trace (form_of (first_of (codes "json") rows))) script) (first_of (codes "SCRIPT") rows)
+trace_in rows = option_map (Run (shown.Trace (form_of (first_of (codes "json") rows)))) (named_in rows)
 
 -- the state after so many of them, a number as scripts have it, which has to be there
-abbrev pub state_by : Option (List ℕ) → Option ℕ → Option ViewSeen
-state_by (Some script) (Some events) = Some (Run (shown.State events) script)
-state_by (Some script) None = None
-state_by None events = None
+abbrev pub state_by : Form → Option NamedSeen → Option ℕ → Option ViewSeen
+state_by f (Some named) (Some events) = Some (Run (shown.State f events) named)
+state_by f (Some named) None = None
+state_by f None events = None
 
 abbrev pub state_in : List Row → Option ViewSeen
-state_in rows = state_by (first_of (codes "SCRIPT") rows) (option_and_then number (first_of (codes "after") rows))
+state_in rows = state_by (form_of (first_of (codes "json") rows)) (named_in rows) (option_and_then number (first_of (codes "after") rows))
 
 -- ---- commands
 

@@ -4,30 +4,30 @@ ghost use Rattle.std.specs.Prelude.{◌≡◌, option_map, option_and_then, map,
 ghost use Rattle.std.specs.Str.{bytes_eq};
 ghost use Rattle.clap.specs.Words.{found_of, rows_of};
 ghost use Rattle.line_words.specs.Number.{number};
-ghost use Rattle.command_files.specs.Commands.{found_in};
-ghost use Rattle.view_runner.specs.Views.{view_seen, name_of, bundles_line, trace_line, state_line, form_of, bundles_in, trace_in, state_in, view_behind, view_in};
+ghost use Rattle.command_files.specs.Commands.{named_seen, found_in};
+ghost use Rattle.view_runner.specs.Views.{view_seen, bundles_line, trace_line, state_line, form_of, named_in, bundles_in, trace_in, state_in, view_behind, view_in};
 
 use crate::lines::{bundles_line, state_line, trace_line};
 use clap::ArgMatches;
-use command_files::{read_line, value_of};
+use command_files::{Named, read_line, value_of};
+use field_lines::Form;
 use line_words::number;
 use std::alloc::Global;
 use td_words::OutOfMemory;
-use trace_texts::Form;
 
-/// What is shown of a script's run: its events in a form, or the state after so many of them.
+/// What is shown of a script's run, in a form: its events, or the state after so many of them.
 #[derive(Clone, Copy)]
 pub enum Shown {
     Trace(Form),
-    State(u64),
+    State { form: Form, events: u64 },
 }
 
-/// What the words ask for: the bundles of the container of that name, or what is shown of a run of the
-/// script of that name.
+/// What the words ask for: the bundles of the container of that name, or what is shown of a script's run
+/// with the input files that are named.
 #[derive(Clone, Copy, Drop)]
 pub enum View<'a> {
     Bundles(&'a str),
-    Run { shown: Shown, script: &'a str },
+    Run { shown: Shown, named: Named<'a> },
 }
 
 fn is(word: &str, name: &str) -> bool
@@ -71,13 +71,30 @@ fn bundles_in<'a>(found: &ArgMatches<'a>) -> Option<View<'a>>
     }
 }
 
+// The script, and the input files that the options name.
+fn named_in<'a>(found: &ArgMatches<'a>) -> Option<Named<'a>>
+    ensures { option_map named_seen result ≡ named_in (rows_of (found_of found.now)) }
+{
+    match value_of(found, "SCRIPT") {
+        Some(script) => Some(Named {
+            script,
+            bundles: value_of(found, "bundles"),
+            keys: value_of(found, "keys"),
+            secrets: value_of(found, "secrets"),
+            out_bundles: None,
+            guest_out: None,
+        }),
+        None => None,
+    }
+}
+
 fn trace_in<'a>(found: &ArgMatches<'a>) -> Option<View<'a>>
     ensures { option_map view_seen result ≡ trace_in (rows_of (found_of found.now)) }
 {
-    match value_of(found, "SCRIPT") {
-        Some(script) => Some(View::Run {
+    match named_in(found) {
+        Some(named) => Some(View::Run {
             shown: Shown::Trace(form_of(value_of(found, "json"))),
-            script,
+            named,
         }),
         None => None,
     }
@@ -86,11 +103,14 @@ fn trace_in<'a>(found: &ArgMatches<'a>) -> Option<View<'a>>
 fn state_in<'a>(found: &ArgMatches<'a>) -> Option<View<'a>>
     ensures { option_map view_seen result ≡ state_in (rows_of (found_of found.now)) }
 {
-    match value_of(found, "SCRIPT") {
-        Some(script) => match number_of(value_of(found, "after")) {
+    match named_in(found) {
+        Some(named) => match number_of(value_of(found, "after")) {
             Some(events) => Some(View::Run {
-                shown: Shown::State(events),
-                script,
+                shown: Shown::State {
+                    form: form_of(value_of(found, "json")),
+                    events,
+                },
+                named,
             }),
             None => None,
         },
@@ -102,7 +122,7 @@ fn read_bundles<'a>(alloc: Global, rest: &'a [String]) -> Result<Option<View<'a>
     ensures { IfOk result (λ v. option_map view_seen v ≡ option_and_then bundles_in (found_in bundles_line (map string_bytes rest.now))) }
 {
     let line = bundles_line(alloc)?;
-    match read_line(line, rest)? {
+    match read_line(alloc, line, rest)? {
         Some(found) => Ok(bundles_in(&found)),
         None => Ok(None),
     }
@@ -112,7 +132,7 @@ fn read_trace<'a>(alloc: Global, rest: &'a [String]) -> Result<Option<View<'a>>,
     ensures { IfOk result (λ v. option_map view_seen v ≡ option_and_then trace_in (found_in trace_line (map string_bytes rest.now))) }
 {
     let line = trace_line(alloc)?;
-    match read_line(line, rest)? {
+    match read_line(alloc, line, rest)? {
         Some(found) => Ok(trace_in(&found)),
         None => Ok(None),
     }
@@ -122,7 +142,7 @@ fn read_state<'a>(alloc: Global, rest: &'a [String]) -> Result<Option<View<'a>>,
     ensures { IfOk result (λ v. option_map view_seen v ≡ option_and_then state_in (found_in state_line (map string_bytes rest.now))) }
 {
     let line = state_line(alloc)?;
-    match read_line(line, rest)? {
+    match read_line(alloc, line, rest)? {
         Some(found) => Ok(state_in(&found)),
         None => Ok(None),
     }
@@ -155,14 +175,4 @@ pub fn read_view<'a>(alloc: Global, words: &'a [String]) -> Result<Option<View<'
         return Ok(None);
     }
     view_behind(alloc, words[0].as_str(), &words[1..])
-}
-
-/// The file that a command names.
-pub fn name_of<'a>(view: &View<'a>) -> &'a str
-    ensures { result.now ≡ name_of (view_seen view.now) }
-{
-    match view {
-        View::Bundles(name) => name,
-        View::Run { script, .. } => script,
-    }
 }

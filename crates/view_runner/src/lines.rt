@@ -34,7 +34,10 @@ pub fn trace_line<'a>(alloc: Global) -> Result<Command<'a>, OutOfMemory>
     ensures { IfOk result (λ l. app_of l ≡ trace_line) }
 {
     let line = with_word(alloc, empty_line(alloc), "SCRIPT")?;
-    with_flag(alloc, line, "json")
+    let line = with_flag(alloc, line, "json")?;
+    let line = with_option(alloc, line, "bundles")?;
+    let line = with_option(alloc, line, "keys")?;
+    with_option(alloc, line, "secrets")
 }
 
 /// The rest of `state`.
@@ -42,5 +45,9 @@ pub fn state_line<'a>(alloc: Global) -> Result<Command<'a>, OutOfMemory>
     ensures { IfOk result (λ l. app_of l ≡ state_line) }
 {
     let line = with_word(alloc, empty_line(alloc), "SCRIPT")?;
-    with_option(alloc, line, "after")
+    let line = with_option(alloc, line, "after")?;
+    let line = with_flag(alloc, line, "json")?;
+    let line = with_option(alloc, line, "bundles")?;
+    let line = with_option(alloc, line, "keys")?;
+    with_option(alloc, line, "secrets")
 }

@@ -3,10 +3,11 @@
 ghost use Rattle.std.specs.Prelude.{◌≡◌, ◌≤◌, map, string_bytes, IfOk, Result};
 ghost use Rattle.bundle_store.specs.declared.outside.PutFault.{PutFault};
 ghost use Rattle.view_runner.specs.Views.{view_seen, view_in};
-ghost use Rattle.view_runner.specs.Endings.{told_seen, Reaches, LoadsFile, Comes, ComesPart, TellsBy, PutsWant, DoesView};
+ghost use Rattle.view_runner.specs.Endings.{told_seen, Reaches, ReachesPart, Comes, ComesPart, TellsBy, PutsWant, DoesView};
 
-use crate::commands::{View, name_of, read_view};
-use crate::ending::{MOST_CONTAINER, MOST_SCRIPT, Told, of_bundles, of_run, usage};
+use crate::commands::{View, read_view};
+use crate::ending::{MOST_CONTAINER, Told, of_bundles, usage};
+use crate::runs::of_run;
 use bundle_store::{Files, PutFault, Sink};
 use std::alloc::{AllocError, Global};
 use td_words::OutOfMemory;
@@ -15,22 +16,18 @@ const MEMORY: &str = "out of memory\n";
 
 fn of_view<'a, F: Files>(alloc: Global, view: &View<'a>, files: &mut F) -> Result<Told, AllocError>
     ensures ends { IfOk result (λ e. Reaches (F.contents files.old) (view_seen view.now) (record { loads = F.loads files.old; faults = F.read_faults files.old; bytes = F.bytes_read files.old }) (record { loads = F.loads files.new; faults = F.read_faults files.new; bytes = F.bytes_read files.new }) (told_seen e)) }
-    ensures part { LoadsFile (F.contents files.old) (view_seen view.now) (record { loads = F.loads files.old; faults = F.read_faults files.old; bytes = F.bytes_read files.old }) (record { loads = F.loads files.new; faults = F.read_faults files.new; bytes = F.bytes_read files.new }) }
+    ensures part { ReachesPart (F.contents files.old) (view_seen view.now) (record { loads = F.loads files.old; faults = F.read_faults files.old; bytes = F.bytes_read files.old }) (record { loads = F.loads files.new; faults = F.read_faults files.new; bytes = F.bytes_read files.new }) }
     ensures same { F.contents files.new ≡ F.contents files.old }
     ensures saves { F.saves files.new ≡ F.saves files.old }
     ensures writes { F.write_faults files.new ≡ F.write_faults files.old }
-    ensures few { IfOk result (λ e. e.status ≤ 6) }
+    ensures few { IfOk result (λ e. e.status ≤ 7) }
 {
-    let name = name_of(view);
     match view {
-        View::Bundles(_) => {
+        View::Bundles(name) => {
             let answer = files.load(alloc, name, MOST_CONTAINER);
             of_bundles(alloc, name, answer)
         }
-        View::Run { shown, .. } => {
-            let answer = files.load(alloc, name, MOST_SCRIPT);
-            of_run(alloc, *shown, name, answer)
-        }
+        View::Run { shown, named } => of_run(alloc, *shown, named, files),
     }
 }
 
@@ -40,7 +37,7 @@ fn decide<F: Files>(alloc: Global, words: &[String], files: &mut F) -> Result<To
     ensures same { F.contents files.new ≡ F.contents files.old }
     ensures saves { F.saves files.new ≡ F.saves files.old }
     ensures writes { F.write_faults files.new ≡ F.write_faults files.old }
-    ensures few { IfOk result (λ e. e.status ≤ 6) }
+    ensures few { IfOk result (λ e. e.status ≤ 7) }
 {
     match read_view(alloc, words) {
         Ok(None) => usage(alloc),
@@ -61,7 +58,7 @@ pub fn give_up<K: Sink>(out: &mut K) -> u8
 // Puts the text.
 fn tell<K: Sink>(how: &Told, out: &mut K) -> u8
     ensures tells { (answer : Result (Unit {0}) PutFault) × TellsBy (record { told = K.told out.old; puts = K.puts out.old; faults = K.faults out.old }) (told_seen how.now) (record { told = K.told out.new; puts = K.puts out.new; faults = K.faults out.new }) result answer }
-    ensures few { how.now.status ≤ 6 → result ≤ 6 }
+    ensures few { how.now.status ≤ 7 → result ≤ 7 }
 {
     match out.put(&how.text) {
         Ok(()) => how.status,
@@ -80,10 +77,10 @@ pub fn view_main<F: Files, K: Sink>(
     files: &mut F,
     out: &mut K,
 ) -> u8
-    // The call loads the one file that the words name, and puts what that comes to, once. Want of memory
-    // alone cuts this short, and is put instead.
+    // The call loads the file that the words name, and behind a script the inputs that they name, and puts
+    // what these come to, once. Want of memory alone cuts this short, and is put instead.
     ensures does { DoesView (F.contents files.old) (view_in (map string_bytes words.now)) (record { loads = F.loads files.old; faults = F.read_faults files.old; bytes = F.bytes_read files.old }) (record { loads = F.loads files.new; faults = F.read_faults files.new; bytes = F.bytes_read files.new }) (record { told = K.told out.old; puts = K.puts out.old; faults = K.faults out.old }) (record { told = K.told out.new; puts = K.puts out.new; faults = K.faults out.new }) result }
-    ensures statuses { result ≤ 6 }
+    ensures statuses { result ≤ 7 }
     // No file changes, and none is saved.
     ensures same { F.contents files.new ≡ F.contents files.old }
     ensures saves { F.saves files.new ≡ F.saves files.old }

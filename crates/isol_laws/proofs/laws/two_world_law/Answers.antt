@@ -1,5 +1,8 @@
-use Rattle.isol_laws.proofs.Worlds.{blind_alike, blind_prints, blind_bundles, agreeing_show, secrets_are_private}
+use Rattle.isol_laws.proofs.Worlds.{worlds_are_kept, blind_alike, blind_prints, blind_bundles, agreeing_show, secrets_are_private}
 use Rattle.isol_laws.proofs.laws.two_world_law.Goals as goal
+
+pub returns-clause-kept : goal.returns-clause-kept
+returns-clause-kept c = worlds_are_kept c.access_law.ensures.kept c.alike_laws.ensures.events c.alike_laws.ensures.told
 
 pub returns-clause-alike : goal.returns-clause-alike
 returns-clause-alike c = blind_alike c.access_law.ensures.kept c.alike_laws.ensures.events c.alike_laws.ensures.told

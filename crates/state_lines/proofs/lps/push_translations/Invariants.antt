@@ -5,4 +5,4 @@ use Rattle.state_lines.proofs.lps.push_translations.Given as goal
 
 -- the translations that are left go on behind the text so far
 abbrev pub invariant-loop-i : goal.invariant-loop-i
-invariant-loop-i l = string_bytes l.text ++ concat (map (translation_line l.lp) (drop l.i l.translations)) ≡ string_bytes l.initial.text ++ concat (map (translation_line l.lp) l.translations)
+invariant-loop-i l = string_bytes l.text ++ concat (map (translation_line l.form l.lp) (drop l.i l.translations)) ≡ string_bytes l.initial.text ++ concat (map (translation_line l.form l.lp) l.translations)

@@ -40,12 +40,12 @@ returns-in-Ok c =
     let ran = c.in_ok-ran.ran in
     let lps = ran.lps.items in
     let words = ran.words.words in
-    let said = reads c.laws_of_turns.ensures c.states_go_on.ensures c.words_tell_pages.ensures c.lps_tell.ensures c.lawful_law.ensures.run o c.args.events c.args.script.now.schedule c.script_run.new.seen lps words op ran.ended c.in_ok-ran.ensures in
+    let said = reads c.laws_of_turns.ensures c.states_go_on.ensures c.words_tell_pages.ensures c.lps_tell.ensures c.lawful_law.ensures.run c.args.form o c.args.events c.args.script.now.schedule c.script_run.new.seen lps words op ran.ended c.in_ok-ran.ensures in
     let machine : c.script.inside.machine ≡ o.machine = ap (λ (s : ScriptSeen). s.machine) c.script.view_is in
     let seen : c.deref-4.result.now ≡ lps = c.deref-4.ensures.value in
     let told : c.deref-2.result.now ≡ words = c.deref-2.ensures.value ∙ c.in_ok-words.ensures in
     let calls : map (λ list. list.items) c.deref-3.result.now ≡ o.calls = ap (map (λ list. list.items)) c.deref-3.ensures.value ∙ ap (λ (s : ScriptSeen). s.calls) c.script.view_is in
     c.in-Ok.ensures
-    ∙ (ap (λ (m : Machine). state_read m.pages c.deref-2.result.now (map (λ list. list.items) c.deref-3.result.now) c.deref-4.result.now) machine
-    ∙ (ap (λ (zs : List ℕ). state_read o.machine.pages zs (map (λ list. list.items) c.deref-3.result.now) c.deref-4.result.now) told
-    ∙ (ap (λ (css : List (List Call)). state_read o.machine.pages words css c.deref-4.result.now) calls ∙ (ap (λ (z : List LpState). state_read o.machine.pages words o.calls z) seen ∙ said))))
+    ∙ (ap (λ (m : Machine). state_read c.args.form m.pages c.deref-2.result.now (map (λ list. list.items) c.deref-3.result.now) c.deref-4.result.now) machine
+    ∙ (ap (λ (zs : List ℕ). state_read c.args.form o.machine.pages zs (map (λ list. list.items) c.deref-3.result.now) c.deref-4.result.now) told
+    ∙ (ap (λ (css : List (List Call)). state_read c.args.form o.machine.pages words css c.deref-4.result.now) calls ∙ (ap (λ (z : List LpState). state_read c.args.form o.machine.pages words o.calls z) seen ∙ said))))

@@ -1,5 +1,9 @@
+use Rattle.td_laws.proofs.Asked.{rows_ask_for_ops}
 use Rattle.td_laws.proofs.Ops.{calls_come_in_their_ops, events_lead_ops, events_move_ops, failed_imports_stay}
 use Rattle.td_laws.proofs.laws.op_events.Goals as goal
+
+pub returns-clause-ask : goal.returns-clause-ask
+returns-clause-ask c = rows_ask_for_ops
 
 pub returns-clause-come : goal.returns-clause-come
 returns-clause-come c = calls_come_in_their_ops

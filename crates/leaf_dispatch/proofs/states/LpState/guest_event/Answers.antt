@@ -1,4 +1,4 @@
-use Rattle.std.proofs.Common.{◌≡◌, IfSome, Option, ◌+◌, map, length, refl, arith, ap, sym, subst, ℕ, List, None}
+use Rattle.std.proofs.Common.{◌≡◌, IfSome, Option, ◌+◌, map, length, refl, ◌∙◌, arith, ap, sym, subst, ℕ, List, None}
 use Rattle.td_words.specs.declared.replies.Reply.{Reply}
 use Rattle.leaf_table.specs.Ends.{step_answer, step_ends}
 use Rattle.leaf_dispatch.specs.StepRuns.{IsStepRunOf}
@@ -29,9 +29,9 @@ note_by-requires g c = record {
       let l = c.args.self.now in
       let at = ap (λ (rs : List Reply). length rs + 1) c.replies.ensures in
       let s = step_seen c.turn_guest-step.result.step in
-      let steps : StepsAt l.place (given_in l.given) l.codes.now l.replies.items l.told.items (map note_seen l.notes.items) l.cached l.bundles.made (g.B.Bench.did c.args.bench.now) c.turn_guest-step.new.bench c.turn_guest-step.new.kept c.turn_guest-step.new.turn c.turn_guest-step.new.cached s c.in-Some.guest (unless c.turn_guest-step.result.left c.turn_guest-step.new.guest) l.step_run (length c.replies.result.now + 1) = record { counts = c.turn_guest-step.ensures.counts; low = c.turn_guest-step.ensures.within; is = sym (c.turn_guest-step.ensures.step None); turned = c.turn_guest-step.ensures.turned; cached = c.turn_guest-step.ensures.cached; next = c.turn_guest-step.ensures.next } in
+      let steps : StepsAt l.place (given_in l.given) l.codes.now l.replies.items l.told.items (map note_seen l.notes.items) l.cached l.bundles.made (g.B.Bench.did c.args.bench.now) c.turn_guest-step.new.bench c.turn_guest-step.new.kept c.turn_guest-step.new.turn c.turn_guest-step.new.cached s c.in-Some.guest (unless c.turn_guest-step.result.left c.turn_guest-step.new.guest) l.step_run c.turn_guest-step.result.parity (length c.replies.result.now + 1) = record { counts = c.turn_guest-step.ensures.counts; low = c.turn_guest-step.ensures.within; is = sym (c.turn_guest-step.ensures.step None); turned = c.turn_guest-step.ensures.turned.0; counted = c.turn_guest-step.ensures.turned.1; cached = c.turn_guest-step.ensures.cached; next = c.turn_guest-step.ensures.next } in
       let made : ℕ = length (notes_by (step_answer tdr (length c.replies.result.now + 1) s) c.turn_guest-step.new.turn.act) in
-      let room = guest-room l.place (given_in l.given) l.codes.now l.replies.items l.told.items (map note_seen l.notes.items) l.cached l.bundles.made (g.B.Bench.did c.args.bench.now) c.turn_guest-step.new.bench c.turn_guest-step.new.kept c.turn_guest-step.new.turn c.turn_guest-step.new.cached s c.in-Some.guest (unless c.turn_guest-step.result.left c.turn_guest-step.new.guest) l.step_run l.lines.now l.guest l.run.host l.run.other (acting-alone l.place.machine l.lines.now l.run l.guest c.in-Some.guest c.requires.lines l.under_way (acts-as l.guest l.run.other c.in-Some.guest c.in-Some.is c.requires.acts)) (length c.replies.result.now + 1) at steps c.requires.lines (acts-as l.guest l.run.other c.in-Some.guest c.in-Some.is c.requires.acts) l.inside made (notes-few tdr (length c.replies.result.now + 1) s c.turn_guest-step.new.turn.act) (no-notes tdr (length c.replies.result.now + 1) s c.turn_guest-step.new.turn.act) (notes-none tdr (length c.replies.result.now + 1) s c.turn_guest-step.new.turn.act) in
+      let room = guest-room l.place (given_in l.given) l.codes.now l.replies.items l.told.items (map note_seen l.notes.items) l.cached l.bundles.made (g.B.Bench.did c.args.bench.now) c.turn_guest-step.new.bench c.turn_guest-step.new.kept c.turn_guest-step.new.turn c.turn_guest-step.new.cached s c.in-Some.guest (unless c.turn_guest-step.result.left c.turn_guest-step.new.guest) l.step_run c.turn_guest-step.result.parity l.lines.now l.guest l.run.host l.run.other (acting-alone l.place.machine l.lines.now l.run l.guest c.in-Some.guest c.requires.lines l.under_way (acts-as l.guest l.run.other c.in-Some.guest c.in-Some.is c.requires.acts)) (length c.replies.result.now + 1) at steps c.requires.lines (acts-as l.guest l.run.other c.in-Some.guest c.in-Some.is c.requires.acts) l.inside made (notes-few tdr (length c.replies.result.now + 1) s c.turn_guest-step.new.turn.act) (no-notes tdr (length c.replies.result.now + 1) s c.turn_guest-step.new.turn.act) (notes-none tdr (length c.replies.result.now + 1) s c.turn_guest-step.new.turn.act) in
       let had = l.note_room in
       omega (arith, room, had);
 }
@@ -42,9 +42,9 @@ tell_by-requires g c = record {
       let l = c.args.self.now in
       let at = ap (λ (rs : List Reply). length rs + 1) c.replies.ensures in
       let s = step_seen c.turn_guest-step.result.step in
-      let steps : StepsAt l.place (given_in l.given) l.codes.now l.replies.items l.told.items (map note_seen l.notes.items) l.cached l.bundles.made (g.B.Bench.did c.args.bench.now) c.turn_guest-step.new.bench c.turn_guest-step.new.kept c.turn_guest-step.new.turn c.turn_guest-step.new.cached s c.in-Some.guest (unless c.turn_guest-step.result.left c.turn_guest-step.new.guest) l.step_run (length c.replies.result.now + 1) = record { counts = c.turn_guest-step.ensures.counts; low = c.turn_guest-step.ensures.within; is = sym (c.turn_guest-step.ensures.step None); turned = c.turn_guest-step.ensures.turned; cached = c.turn_guest-step.ensures.cached; next = c.turn_guest-step.ensures.next } in
+      let steps : StepsAt l.place (given_in l.given) l.codes.now l.replies.items l.told.items (map note_seen l.notes.items) l.cached l.bundles.made (g.B.Bench.did c.args.bench.now) c.turn_guest-step.new.bench c.turn_guest-step.new.kept c.turn_guest-step.new.turn c.turn_guest-step.new.cached s c.in-Some.guest (unless c.turn_guest-step.result.left c.turn_guest-step.new.guest) l.step_run c.turn_guest-step.result.parity (length c.replies.result.now + 1) = record { counts = c.turn_guest-step.ensures.counts; low = c.turn_guest-step.ensures.within; is = sym (c.turn_guest-step.ensures.step None); turned = c.turn_guest-step.ensures.turned.0; counted = c.turn_guest-step.ensures.turned.1; cached = c.turn_guest-step.ensures.cached; next = c.turn_guest-step.ensures.next } in
       let made : ℕ = length (tells_by (step_answer tdr line s) c.turn_guest-step.new.turn.act) in
-      let room = guest-room l.place (given_in l.given) l.codes.now l.replies.items l.told.items (map note_seen l.notes.items) l.cached l.bundles.made (g.B.Bench.did c.args.bench.now) c.turn_guest-step.new.bench c.turn_guest-step.new.kept c.turn_guest-step.new.turn c.turn_guest-step.new.cached s c.in-Some.guest (unless c.turn_guest-step.result.left c.turn_guest-step.new.guest) l.step_run l.lines.now l.guest l.run.host l.run.other (acting-alone l.place.machine l.lines.now l.run l.guest c.in-Some.guest c.requires.lines l.under_way (acts-as l.guest l.run.other c.in-Some.guest c.in-Some.is c.requires.acts)) (length c.replies.result.now + 1) at steps c.requires.lines (acts-as l.guest l.run.other c.in-Some.guest c.in-Some.is c.requires.acts) l.inside made (tells-few tdr line s c.turn_guest-step.new.turn.act) (no-tells tdr line s c.turn_guest-step.new.turn.act) (tells-none tdr line s c.turn_guest-step.new.turn.act) in
+      let room = guest-room l.place (given_in l.given) l.codes.now l.replies.items l.told.items (map note_seen l.notes.items) l.cached l.bundles.made (g.B.Bench.did c.args.bench.now) c.turn_guest-step.new.bench c.turn_guest-step.new.kept c.turn_guest-step.new.turn c.turn_guest-step.new.cached s c.in-Some.guest (unless c.turn_guest-step.result.left c.turn_guest-step.new.guest) l.step_run c.turn_guest-step.result.parity l.lines.now l.guest l.run.host l.run.other (acting-alone l.place.machine l.lines.now l.run l.guest c.in-Some.guest c.requires.lines l.under_way (acts-as l.guest l.run.other c.in-Some.guest c.in-Some.is c.requires.acts)) (length c.replies.result.now + 1) at steps c.requires.lines (acts-as l.guest l.run.other c.in-Some.guest c.in-Some.is c.requires.acts) l.inside made (tells-few tdr line s c.turn_guest-step.new.turn.act) (no-tells tdr line s c.turn_guest-step.new.turn.act) (tells-none tdr line s c.turn_guest-step.new.turn.act) in
       let had = l.word_room in
       omega (arith, room, had);
 }
@@ -60,9 +60,9 @@ invariant_of-self-clause-inside g c =
     let l = c.args.self.now in
     let at = ap (λ (rs : List Reply). length rs + 1) c.replies.ensures in
     let s = step_seen c.turn_guest-step.result.step in
-    let steps : StepsAt l.place (given_in l.given) l.codes.now l.replies.items l.told.items (map note_seen l.notes.items) l.cached l.bundles.made (g.B.Bench.did c.args.bench.now) c.turn_guest-step.new.bench c.turn_guest-step.new.kept c.turn_guest-step.new.turn c.turn_guest-step.new.cached s c.in-Some.guest c.leave_where.new.guest l.step_run (length c.replies.result.now + 1) = record { counts = c.turn_guest-step.ensures.counts; low = c.turn_guest-step.ensures.within; is = sym (c.turn_guest-step.ensures.step None); turned = c.turn_guest-step.ensures.turned; cached = c.turn_guest-step.ensures.cached; next = subst (λ (h : Option GuestAt). IsNextGuest c.in-Some.guest s c.turn_guest-step.new.turn.reply h) (sym c.leave_where.ensures) c.turn_guest-step.ensures.next } in
+    let steps : StepsAt l.place (given_in l.given) l.codes.now l.replies.items l.told.items (map note_seen l.notes.items) l.cached l.bundles.made (g.B.Bench.did c.args.bench.now) c.turn_guest-step.new.bench c.turn_guest-step.new.kept c.turn_guest-step.new.turn c.turn_guest-step.new.cached s c.in-Some.guest c.leave_where.new.guest l.step_run c.turn_guest-step.result.parity (length c.replies.result.now + 1) = record { counts = c.turn_guest-step.ensures.counts; low = c.turn_guest-step.ensures.within; is = sym (c.turn_guest-step.ensures.step None); turned = c.turn_guest-step.ensures.turned.0; counted = c.turn_guest-step.ensures.turned.1; cached = c.turn_guest-step.ensures.cached; next = subst (λ (h : Option GuestAt). IsNextGuest c.in-Some.guest s c.turn_guest-step.new.turn.reply h) (sym c.leave_where.ensures) c.turn_guest-step.ensures.next } in
     let answered = answered-of l.place.machine l.codes.now l.cached (length l.replies.items + 1) l.guest l.run.other c.in-Some.guest l.step_run (acts-as l.guest l.run.other c.in-Some.guest c.in-Some.is c.requires.acts) l.inside in
-    let done = guest-steps l.place (given_in l.given) l.codes.now l.replies.items l.told.items (map note_seen l.notes.items) l.cached l.bundles.made (g.B.Bench.did c.args.bench.now) c.turn_guest-step.new.bench c.turn_guest-step.new.kept c.turn_guest-step.new.turn c.turn_guest-step.new.cached s c.in-Some.guest c.leave_where.new.guest l.step_run c.answer_exit.new.kept (map note_seen c.note_by.new.notes.items) c.tell_by.new.words.items (length c.replies.result.now + 1) at steps (c.note_by.ensures.noted c.in-Some.guest.tdr) (c.tell_by.ensures.told c.in-Some.guest.tdr (length c.replies.result.now + 1))
+    let done = guest-steps l.place (given_in l.given) l.codes.now l.replies.items l.told.items (map note_seen l.notes.items) l.cached l.bundles.made (g.B.Bench.did c.args.bench.now) c.turn_guest-step.new.bench c.turn_guest-step.new.kept c.turn_guest-step.new.turn c.turn_guest-step.new.cached s c.in-Some.guest c.leave_where.new.guest l.step_run c.turn_guest-step.result.parity c.answer_exit.new.kept (map note_seen c.note_by.new.notes.items) c.tell_by.new.words.items (length c.replies.result.now + 1) at steps (c.note_by.ensures.noted c.in-Some.guest.tdr) (c.tell_by.ensures.told c.in-Some.guest.tdr (length c.replies.result.now + 1))
     (c.answer_exit.ensures.answered answered) (subst (λ (h : Option GuestAt). IfSome h (λ y. IsLow y.walk × (y.list.now ≡ c.in-Some.guest.list.now))) (sym c.leave_where.ensures) (stays-kept c.turn_guest-step.result.left c.turn_guest-step.new.guest c.in-Some.guest.list.now c.turn_guest-step.ensures.kept)) c.turns_in_pieces.ensures l.lines.now l.guest l.run.host l.run.other (acting-alone l.place.machine l.lines.now l.run l.guest c.in-Some.guest c.requires.lines l.under_way (acts-as l.guest l.run.other c.in-Some.guest c.in-Some.is c.requires.acts)) c.requires.lines (acts-as l.guest l.run.other c.in-Some.guest c.in-Some.is c.requires.acts) l.inside c.answer_exit.ensures.seen in
     done.keeps
 
@@ -71,9 +71,9 @@ invariant_of-self-clause-note_room g c =
     let l = c.args.self.now in
     let at = ap (λ (rs : List Reply). length rs + 1) c.replies.ensures in
     let s = step_seen c.turn_guest-step.result.step in
-    let steps : StepsAt l.place (given_in l.given) l.codes.now l.replies.items l.told.items (map note_seen l.notes.items) l.cached l.bundles.made (g.B.Bench.did c.args.bench.now) c.turn_guest-step.new.bench c.turn_guest-step.new.kept c.turn_guest-step.new.turn c.turn_guest-step.new.cached s c.in-Some.guest c.leave_where.new.guest l.step_run (length c.replies.result.now + 1) = record { counts = c.turn_guest-step.ensures.counts; low = c.turn_guest-step.ensures.within; is = sym (c.turn_guest-step.ensures.step None); turned = c.turn_guest-step.ensures.turned; cached = c.turn_guest-step.ensures.cached; next = subst (λ (h : Option GuestAt). IsNextGuest c.in-Some.guest s c.turn_guest-step.new.turn.reply h) (sym c.leave_where.ensures) c.turn_guest-step.ensures.next } in
+    let steps : StepsAt l.place (given_in l.given) l.codes.now l.replies.items l.told.items (map note_seen l.notes.items) l.cached l.bundles.made (g.B.Bench.did c.args.bench.now) c.turn_guest-step.new.bench c.turn_guest-step.new.kept c.turn_guest-step.new.turn c.turn_guest-step.new.cached s c.in-Some.guest c.leave_where.new.guest l.step_run c.turn_guest-step.result.parity (length c.replies.result.now + 1) = record { counts = c.turn_guest-step.ensures.counts; low = c.turn_guest-step.ensures.within; is = sym (c.turn_guest-step.ensures.step None); turned = c.turn_guest-step.ensures.turned.0; counted = c.turn_guest-step.ensures.turned.1; cached = c.turn_guest-step.ensures.cached; next = subst (λ (h : Option GuestAt). IsNextGuest c.in-Some.guest s c.turn_guest-step.new.turn.reply h) (sym c.leave_where.ensures) c.turn_guest-step.ensures.next } in
     let answered = answered-of l.place.machine l.codes.now l.cached (length l.replies.items + 1) l.guest l.run.other c.in-Some.guest l.step_run (acts-as l.guest l.run.other c.in-Some.guest c.in-Some.is c.requires.acts) l.inside in
-    let done = guest-steps l.place (given_in l.given) l.codes.now l.replies.items l.told.items (map note_seen l.notes.items) l.cached l.bundles.made (g.B.Bench.did c.args.bench.now) c.turn_guest-step.new.bench c.turn_guest-step.new.kept c.turn_guest-step.new.turn c.turn_guest-step.new.cached s c.in-Some.guest c.leave_where.new.guest l.step_run c.answer_exit.new.kept (map note_seen c.note_by.new.notes.items) c.tell_by.new.words.items (length c.replies.result.now + 1) at steps (c.note_by.ensures.noted c.in-Some.guest.tdr) (c.tell_by.ensures.told c.in-Some.guest.tdr (length c.replies.result.now + 1))
+    let done = guest-steps l.place (given_in l.given) l.codes.now l.replies.items l.told.items (map note_seen l.notes.items) l.cached l.bundles.made (g.B.Bench.did c.args.bench.now) c.turn_guest-step.new.bench c.turn_guest-step.new.kept c.turn_guest-step.new.turn c.turn_guest-step.new.cached s c.in-Some.guest c.leave_where.new.guest l.step_run c.turn_guest-step.result.parity c.answer_exit.new.kept (map note_seen c.note_by.new.notes.items) c.tell_by.new.words.items (length c.replies.result.now + 1) at steps (c.note_by.ensures.noted c.in-Some.guest.tdr) (c.tell_by.ensures.told c.in-Some.guest.tdr (length c.replies.result.now + 1))
     (c.answer_exit.ensures.answered answered) (subst (λ (h : Option GuestAt). IfSome h (λ y. IsLow y.walk × (y.list.now ≡ c.in-Some.guest.list.now))) (sym c.leave_where.ensures) (stays-kept c.turn_guest-step.result.left c.turn_guest-step.new.guest c.in-Some.guest.list.now c.turn_guest-step.ensures.kept)) c.turns_in_pieces.ensures l.lines.now l.guest l.run.host l.run.other (acting-alone l.place.machine l.lines.now l.run l.guest c.in-Some.guest c.requires.lines l.under_way (acts-as l.guest l.run.other c.in-Some.guest c.in-Some.is c.requires.acts)) c.requires.lines (acts-as l.guest l.run.other c.in-Some.guest c.in-Some.is c.requires.acts) l.inside c.answer_exit.ensures.seen in
     let made : ℕ = length (notes_by (step_answer c.in-Some.guest.tdr (length c.replies.result.now + 1) s) c.turn_guest-step.new.turn.act) in
     let room = done.room made (notes-few c.in-Some.guest.tdr (length c.replies.result.now + 1) s c.turn_guest-step.new.turn.act) (no-notes c.in-Some.guest.tdr (length c.replies.result.now + 1) s c.turn_guest-step.new.turn.act) (notes-none c.in-Some.guest.tdr (length c.replies.result.now + 1) s c.turn_guest-step.new.turn.act) in
@@ -87,9 +87,9 @@ invariant_of-self-clause-word_room g c =
     let l = c.args.self.now in
     let at = ap (λ (rs : List Reply). length rs + 1) c.replies.ensures in
     let s = step_seen c.turn_guest-step.result.step in
-    let steps : StepsAt l.place (given_in l.given) l.codes.now l.replies.items l.told.items (map note_seen l.notes.items) l.cached l.bundles.made (g.B.Bench.did c.args.bench.now) c.turn_guest-step.new.bench c.turn_guest-step.new.kept c.turn_guest-step.new.turn c.turn_guest-step.new.cached s c.in-Some.guest c.leave_where.new.guest l.step_run (length c.replies.result.now + 1) = record { counts = c.turn_guest-step.ensures.counts; low = c.turn_guest-step.ensures.within; is = sym (c.turn_guest-step.ensures.step None); turned = c.turn_guest-step.ensures.turned; cached = c.turn_guest-step.ensures.cached; next = subst (λ (h : Option GuestAt). IsNextGuest c.in-Some.guest s c.turn_guest-step.new.turn.reply h) (sym c.leave_where.ensures) c.turn_guest-step.ensures.next } in
+    let steps : StepsAt l.place (given_in l.given) l.codes.now l.replies.items l.told.items (map note_seen l.notes.items) l.cached l.bundles.made (g.B.Bench.did c.args.bench.now) c.turn_guest-step.new.bench c.turn_guest-step.new.kept c.turn_guest-step.new.turn c.turn_guest-step.new.cached s c.in-Some.guest c.leave_where.new.guest l.step_run c.turn_guest-step.result.parity (length c.replies.result.now + 1) = record { counts = c.turn_guest-step.ensures.counts; low = c.turn_guest-step.ensures.within; is = sym (c.turn_guest-step.ensures.step None); turned = c.turn_guest-step.ensures.turned.0; counted = c.turn_guest-step.ensures.turned.1; cached = c.turn_guest-step.ensures.cached; next = subst (λ (h : Option GuestAt). IsNextGuest c.in-Some.guest s c.turn_guest-step.new.turn.reply h) (sym c.leave_where.ensures) c.turn_guest-step.ensures.next } in
     let answered = answered-of l.place.machine l.codes.now l.cached (length l.replies.items + 1) l.guest l.run.other c.in-Some.guest l.step_run (acts-as l.guest l.run.other c.in-Some.guest c.in-Some.is c.requires.acts) l.inside in
-    let done = guest-steps l.place (given_in l.given) l.codes.now l.replies.items l.told.items (map note_seen l.notes.items) l.cached l.bundles.made (g.B.Bench.did c.args.bench.now) c.turn_guest-step.new.bench c.turn_guest-step.new.kept c.turn_guest-step.new.turn c.turn_guest-step.new.cached s c.in-Some.guest c.leave_where.new.guest l.step_run c.answer_exit.new.kept (map note_seen c.note_by.new.notes.items) c.tell_by.new.words.items (length c.replies.result.now + 1) at steps (c.note_by.ensures.noted c.in-Some.guest.tdr) (c.tell_by.ensures.told c.in-Some.guest.tdr (length c.replies.result.now + 1))
+    let done = guest-steps l.place (given_in l.given) l.codes.now l.replies.items l.told.items (map note_seen l.notes.items) l.cached l.bundles.made (g.B.Bench.did c.args.bench.now) c.turn_guest-step.new.bench c.turn_guest-step.new.kept c.turn_guest-step.new.turn c.turn_guest-step.new.cached s c.in-Some.guest c.leave_where.new.guest l.step_run c.turn_guest-step.result.parity c.answer_exit.new.kept (map note_seen c.note_by.new.notes.items) c.tell_by.new.words.items (length c.replies.result.now + 1) at steps (c.note_by.ensures.noted c.in-Some.guest.tdr) (c.tell_by.ensures.told c.in-Some.guest.tdr (length c.replies.result.now + 1))
     (c.answer_exit.ensures.answered answered) (subst (λ (h : Option GuestAt). IfSome h (λ y. IsLow y.walk × (y.list.now ≡ c.in-Some.guest.list.now))) (sym c.leave_where.ensures) (stays-kept c.turn_guest-step.result.left c.turn_guest-step.new.guest c.in-Some.guest.list.now c.turn_guest-step.ensures.kept)) c.turns_in_pieces.ensures l.lines.now l.guest l.run.host l.run.other (acting-alone l.place.machine l.lines.now l.run l.guest c.in-Some.guest c.requires.lines l.under_way (acts-as l.guest l.run.other c.in-Some.guest c.in-Some.is c.requires.acts)) c.requires.lines (acts-as l.guest l.run.other c.in-Some.guest c.in-Some.is c.requires.acts) l.inside c.answer_exit.ensures.seen in
     let made : ℕ = length (tells_by (step_answer c.in-Some.guest.tdr (length c.replies.result.now + 1) s) c.turn_guest-step.new.turn.act) in
     let room = done.room made (tells-few c.in-Some.guest.tdr (length c.replies.result.now + 1) s c.turn_guest-step.new.turn.act) (no-tells c.in-Some.guest.tdr (length c.replies.result.now + 1) s c.turn_guest-step.new.turn.act) (tells-none c.in-Some.guest.tdr (length c.replies.result.now + 1) s c.turn_guest-step.new.turn.act) in
@@ -103,11 +103,11 @@ returns-clause-moved g c =
     let l = c.args.self.now in
     let at = ap (λ (rs : List Reply). length rs + 1) c.replies.ensures in
     let s = step_seen c.turn_guest-step.result.step in
-    let steps : StepsAt l.place (given_in l.given) l.codes.now l.replies.items l.told.items (map note_seen l.notes.items) l.cached l.bundles.made (g.B.Bench.did c.args.bench.now) c.turn_guest-step.new.bench c.turn_guest-step.new.kept c.turn_guest-step.new.turn c.turn_guest-step.new.cached s c.in-Some.guest c.leave_where.new.guest l.step_run (length c.replies.result.now + 1) = record { counts = c.turn_guest-step.ensures.counts; low = c.turn_guest-step.ensures.within; is = sym (c.turn_guest-step.ensures.step None); turned = c.turn_guest-step.ensures.turned; cached = c.turn_guest-step.ensures.cached; next = subst (λ (h : Option GuestAt). IsNextGuest c.in-Some.guest s c.turn_guest-step.new.turn.reply h) (sym c.leave_where.ensures) c.turn_guest-step.ensures.next } in
+    let steps : StepsAt l.place (given_in l.given) l.codes.now l.replies.items l.told.items (map note_seen l.notes.items) l.cached l.bundles.made (g.B.Bench.did c.args.bench.now) c.turn_guest-step.new.bench c.turn_guest-step.new.kept c.turn_guest-step.new.turn c.turn_guest-step.new.cached s c.in-Some.guest c.leave_where.new.guest l.step_run c.turn_guest-step.result.parity (length c.replies.result.now + 1) = record { counts = c.turn_guest-step.ensures.counts; low = c.turn_guest-step.ensures.within; is = sym (c.turn_guest-step.ensures.step None); turned = c.turn_guest-step.ensures.turned.0; counted = c.turn_guest-step.ensures.turned.1; cached = c.turn_guest-step.ensures.cached; next = subst (λ (h : Option GuestAt). IsNextGuest c.in-Some.guest s c.turn_guest-step.new.turn.reply h) (sym c.leave_where.ensures) c.turn_guest-step.ensures.next } in
     let answered = answered-of l.place.machine l.codes.now l.cached (length l.replies.items + 1) l.guest l.run.other c.in-Some.guest l.step_run (acts-as l.guest l.run.other c.in-Some.guest c.in-Some.is c.requires.acts) l.inside in
-    let done = guest-steps l.place (given_in l.given) l.codes.now l.replies.items l.told.items (map note_seen l.notes.items) l.cached l.bundles.made (g.B.Bench.did c.args.bench.now) c.turn_guest-step.new.bench c.turn_guest-step.new.kept c.turn_guest-step.new.turn c.turn_guest-step.new.cached s c.in-Some.guest c.leave_where.new.guest l.step_run c.answer_exit.new.kept (map note_seen c.note_by.new.notes.items) c.tell_by.new.words.items (length c.replies.result.now + 1) at steps (c.note_by.ensures.noted c.in-Some.guest.tdr) (c.tell_by.ensures.told c.in-Some.guest.tdr (length c.replies.result.now + 1))
+    let done = guest-steps l.place (given_in l.given) l.codes.now l.replies.items l.told.items (map note_seen l.notes.items) l.cached l.bundles.made (g.B.Bench.did c.args.bench.now) c.turn_guest-step.new.bench c.turn_guest-step.new.kept c.turn_guest-step.new.turn c.turn_guest-step.new.cached s c.in-Some.guest c.leave_where.new.guest l.step_run c.turn_guest-step.result.parity c.answer_exit.new.kept (map note_seen c.note_by.new.notes.items) c.tell_by.new.words.items (length c.replies.result.now + 1) at steps (c.note_by.ensures.noted c.in-Some.guest.tdr) (c.tell_by.ensures.told c.in-Some.guest.tdr (length c.replies.result.now + 1))
     (c.answer_exit.ensures.answered answered) (subst (λ (h : Option GuestAt). IfSome h (λ y. IsLow y.walk × (y.list.now ≡ c.in-Some.guest.list.now))) (sym c.leave_where.ensures) (stays-kept c.turn_guest-step.result.left c.turn_guest-step.new.guest c.in-Some.guest.list.now c.turn_guest-step.ensures.kept)) c.turns_in_pieces.ensures l.lines.now l.guest l.run.host l.run.other (acting-alone l.place.machine l.lines.now l.run l.guest c.in-Some.guest c.requires.lines l.under_way (acts-as l.guest l.run.other c.in-Some.guest c.in-Some.is c.requires.acts)) c.requires.lines (acts-as l.guest l.run.other c.in-Some.guest c.in-Some.is c.requires.acts) l.inside c.answer_exit.ensures.seen in
-    ((done.moved.pieces, done.moved.did_them, (refl, refl, refl, done.moved.turn)), done.moved.fewer)
+    ((done.moved.pieces, done.moved.did_them, (refl, refl, refl, record { event_is = c.turn_guest-step.new.turn.event; turns = done.moved.turn; tells = c.event_told.ensures ∙ done.moved.tells })), done.moved.fewer)
 
 pub invariant_of-self-clause-bundle_room : goal.invariant_of-self-clause-bundle_room
 invariant_of-self-clause-bundle_room g c =

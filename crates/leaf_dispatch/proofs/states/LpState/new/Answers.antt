@@ -22,15 +22,15 @@ invariant_of-result-clause-payload_room c =
 pub invariant_of-result-clause-note_room : goal.invariant_of-result-clause-note_room
 invariant_of-result-clause-note_room c =
     let none = ap length c.in-Ok-with_capacity.ensures.items in
-    let begun = room-begun (longest_in c.args.codes.now) c.args.calls.now in
-    let is : c.in-Some.room ≡ lines_room (longest_in c.args.codes.now) c.args.calls.now = c.in-Some.ensures ∙ ap (λ (n : ℕ). lines_room n c.args.calls.now) c.longest.ensures in
+    let begun = room-begun (longest_in c.args.inputs.codes.now) c.args.calls.now in
+    let is : c.in-Some.room ≡ lines_room (longest_in c.args.inputs.codes.now) c.args.calls.now = c.in-Some.ensures ∙ ap (λ (n : ℕ). lines_room n c.args.calls.now) c.longest.ensures in
     let room = c.in-Ok-with_capacity.ensures.capacity in
     omega (arith, none, begun, is, room)
 
 pub invariant_of-result-clause-word_room : goal.invariant_of-result-clause-word_room
 invariant_of-result-clause-word_room c =
     let none = ap length c.in-Ok-with_capacity-2.ensures.items in
-    let begun = room-begun (longest_in c.args.codes.now) c.args.calls.now in
-    let is : c.in-Some.room ≡ lines_room (longest_in c.args.codes.now) c.args.calls.now = c.in-Some.ensures ∙ ap (λ (n : ℕ). lines_room n c.args.calls.now) c.longest.ensures in
+    let begun = room-begun (longest_in c.args.inputs.codes.now) c.args.calls.now in
+    let is : c.in-Some.room ≡ lines_room (longest_in c.args.inputs.codes.now) c.args.calls.now = c.in-Some.ensures ∙ ap (λ (n : ℕ). lines_room n c.args.calls.now) c.longest.ensures in
     let room = c.in-Ok-with_capacity-2.ensures.capacity in
     omega (arith, none, begun, is, room)

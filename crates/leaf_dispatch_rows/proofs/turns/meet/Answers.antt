@@ -1,0 +1,37 @@
+use Rattle.leaf_dispatch_rows.proofs.turns.meet.Goals as goal
+
+pub invariant_of-first : goal.invariant_of-first
+invariant_of-first g c =
+    let s = c.turn.new.self in
+    record {
+      machine = s.machine;
+      limits = s.limits;
+      lists_are = s.lists_are;
+      few = s.few;
+      under_way = s.under_way;
+      inside = s.inside;
+      room = s.room;
+      note_room = s.note_room;
+      word_room = s.word_room;
+      bundle_room = s.bundle_room;
+      payload_room = s.payload_room;
+      page_room = s.page_room;
+    }
+
+pub invariant_of-second : goal.invariant_of-second
+invariant_of-second g c =
+    let s = c.turn-3.new.self in
+    record {
+      machine = s.machine;
+      limits = s.limits;
+      lists_are = s.lists_are;
+      few = s.few;
+      under_way = s.under_way;
+      inside = s.inside;
+      room = s.room;
+      note_room = s.note_room;
+      word_room = s.word_room;
+      bundle_room = s.bundle_room;
+      payload_room = s.payload_room;
+      page_room = s.page_room;
+    }
