@@ -1,4 +1,4 @@
--- The same of logical processors over words, as they know of themselves.
+-- What is told of logical processors over words, as they know of themselves.
 use Rattle.std.specs.Prelude.{ℕ, ◌/◌, ◌%◌, List, [], ◌++◌, length, map, Option, Some, None}
 use Rattle.std.specs.List.{concat}
 use Rattle.field_lines.specs.declared.lines.Form.{Form}

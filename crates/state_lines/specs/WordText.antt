@@ -1,4 +1,4 @@
--- The same of pages, read from the words of a machine by their addresses.
+-- What is told of pages, read from the words of a machine by their addresses.
 use Rattle.std.specs.Prelude.{ℕ, zero, suc, ◌+◌, ◌-◌, ◌*◌, ◌%◌, ◌==◌, if◌then◌else◌, List, [], ◌++◌, Option, Some, None, slice_index}
 use Rattle.td_words.specs.declared.names.PageKind.{PageKind}
 use Rattle.td_words.specs.declared.names.PageKind.TheVariants as kind

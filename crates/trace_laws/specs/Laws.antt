@@ -32,8 +32,9 @@ pub record WasTold (o : Opening) (s : State) (p : ℕ) (at : WordLp) (e : RunEve
   pub what : what_is s p event_is ≡ told o.codes at e
   pub leaves : (vp : ℕ) (outcome : Outcome) → event_is ≡ flat.Leaves vp outcome → IsExitOf o at e vp
 
--- So is each turn over words that show a state, whatever bundles have come in. In a run a processor makes its turn at one go where a merge has led to a table. The turn tells the next event of the trace, from the
--- state where the merge leads. Where it has no line left, the trace has no event of it.
+-- So is each turn over words that show a state, whatever bundles have come in. In a run a processor makes its turn at one go
+-- where a merge has led to a table. The turn tells the next event of the trace, from the state where the merge leads. Where it
+-- has no line left, the trace has no event of it.
 pub record TurnsAreTold : Type 0 where
   pub one : (o : Opening) (leaf : ℕ → LeafTable) (p : ℕ) (s : State) (t u : Table) (at after : WordLp) (e : RunEvent) (ps : List Piece)
       → AreLeaves o leaf → AreCodes o → IsRunning o s → p < s.lp_count → StandsOn o (leaf p) p s t at → LpTurns (leaf p) o.machine at e ps after → PlaysTo t (taken_in ps) u → WasTold o s p at e

@@ -1,6 +1,6 @@
 -- Who may change what: for each class of words the locks under which a word is stable to read, safe to see, allowed to
 -- store, owed, filled, and allowed to become a word of another class (Base Architecture, "Concurrency Restrictions and
--- Enforcement"; TD Migration Architecture, "Migration Concurrency"). docs/definitions.md has the same in words.
+-- Enforcement"; TD Migration Architecture, "Migration Concurrency"). docs/permissions.md has the same in words.
 use Rattle.std.specs.Prelude.{◌≡◌, Bool, true, false, List, [], ◌∷◌}
 use Rattle.word_rules.specs.Guards.{Tdr, Op, Tree, Epoch, Rtmr, Own, Named, Keys, Reach, Change, Want, Has, Sole, Clear, Rule, clashes}
 
