@@ -56,7 +56,7 @@ words_stay words q i v p e = λ j b. at b j
     at b = rw e refl
 
 -- an entry of a level above 0 changes none of level 0
-entry_stays : (f : ℕ → ℕ → ℕ → Entry) (t level i x n : ℕ) (e : Entry) → 1 ≤ level → put f t (put_in (f t) level i e) x 0 n ≡ f x 0 n
+pub entry_stays : (f : ℕ → ℕ → ℕ → Entry) (t level i x n : ℕ) (e : Entry) → 1 ≤ level → put f t (put_in (f t) level i e) x 0 n ≡ f x 0 n
 entry_stays f t level i x n e upper =
     let apart : (0 == level) ≡ false = ne_eqb 0 level (omega arith) in
     by_test (x == t) (λ y. rw (y, apart) (ap (λ (z : ℕ). f z 0 n) (sym (eqb-true x t y)))) (λ y. rw y refl)

@@ -14,6 +14,7 @@ pub mod Numbers
 pub mod Ranges
 pub mod Removals
 pub mod Trackings
+pub mod Shapes
 pub mod ImportFills
 pub mod Tries
 pub mod BundleKeeps
@@ -69,3 +70,4 @@ pub mod Told
 pub mod Rtmrs
 pub mod Telling
 pub mod TwoEvents
+pub mod ShapeOf
