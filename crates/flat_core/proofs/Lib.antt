@@ -25,7 +25,6 @@ pub mod Due
 pub mod Enter
 pub mod Sparing
 pub mod ImportStates
-pub mod ImportSpared
 pub mod Spared
 pub mod Acts
 pub mod Kept
@@ -51,10 +50,8 @@ pub mod ImportBlind
 pub mod Blind
 pub mod BlindOperations
 pub mod AccessActs
-pub mod ImportAccesses
 pub mod Accesses
 pub mod EpochActs
-pub mod ImportEpochs
 pub mod Epochs
 pub mod Guarded
 pub mod Always
@@ -62,7 +59,6 @@ pub mod Known
 pub mod ImportKnown
 pub mod Memories
 pub mod Uses
-pub mod ImportUses
 pub mod OneUse
 pub mod Caches
 pub mod Measured
