@@ -56,7 +56,6 @@ pub mod Epochs
 pub mod Guarded
 pub mod Always
 pub mod Known
-pub mod ImportKnown
 pub mod Memories
 pub mod Uses
 pub mod OneUse

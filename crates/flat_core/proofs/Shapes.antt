@@ -33,16 +33,16 @@ use Rattle.flat_core.proofs.Tests.{by_test}
 use Rattle.flat_core.proofs.Ranges.{IsRemoved}
 
 -- MRTD of a TD, and what it is to be the digest of
-pub record Mrtd : Type 0 where
+pub record Measurement : Type 0 where
   pub digest : ℕ → ℕ
   pub given : Option (ℕ → ℕ)
   pub measured : List ℕ
 
-abbrev pub mrtd_of : World → ℕ → Mrtd
+abbrev pub mrtd_of : World → ℕ → Measurement
 mrtd_of w t = record { digest = w.tds.mrtds t; given = w.tds.mrtds_given t; measured = w.tds.measured t }
 
 -- what MNG.RD gives is that digest
-abbrev pub IsTrue : Mrtd → Type 0
+abbrev pub IsTrue : Measurement → Type 0
 IsTrue m = Digest (digest_bytes (six_words m.digest)) ≡ Digest (given_or_measured m.given m.measured)
 
 -- what laws of acts look at
@@ -53,7 +53,7 @@ pub record Aspect : Type 0 where
   pub ops : ℕ → OpState
   pub epochs : ℕ → ℕ
   pub entries : ℕ → ℕ → ℕ → Entry
-  pub mrtds : ℕ → Mrtd
+  pub mrtds : ℕ → Measurement
   pub vps : Vps
   pub registers : ℕ → ℕ → ℕ
   pub memories : ℕ → ℕ → Option (ℕ → ℕ)
