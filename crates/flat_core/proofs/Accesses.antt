@@ -15,7 +15,7 @@ use Rattle.flat_core.specs.Row.{Passes}
 use Rattle.flat_core.specs.Conditions.{is_elsewhere}
 use Rattle.flat_core.specs.Effects.{put_in, take_page, clear_page, set_key, new_td, give_back, enter_guest, end_association, end_memory_in}
 use Rattle.flat_core.specs.Table.{row_of}
-use Rattle.flat_core.specs.Lawful.{Lawful, IsAlive}
+use Rattle.flat_core.specs.Lawful.{Lawful}
 use Rattle.flat_core.specs.Guests.{IsOccupied}
 use Rattle.flat_core.specs.Exports.{entries_where}
 use Rattle.flat_core.specs.Access.{IsHere, entry_of, node_number, is_pending, may_be_exempt, has_not_run, LawfulTranslations, LawfulEpochs}

@@ -1,12 +1,10 @@
 -- What the act of each row, and a count step, keep of epochs and associations.
-use Rattle.std.proofs.Common.{◌≡◌, ◌⊎◌, inl, inr, refl, sym, ◌∙◌, subst, ap, ℕ, ◌+◌, ◌-◌, ◌≤◌, Option, Some, None, true, false, ◌==◌, arith}
+use Rattle.std.proofs.Common.{◌≡◌, ◌⊎◌, inl, inr, refl, sym, ◌∙◌, subst, ap, ℕ, ◌+◌, ◌-◌, ◌≤◌, Some, None, true, false, ◌==◌, arith}
 use Rattle.std.specs.List.{list_any}
 use Rattle.std.proofs.lemmas.Bool.{eqb-true, eqb-false}
 use Rattle.td_words.specs.declared.names.PageKind.{PageKind}
 use Rattle.td_words.specs.declared.names.PageKind.TheVariants as kind
-use Rattle.td_words.specs.declared.names.LifeState.{LifeState}
 use Rattle.td_words.specs.declared.names.LifeState.TheVariants as life
-use Rattle.td_words.specs.declared.names.OpState.{OpState}
 use Rattle.td_words.specs.declared.names.OpState.TheVariants as op
 use Rattle.td_words.specs.declared.calls.Call.{Call}
 use Rattle.td_words.specs.NameNumber.{life_number}
@@ -18,7 +16,7 @@ use Rattle.flat_core.specs.Conditions.{same_kind}
 use Rattle.flat_core.specs.Effects.{take_page, clear_page, new_td, set_key, set_epoch, enter_guest, end_association, leave_guest}
 use Rattle.flat_core.specs.Table.{row_of}
 use Rattle.flat_core.specs.Lawful.{Lawful, IsAlive, IsPageOf}
-use Rattle.flat_core.specs.Access.{IsHere, LawfulEpochs, has_not_run}
+use Rattle.flat_core.specs.Access.{LawfulEpochs, has_not_run}
 use Rattle.flat_core.proofs.Tests.{by_test, host_kind}
 use Rattle.flat_core.proofs.Trackings.{none_at}
 use Rattle.flat_core.proofs.Shapes.{Aspect, aspect_of, OpGoes, unrun, runs, restored, EpochGoes, stay, begin, Begins, ChangesLife, ChangesOp, Enters, Advances, Shape, notes, fills, takes, reclaims, unmaps, begins, changes_life, changes_op, changes_vp, enters, flushes, changes_entry, advances}

@@ -1,39 +1,24 @@
 -- MRTD and what is measured, over runs and events.
-use Rattle.std.proofs.Common.{◌≡◌, inl, inr, refl, sym, ◌∙◌, subst, ap, ℕ, zero, suc, ◌+◌, List, [], ◌∷◌, length, Option, Some, None, Bool, true, false, ◌==◌}
-use Rattle.std.specs.List.{list_any}
+use Rattle.std.proofs.Common.{◌≡◌, inl, inr, refl, sym, subst, ℕ, ◌+◌, List, [], ◌∷◌, length, Option, Some, None, true, false, ◌==◌}
 use Rattle.std.proofs.lemmas.Bool.{eqb-true}
 use Rattle.td_words.specs.declared.names.Access.{Access}
 use Rattle.td_words.specs.declared.names.Access.TheVariants.{Read, Write}
-use Rattle.td_words.specs.declared.names.EntryState.{EntryState}
-use Rattle.td_words.specs.declared.names.EntryState.TheVariants as entry
-use Rattle.td_words.specs.declared.names.OpState.{OpState}
-use Rattle.td_words.specs.declared.names.OpState.TheVariants as op
-use Rattle.td_words.specs.declared.names.ReadField.TheVariants.{Mrtd}
 use Rattle.td_words.specs.declared.machines.Machine.{Machine}
 use Rattle.td_words.specs.declared.calls.Call.{Call}
-use Rattle.td_words.specs.declared.calls.Call.TheVariants as call
 use Rattle.td_words.specs.declared.calls.GuestOp.{GuestOp}
 use Rattle.td_words.specs.declared.replies.Outcome.{Outcome}
 use Rattle.td_words.specs.declared.replies.Reply.{Reply}
-use Rattle.td_words.specs.declared.replies.Value.TheVariants as value
-use Rattle.td_words.specs.NameNumber.{op_number}
-use Rattle.flat_core.specs.World.{World, put}
+use Rattle.flat_core.specs.World.{World}
 use Rattle.flat_core.specs.Processor.{Answered, Held, Lp}
 use Rattle.flat_core.specs.Opening.{Opening}
 use Rattle.flat_core.specs.Row.{OperationRow, Move, Attempts, Undoes, Refuses, Succeeds, Releases, Rests, Passes, next, next_in}
 use Rattle.flat_core.specs.Conditions.{later_ops}
-use Rattle.flat_core.specs.Tree.{entry_at}
-use Rattle.flat_core.specs.TdRows.{read_td, finalize}
-use Rattle.flat_core.specs.ExportRows.{live_ops, abortable_ops}
-use Rattle.flat_core.specs.BundleRows.{session_ops, paused_ops}
-use Rattle.flat_core.specs.Inputs.{Input, input_in}
-use Rattle.flat_core.specs.ImportRows.{td_state_ops, commit_ops, late_ops, given_up_ops, sent_ops, import_token_ops, is_start, op_then, fill_page}
-use Rattle.flat_core.specs.Effects.{measure, set_op, tell_words}
+use Rattle.flat_core.specs.Effects.{tell_words}
 use Rattle.flat_core.specs.Guest.{ByRow, operation_of, is_pending_at, reach}
 use Rattle.flat_core.specs.Table.{row_of}
 use Rattle.flat_core.specs.Event.{Event, OfCall, OfOperation, lines_left, next_event, nothing_more, world_after, after_event}
-use Rattle.flat_core.specs.Laws.{with_bundles, given_or_measured, AreMrtdsTrue, MrtdsAreKept, EveryMrtdIsTrue, measured_after_event, EventsMeasure}
-use Rattle.flat_core.proofs.Tests.{by_test, put_here}
+use Rattle.flat_core.specs.Laws.{with_bundles, AreMrtdsTrue, MrtdsAreKept, EveryMrtdIsTrue, measured_after_event, EventsMeasure}
+use Rattle.flat_core.proofs.Tests.{by_test}
 use Rattle.flat_core.proofs.Mrtd.{records_are_measured}
 use Rattle.flat_core.proofs.Shapes as shape
 use Rattle.flat_core.proofs.Shapes.{Measurement, mrtd_of, IsTrue, Aspect, aspect_of, IsOneOf, ChangesOp, Shape}

@@ -1,28 +1,19 @@
 -- What guests know of their private pages is what the pages hold.
-use Rattle.std.proofs.Common.{lit≤, ◌≡◌, refl, sym, ◌∙◌, ap, subst, ℕ, zero, suc, ◌+◌, ◌≤◌, [], ◌∷◌, ◌++◌, length, Option, Some, option_map, true, false, ◌==◌, ◌&&◌, arith}
+use Rattle.std.proofs.Common.{◌≡◌, refl, sym, ◌∙◌, ap, subst, ℕ, ◌+◌, [], ◌∷◌, ◌++◌, length, Option, Some, option_map, true, false, ◌==◌, ◌&&◌}
 use Rattle.std.proofs.lemmas.Bool.{eq-eqb, eqb-true, and_parts}
-use Rattle.td_words.specs.declared.names.PageKind.TheVariants as kind
-use Rattle.td_words.specs.declared.names.LifeState.TheVariants as life
 use Rattle.td_words.specs.declared.names.EntryState.{EntryState}
 use Rattle.td_words.specs.declared.names.EntryState.TheVariants as entry
-use Rattle.td_words.specs.declared.calls.Call.{Call}
-use Rattle.td_words.specs.declared.calls.Call.TheVariants as call
 use Rattle.td_words.specs.declared.calls.GuestOp.{GuestOp}
 use Rattle.std.proofs.lemmas.List.{append-nil}
 use Rattle.td_words.specs.declared.names.Access.{Access}
 use Rattle.td_words.specs.declared.names.Access.TheVariants.{Read, Write}
 use Rattle.td_words.specs.Packing.{Entry}
-use Rattle.mrtd_measure.specs.Records.{page_record}
 use Rattle.flat_core.specs.World.{World, put}
 use Rattle.flat_core.specs.Processor.{Guest, LoadNote}
 use Rattle.flat_core.specs.Opening.{Opening, Incoming}
 use Rattle.flat_core.specs.Row.{OperationRow, Passes}
-use Rattle.flat_core.specs.Conditions.{host_page, page_exclusive}
-use Rattle.flat_core.specs.Tree.{page_of_gpa, word_of_gpa, number_at, entry_at, same_state, state_in, empty_below}
-use Rattle.flat_core.specs.Effects.{put_in, stored_in, pass_operation, tell_words, set_word, clear_page, take_page, add_control, add_vp, unmap_page, end_memory}
-use Rattle.flat_core.specs.Tracking.{tracked_page}
-use Rattle.flat_core.specs.MemRows.{open_states, blocked_states, removed_states}
-use Rattle.flat_core.specs.ExportRows.{add_stream, live_ops, write_blocked, write_blocked_states, write_unblocked, restoring_ops, restored_states}
+use Rattle.flat_core.specs.Tree.{page_of_gpa, word_of_gpa, entry_at, same_state}
+use Rattle.flat_core.specs.Effects.{put_in, stored_in, pass_operation, tell_words}
 use Rattle.flat_core.specs.Table.{row_of}
 use Rattle.flat_core.specs.Guest.{ByRow, operation_of, shared_page, register_told, shared_store, is_pending_at, accept_page, reach, word_reached}
 use Rattle.flat_core.specs.Event.{State, Event, Reaches, next_event, after_event, event}
@@ -30,11 +21,7 @@ use Rattle.flat_core.specs.Lawful.{IsAlive, Lawful, is_free}
 use Rattle.flat_core.specs.Laws.{reached, with_bundles, HoldsInRuns, holds_memory, memory_of, ArePagesKnown, GuestsKnowTheirPages}
 use Rattle.flat_core.specs.Access.{Names, is_pending}
 use Rattle.flat_core.specs.AccessLaw.{IsGuarded, MemoriesAreKept, known_word, Loads, Stores, IsOwnAccess, AccessesAreOwn}
-use Rattle.flat_core.proofs.Tests.{by_test, host_kind, tdr_kind, range_of, same_self}
-use Rattle.flat_core.proofs.Maps.{walk_passed}
-use Rattle.flat_core.proofs.Ranges.{named_passed, named_alive, opened_passed, write_passed, export_passed, block_restates, unblock_restates, write_remarks, unwrite_remarks, restored, can_export, page_removed, sept_removed}
-use Rattle.flat_core.proofs.Removals.{empty_at}
-use Rattle.flat_core.proofs.Keeps.{live_of, ended_of, free_of}
+use Rattle.flat_core.proofs.Tests.{by_test, host_kind, same_self}
 use Rattle.flat_core.proofs.Induction.{in_runs}
 use Rattle.flat_core.proofs.Operations.{operation_row, accepted}
 use Rattle.flat_core.proofs.Due.{Due, calls, frees, leaves, stops, fills, operates, walks, reaches, undoes, gives_back, due_event_is}

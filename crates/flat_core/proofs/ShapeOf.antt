@@ -1,7 +1,7 @@
 -- The shape of each call's act, from "its conditions passed".
-use Rattle.std.proofs.Common.{◌≡◌, ◌≢◌, ◌⊎◌, inl, inr, refl, sym, ◌∙◌, subst, ap, ℕ, zero, suc, ◌≤◌, List, [], ◌∷◌, ◌++◌, Option, Some, None, Bool, true, false, not, ◌==◌, arith}
+use Rattle.std.proofs.Common.{◌≡◌, ◌≢◌, ◌⊎◌, inl, inr, refl, sym, ◌∙◌, subst, ap, ℕ, zero, suc, ◌≤◌, List, [], ◌∷◌, ◌++◌, Option, None, Bool, true, false, not, ◌==◌, arith}
 use Rattle.std.specs.List.{list_any}
-use Rattle.std.proofs.lemmas.Bool.{eqb-true, eqb-false, and_parts}
+use Rattle.std.proofs.lemmas.Bool.{eqb-true, and_parts}
 use Rattle.mrtd_measure.specs.Records.{page_record}
 use Rattle.td_words.specs.declared.names.PageKind.TheVariants as kind
 use Rattle.td_words.specs.declared.names.PageKind.{PageKind}
@@ -11,38 +11,34 @@ use Rattle.td_words.specs.declared.names.OpState.{OpState}
 use Rattle.td_words.specs.declared.names.OpState.TheVariants as op
 use Rattle.td_words.specs.declared.names.EntryState.{EntryState}
 use Rattle.td_words.specs.declared.names.EntryState.TheVariants as entry
-use Rattle.td_words.specs.declared.names.VcpuState.{VcpuState}
-use Rattle.td_words.specs.declared.names.VcpuState.TheVariants as vcpu
-use Rattle.td_words.specs.declared.machines.Machine.{Machine}
 use Rattle.td_words.specs.declared.calls.Call.{Call}
 use Rattle.td_words.specs.declared.calls.Call.TheVariants as call
 use Rattle.td_words.specs.declared.replies.Reply.{Reply}
 use Rattle.td_words.specs.declared.replies.Value.TheVariants.{Digest}
 use Rattle.td_words.specs.NameNumber.{life_number, op_number}
 use Rattle.td_words.specs.Packing.{Entry}
-use Rattle.flat_core.specs.World.{World, Pages, Vps, put}
-use Rattle.flat_core.specs.Opening.{Opening, Incoming}
+use Rattle.flat_core.specs.World.{World, put}
+use Rattle.flat_core.specs.Opening.{Opening}
 use Rattle.flat_core.specs.Row.{Item, Passes}
-use Rattle.flat_core.specs.Conditions.{is_host, is_host_in, is_page_of, host_page, page_exclusive, same_kind, same_vp_state, associated_count, running_ops, later_ops, augmented_ops}
+use Rattle.flat_core.specs.Conditions.{is_host, is_host_in, is_page_of, host_page, page_exclusive, same_kind, running_ops, later_ops, augmented_ops}
 use Rattle.flat_core.specs.Effects.{take_node, set_page, map_page, set_entry, end_memory, begin_memory, measure}
 use Rattle.flat_core.specs.Tracking.{tracked_page}
 use Rattle.flat_core.specs.Tree.{page_of_gpa, number_at, entry_at, state_in, same_state, empty_below}
 use Rattle.flat_core.specs.KeyRows.{reclaim_conditions}
-use Rattle.flat_core.specs.MemRows.{open_states, blocked_states, removed_states, blocked_state, unblocked_state}
+use Rattle.flat_core.specs.MemRows.{open_states, blocked_states, removed_states}
 use Rattle.flat_core.specs.ExportRows.{live_ops, abortable_ops, writable_states, write_blocked, write_blocked_states, write_unblocked, restoring_ops, restored_states}
 use Rattle.flat_core.specs.BundleRows.{session_ops, paused_ops}
 use Rattle.flat_core.specs.Sessions.{count_bundle}
 use Rattle.flat_core.specs.Inputs.{Input, input_in, tag_holds}
-use Rattle.flat_core.specs.ImportRows.{first_ops, td_state_ops, commit_ops, late_ops, given_up_ops, sent_ops, import_token_ops, is_start, op_then, importable, page_to_fill, fill_page}
+use Rattle.flat_core.specs.ImportRows.{td_state_ops, commit_ops, late_ops, given_up_ops, sent_ops, import_token_ops, is_start, op_then, importable, page_to_fill, fill_page}
 use Rattle.flat_core.specs.Table.{row_of}
 use Rattle.flat_core.specs.Lawful.{IsAlive, is_free}
-use Rattle.flat_core.specs.Guests.{IsOccupied, SameVp}
 use Rattle.flat_core.specs.Access.{is_pending, has_not_run}
 use Rattle.flat_core.specs.Laws.{given_or_measured, holds_memory}
 use Rattle.flat_core.proofs.Tests.{by_test, tdr_kind, range_of, same_self, put_here}
 use Rattle.flat_core.proofs.Mrtd.{mrtd_is_the_digest}
 use Rattle.flat_core.proofs.Uses.{host_apart}
-use Rattle.flat_core.proofs.Maps.{behind_walk, walk_passed}
+use Rattle.flat_core.proofs.Maps.{behind_walk}
 use Rattle.flat_core.proofs.Ranges.{begun_of, named_passed, named_alive, opened_passed, write_passed, export_passed, entry_alive, block_restates, unblock_restates, write_remarks, unwrite_remarks, restored as can_restore, can_export, page_removed, sept_removed, living, blocked_less, blocked_stops, unblocked_allows, mapped_allows, export_allows}
 use Rattle.flat_core.proofs.Removals.{empty_at}
 use Rattle.flat_core.proofs.Keeps.{live_of, ended_of}

@@ -1,5 +1,5 @@
 -- What leaves a virtual processor in guest on another logical processor as it is.
-use Rattle.std.proofs.Common.{◌≡◌, ◌≢◌, refl, sym, ◌∙◌, subst, ap, ℕ, ◌≤◌, List, [], ◌∷◌, Option, Some, Bool, true, false, not, ◌==◌, arith}
+use Rattle.std.proofs.Common.{◌≡◌, ◌≢◌, refl, sym, ◌∙◌, subst, ap, ℕ, ◌≤◌, List, [], ◌∷◌, Option, Some, true, false, not, ◌==◌, arith}
 use Rattle.std.specs.List.{list_any}
 use Rattle.std.proofs.lemmas.Bool.{eqb-true, eqb-false, ne_eqb}
 use Rattle.td_words.specs.declared.names.PageKind.TheVariants as kind
