@@ -44,6 +44,7 @@ use Rattle.flat_core.specs.Inside.{WalkFits, OperationAt, DueAt, PhaseAt, GuestA
 use Rattle.flat_core.specs.Bounds.{call_left, private_used, operation_used, due_used, phase_used, guest_left, line_left, left_of, events_left, TimelyEventsRunOut, EventsRunOut, RunsEnd, IsBounded, EntriesAreBounded}
 use Rattle.flat_core.specs.Entered.{EventsSpare}
 use Rattle.flat_core.proofs.Induction.{event_keeps, in_runs, play_append}
+use Rattle.flat_core.proofs.Passed.{vp_of}
 use Rattle.flat_core.proofs.Tests.{by_test, put_here, tdr_kind, some_same}
 use Rattle.flat_core.proofs.Keeps.{first-lawful}
 use Rattle.flat_core.proofs.Kept.{events_keep, timely_occupied, timely_runs}
@@ -456,22 +457,16 @@ ready_state : (s : VcpuState) → same_vp_state s vcpu.Ready ≡ true → s ≡ 
 ready_state vcpu.Ready e = refl
 ready_state vcpu.Created e = cc
 
-vpr_kind : (k : PageKind) → same_kind k kind.Tdvpr ≡ true → k ≡ kind.Tdvpr
-vpr_kind kind.Tdvpr e = refl
-vpr_kind kind.Nda e = cc
-vpr_kind _ e = cc
-
 -- the act of VP.ENTER leaves its virtual processor in guest
 enter_occupies : (o : Opening) (me t v most : ℕ) (w : World) → Passes ((row_of o me (call.VpEnter t v most)).items w) → IsOccupied ((row_of o me (call.VpEnter t v most)).act w) me t v
 enter_occupies o me t v most w ps =
-    let page = and_parts (same_kind (w.pages.kinds v) kind.Tdvpr) (w.pages.owners v == t) ps.1.1.1.1.1.1.1.1.0 in
     let here : (v == v) ≡ true = eq-eqb v v refl in
     record {
-      tdr = tdr_kind _ ps.1.1.1.1.0;
-      life = running_life _ ps.1.1.1.1.1.0;
-      running = ps.1.1.1.1.1.1.1.0;
-      page = record { kind = vpr_kind _ page.0; owner = eqb-true _ t page.1 };
-      ready = ready_state _ ps.1.1.1.1.1.1.1.1.1.0;
+      tdr = tdr_kind _ (search);
+      life = running_life _ (search);
+      running = search;
+      page = vp_of w t v (search);
+      ready = ready_state _ (search);
       associated = rw here refl;
       epoch = w.tds.epochs t;
       entered = rw here refl;

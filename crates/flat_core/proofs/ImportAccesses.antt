@@ -30,7 +30,7 @@ KeepsTranslations m row = (w : World) (p : ℕ) (cached : List Translation) (gue
 
 pub import_immutable-access : (m : Machine) (b : Option Incoming) (u slot : ℕ) → KeepsTranslations m (import_immutable m b u slot)
 import_immutable-access m b u slot w p cs g la le occ a ps =
-    let off = op-off m w la le p cs g occ a u (is_new (w.tds.ops u) ps.1.1.1.1.1.1.1.0) in
+    let off = op-off m w la le p cs g occ a u (is_new (w.tds.ops u) (search)) in
     td-act m w la le p cs g occ a ((import_immutable m b u slot).act w) refl refl (λ t v h. refl) (λ t v h. h.life) (λ t bu. let x = off t bu in rw x refl) (λ t bu. let x = off t bu in rw x refl) (λ t l i bu f. refl)
 
 -- a host page becomes a private one, at an entry that was FREE; or there is one already, and no entry changes
@@ -48,23 +48,21 @@ import_page-access m b u slot page w p cs g la le occ a ps =
     let i : Input = input_in b in
     let gpa : ℕ = i.header.gpa in
     let s : EntryState = (entry_at w u 0 gpa).state in
-    let head = ps.1.1.1.1.1.1 in
-    let behind = behind_walk w u gpa 0 (state_in w u gpa 0 importable ∷ (page_to_fill w u gpa page s ++ tag_holds i ∷ [])) head.1.1.1.1.1.1.1.1 in
-    filled-access m w la le p cs g occ a u gpa page i.header.stream i.words (tag_holds i ∷ []) s refl behind.1
+    filled-access m w la le p cs g occ a u gpa page i.header.stream i.words (tag_holds i ∷ []) s refl (search)
 
 pub import_token-access : (m : Machine) (b : Option Incoming) (u slot : ℕ) → KeepsTranslations m (import_token m b u slot)
 import_token-access m b u slot w p cs g la le occ a ps =
-    let off = op-off m w la le p cs g occ a u (token_not_run (is_start (input_in b).header) (w.tds.ops u) ps.1.1.1.1.1.1.1.0) in
+    let off = op-off m w la le p cs g occ a u (token_not_run (is_start (input_in b).header) (w.tds.ops u) (search)) in
     td-act m w la le p cs g occ a ((import_token m b u slot).act w) refl refl (λ t v h. refl) (λ t v h. h.life) (λ t bu. let x = off t bu in rw x refl) (λ t bu. refl) (λ t l i bu f. refl)
 
 pub import_td-access : (m : Machine) (b : Option Incoming) (u slot : ℕ) → KeepsTranslations m (import_td m b u slot)
 import_td-access m b u slot w p cs g la le occ a ps =
-    let off = op-off m w la le p cs g occ a u (td_state_not_run (w.tds.ops u) ps.1.1.1.1.1.1.1.0) in
+    let off = op-off m w la le p cs g occ a u (td_state_not_run (w.tds.ops u) (search)) in
     td-act m w la le p cs g occ a ((import_td m b u slot).act w) refl refl (λ t v h. refl) (λ t v h. h.life) (λ t bu. let x = off t bu in rw x refl) (λ t bu. refl) (λ t l i bu f. refl)
 
 pub commit_import-access : (m : Machine) (u : ℕ) → KeepsTranslations m (commit_import m u)
 commit_import-access m u w p cs g la le occ a ps =
-    let off = op-off m w la le p cs g occ a u (commit_not_run (w.tds.ops u) ps.1.1.1.1.0) in
+    let off = op-off m w la le p cs g occ a u (commit_not_run (w.tds.ops u) (search)) in
     td-act m w la le p cs g occ a ((commit_import m u).act w) refl refl (λ t v h. refl) (λ t v h. h.life) (λ t bu. let x = off t bu in rw x refl) (λ t bu. refl) (λ t l i bu f. refl)
 
 -- what was exempt is so still in RUNNABLE
@@ -75,7 +73,7 @@ end_import-access m u w p cs g la le occ a ps =
 
 pub abort_import-access : (m : Machine) (u slot : ℕ) → KeepsTranslations m (abort_import m u slot)
 abort_import-access m u slot w p cs g la le occ a ps =
-    let off = op-off m w la le p cs g occ a u (given_up_not_run (w.tds.ops u) ps.1.1.1.1.0) in
+    let off = op-off m w la le p cs g occ a u (given_up_not_run (w.tds.ops u) (search)) in
     td-act m w la le p cs g occ a ((abort_import m u slot).act w) refl refl (λ t v h. refl) (λ t v h. h.life) (λ t bu. let x = off t bu in rw x refl) (λ t bu. refl) (λ t l i bu f. refl)
 
 pub abort_by_token-access : (m : Machine) (b : Option Incoming) (u slot : ℕ) → KeepsTranslations m (abort_by_token m b u slot)

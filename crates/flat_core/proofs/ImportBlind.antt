@@ -26,6 +26,7 @@ use Rattle.flat_core.specs.ImportRows.{filling_ops, begin_import, import_immutab
 use Rattle.flat_core.specs.Lawful.{IsAlive, Lawful, is_free}
 use Rattle.flat_core.specs.Alike.{is_being_built, is_public, Alike, AreBlind}
 use Rattle.flat_core.proofs.Tests.{by_test, host_kind, tdr_kind}
+use Rattle.flat_core.proofs.Passed.{TdPassed, td_alive}
 use Rattle.flat_core.proofs.AlikeParts.{tds_alike, op_alike, vps_alike, hidden_alike, mapped_alike}
 use Rattle.flat_core.proofs.Maps.{behind_walk}
 use Rattle.flat_core.proofs.Ranges.{living}
@@ -141,7 +142,7 @@ import_immutable-blind m b c t slot i = record {
   act = λ v w lv lw a ps.
       let x : Input = input_in b in
       let y : Input = input_in c in
-      counted_alike (begin_import t x v) (begin_import t y w) t 0 (begun_alike v w t x y i (i.words (public_first x.header ps.1.1.1.0)) a);
+      counted_alike (begin_import t x v) (begin_import t y w) t 0 (begun_alike v w t x y i (i.words (public_first x.header (search))) a);
 }
 
 -- IMPORT.MEM: the words of the page are private, since its TD isn't being built
@@ -220,12 +221,10 @@ import_page-blind m b c t slot page i = record {
       let y : Input = input_in c in
       let gpa : ℕ = x.header.gpa in
       let s : EntryState = (entry_at v t 0 gpa).state in
-      let head = ps.1.1.1.1.1.1 in
-      let behind = behind_walk v t gpa 0 (state_in v t gpa 0 importable ∷ (page_to_fill v t gpa page s ++ tag_holds x ∷ [])) head.1.1.1.1.1.1.1.1 in
-      let alive : IsAlive v.pages v.tds t = record { kind = tdr_kind _ head.0; life = living (v.tds.lives t) head.1.0 } in
+      let td : TdPassed v t filling_ops = search in
       let v1 : World = fill_page t gpa page x.words s v in
       let w1 : World = fill_page t gpa page y.words s w in
-      let a1 : Alike v1 w1 = filled_alike m v w t gpa page x.words y.words (tag_holds x ∷ []) lv alive (filling (v.tds.ops t) head.1.1.1.0) a s refl behind.0 behind.1 in
+      let a1 : Alike v1 w1 = filled_alike m v w t gpa page x.words y.words (tag_holds x ∷ []) lv (td_alive td) (filling (v.tds.ops t) td.op) a s refl (search) (search) in
       let v2 : World = begin_memory t (page_of_gpa gpa) x.words v1 in
       let w2 : World = begin_memory t (page_of_gpa gpa) y.words w1 in
       let a2 : Alike v2 w2 = hidden_alike v1 w1 a1 v2.hidden w2.hidden in

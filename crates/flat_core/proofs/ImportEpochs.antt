@@ -18,6 +18,7 @@ use Rattle.flat_core.specs.ImportRows.{is_start, op_then, fill_page, import_immu
 use Rattle.flat_core.specs.Lawful.{Lawful}
 use Rattle.flat_core.specs.Access.{has_not_run, LawfulEpochs}
 use Rattle.flat_core.proofs.Tests.{by_test, tdr_kind}
+use Rattle.flat_core.proofs.Passed.{TdPassed}
 use Rattle.flat_core.proofs.EpochActs.{old, le-frame, kind-at, kind-here, page-off, page-was, quiet-epochs}
 use Rattle.flat_core.proofs.ImportStates.{first_only, token_not_run, token_later, td_state_not_run, given_up_not_run}
 
@@ -50,10 +51,11 @@ module _ (w : World) (le : LawfulEpochs w) (u : ℕ) (s : OpState) (ran : (has_n
 
 pub import_immutable-epochs : (o : Opening) (b : Option Incoming) (u slot : ℕ) → KeepsEpochs o (import_immutable o.machine b u slot)
 import_immutable-epochs o b u slot w la le ps =
-    let new_op : w.tds.ops u ≡ op.Uninitialized = first_only (w.tds.ops u) ps.1.1.1.1.1.1.1.0 in
+    let td : TdPassed w u first_ops = search in
+    let new_op : w.tds.ops u ≡ op.Uninitialized = first_only (w.tds.ops u) td.op in
     le-frame w _ le
     (λ t v k pa. old k (record { kind = pa.kind; owner = pa.owner }) refl refl refl
-    (by_test (t == u) (λ y. inr (subst (λ (z : ℕ). w.tds.epochs z ≡ 0) (sym (eqb-true t u y)) (le.early u (tdr_kind _ ps.1.1.1.1.0) new_op), rw y refl)) (λ y. inl (rw y refl)))
+    (by_test (t == u) (λ y. inr (subst (λ (z : ℕ). w.tds.epochs z ≡ 0) (sym (eqb-true t u y)) (le.early u (tdr_kind _ td.root) new_op), rw y refl)) (λ y. inl (rw y refl)))
     (λ p n l c. (
       l,
       by_test (t == u)
@@ -84,10 +86,11 @@ import_page-epochs o b u slot page w la le ps =
 pub import_token-epochs : (o : Opening) (b : Option Incoming) (u slot : ℕ) → KeepsEpochs o (import_token o.machine b u slot)
 import_token-epochs o b u slot w la le ps =
     let start = is_start (input_in b).header in
-    op-epochs w le u (op_then start (w.tds.ops u)) (inl (token_not_run start (w.tds.ops u) ps.1.1.1.1.1.1.1.0)) (token_later start (w.tds.ops u) ps.1.1.1.1.1.1.1.0) _ refl refl refl refl refl
+    let td : TdPassed w u (import_token_ops start) = search in
+    op-epochs w le u (op_then start (w.tds.ops u)) (inl (token_not_run start (w.tds.ops u) td.op)) (token_later start (w.tds.ops u) td.op) _ refl refl refl refl refl
 
 pub import_td-epochs : (o : Opening) (b : Option Incoming) (u slot : ℕ) → KeepsEpochs o (import_td o.machine b u slot)
-import_td-epochs o b u slot w la le ps = op-epochs w le u op.StateImport (inl (td_state_not_run (w.tds.ops u) ps.1.1.1.1.1.1.1.0)) (λ e. cc) _ refl refl refl refl refl
+import_td-epochs o b u slot w la le ps = op-epochs w le u op.StateImport (inl (td_state_not_run (w.tds.ops u) (search))) (λ e. cc) _ refl refl refl refl refl
 
 pub commit_import-epochs : (o : Opening) (u : ℕ) → KeepsEpochs o (commit_import o.machine u)
 commit_import-epochs o u w la le ps = op-epochs w le u op.LiveImport (inr refl) (λ e. cc) _ refl refl refl refl refl
@@ -96,7 +99,7 @@ pub end_import-epochs : (o : Opening) (u : ℕ) → KeepsEpochs o (end_import o.
 end_import-epochs o u w la le ps = op-epochs w le u op.Runnable (inr refl) (λ e. cc) _ refl refl refl refl refl
 
 pub abort_import-epochs : (o : Opening) (u slot : ℕ) → KeepsEpochs o (abort_import o.machine u slot)
-abort_import-epochs o u slot w la le ps = op-epochs w le u op.FailedImport (inl (given_up_not_run (w.tds.ops u) ps.1.1.1.1.0)) (λ e. cc) _ refl refl refl refl refl
+abort_import-epochs o u slot w la le ps = op-epochs w le u op.FailedImport (inl (given_up_not_run (w.tds.ops u) (search))) (λ e. cc) _ refl refl refl refl refl
 
 pub abort_by_token-epochs : (o : Opening) (b : Option Incoming) (u slot : ℕ) → KeepsEpochs o (abort_by_token o.machine b u slot)
 abort_by_token-epochs o b u slot w la le ps = op-epochs w le u op.Runnable (inr refl) (λ e. cc) _ refl refl refl refl refl

@@ -18,6 +18,7 @@ use Rattle.flat_core.specs.ImportRows.{importable, page_to_fill, fill_page, impo
 use Rattle.flat_core.specs.Lawful.{IsAlive, Lawful, is_free}
 use Rattle.flat_core.specs.Laws.{memory_of, ArePagesKnown}
 use Rattle.flat_core.proofs.Tests.{by_test, same_self, host_kind, tdr_kind}
+use Rattle.flat_core.proofs.Passed.{TdPassed, td_alive}
 use Rattle.flat_core.proofs.Maps.{behind_walk}
 use Rattle.flat_core.proofs.Ranges.{living}
 use Rattle.flat_core.proofs.Known.{still_known, added_known}
@@ -63,7 +64,5 @@ import_page-known m b t slot page w l h ps x n a =
     let b1 : Input = input_in b in
     let gpa : ℕ = b1.header.gpa in
     let s : EntryState = (entry_at w t 0 gpa).state in
-    let head = ps.1.1.1.1.1.1 in
-    let behind = behind_walk w t gpa 0 (state_in w t gpa 0 importable ∷ (page_to_fill w t gpa page s ++ tag_holds b1 ∷ [])) head.1.1.1.1.1.1.1.1 in
-    let alive : IsAlive w.pages w.tds t = record { kind = tdr_kind _ head.0; life = living (w.tds.lives t) head.1.0 } in
-    filled_known m w l h t gpa page b1.words (tag_holds b1 ∷ []) alive s refl behind.0 behind.1 x n (record { kind = a.kind; life = a.life })
+    let td : TdPassed w t filling_ops = search in
+    filled_known m w l h t gpa page b1.words (tag_holds b1 ∷ []) (td_alive td) s refl (search) (search) x n (record { kind = a.kind; life = a.life })

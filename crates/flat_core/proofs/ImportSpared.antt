@@ -21,7 +21,7 @@ use Rattle.flat_core.proofs.ImportStates.{td_state_runs, given_up_runs, token_ru
 
 pub import_immutable-spares : (m : Machine) (b : Option Incoming) (u slot me t : ℕ) → RowSpares m me (import_immutable m b u slot) t
 import_immutable-spares m b u slot me t w p v l ps x apart =
-    let off = op_off m w l p t v x u first_ops uninitialized_runs ps.1.1.1.1.1.1.1.0 in
+    let off = op_off m w l p t v x u first_ops uninitialized_runs (search) in
     beside m w l p t v x _ refl refl (rw off refl) refl refl (no_change m w l p t v x _ refl refl)
 
 -- a page that is taken was the host's; of one that is there already words alone change
@@ -38,25 +38,23 @@ import_page-spares m b u slot page me t w p v l ps x apart =
     let i : Input = input_in b in
     let gpa : ℕ = i.header.gpa in
     let s : EntryState = (entry_at w u 0 gpa).state in
-    let head = ps.1.1.1.1.1.1 in
-    let behind = behind_walk w u gpa 0 (state_in w u gpa 0 importable ∷ (page_to_fill w u gpa page s ++ tag_holds i ∷ [])) head.1.1.1.1.1.1.1.1 in
-    filled_spares m w l p t v x u gpa page i.header.stream i.words (tag_holds i ∷ []) s behind.1
+    filled_spares m w l p t v x u gpa page i.header.stream i.words (tag_holds i ∷ []) s (search)
 
 pub import_token-spares : (m : Machine) (b : Option Incoming) (u slot me t : ℕ) → RowSpares m me (import_token m b u slot) t
 import_token-spares m b u slot me t w p v l ps x apart =
     let start = is_start (input_in b).header in
-    let off = op_off m w l p t v x u (import_token_ops start) (token_runs start) ps.1.1.1.1.1.1.1.0 in
+    let off = op_off m w l p t v x u (import_token_ops start) (token_runs start) (search) in
     beside m w l p t v x _ refl refl (rw off refl) refl refl (no_change m w l p t v x _ refl refl)
 
 pub import_td-spares : (m : Machine) (b : Option Incoming) (u slot me t : ℕ) → RowSpares m me (import_td m b u slot) t
 import_td-spares m b u slot me t w p v l ps x apart =
-    let off = op_off m w l p t v x u td_state_ops td_state_runs ps.1.1.1.1.1.1.1.0 in
+    let off = op_off m w l p t v x u td_state_ops td_state_runs (search) in
     beside m w l p t v x _ refl refl (rw off refl) refl refl (no_change m w l p t v x _ refl refl)
 
 -- the virtual processor whose state comes in was CREATED
 pub import_vp-spares : (m : Machine) (b : Option Incoming) (u q slot me t : ℕ) → RowSpares m me (import_vp m b u q slot) t
 import_vp-spares m b u q slot me t w p v l ps x apart =
-    let a = created_off m w l p t v x q ps.1.1.1.1.1.1.1.1.1.1.1.0 in
+    let a = created_off m w l p t v x q (search) in
     beside m w l p t v x _ refl refl refl refl refl (record { index = refl; state = rw a refl; associated = refl; last = refl; position = rw a refl; exported = refl; entered = refl; registers = λ r. rw a refl })
 
 pub commit_import-spares : (m : Machine) (u me t : ℕ) → RowSpares m me (commit_import m u) t
@@ -69,7 +67,7 @@ end_import-spares m u me t w p v l ps x apart =
 
 pub abort_import-spares : (m : Machine) (u slot me t : ℕ) → RowSpares m me (abort_import m u slot) t
 abort_import-spares m u slot me t w p v l ps x apart =
-    let off = op_off m w l p t v x u given_up_ops given_up_runs ps.1.1.1.1.0 in
+    let off = op_off m w l p t v x u given_up_ops given_up_runs (search) in
     beside m w l p t v x _ refl refl (rw off refl) refl refl (no_change m w l p t v x _ refl refl)
 
 pub abort_by_token-spares : (m : Machine) (b : Option Incoming) (u slot me t : ℕ) → RowSpares m me (abort_by_token m b u slot) t

@@ -26,7 +26,5 @@ import_page-uses m b u slot page w q ps owned =
     let i : Input = input_in b in
     let gpa : ℕ = i.header.gpa in
     let s : EntryState = (entry_at w u 0 gpa).state in
-    let head = ps.1.1.1.1.1.1 in
-    let behind = behind_walk w u gpa 0 (state_in w u gpa 0 importable ∷ (page_to_fill w u gpa page s ++ tag_holds i ∷ [])) head.1.1.1.1.1.1.1.1 in
-    let kept = filled_uses w u gpa page i.words (tag_holds i ∷ []) q s behind.1 owned in
+    let kept = filled_uses w u gpa page i.words (tag_holds i ∷ []) q s (search) owned in
     record { kind = kept.kind; owner = kept.owner; level = kept.level; number = kept.number }
