@@ -24,7 +24,7 @@ use Rattle.flat_core.specs.World.{World, Pages, Tds, Vps, Streams, KeyTable, put
 use Rattle.flat_core.specs.Opening.{Opening, Incoming, Agree}
 use Rattle.flat_core.specs.Row.{Row}
 use Rattle.flat_core.specs.Digests.{digest_word}
-use Rattle.flat_core.specs.Conditions.{same_kind, is_host_in, host_page, page_exclusive}
+use Rattle.flat_core.specs.Conditions.{same_kind, is_host_in}
 use Rattle.flat_core.specs.Effects.{put_in, new_td, take_page, map_page, set_page, begin_memory, clear_page, give_back, block_page, set_state, set_entry, unmap_page, end_memory, enter_guest, end_association, end_memory_in, set_life, set_op, set_vp_state, set_register, end_measurement, set_epoch, written_back, restate}
 use Rattle.flat_core.specs.HostRows.{host_read, host_write, read_metadata}
 use Rattle.flat_core.specs.TdRows.{create, configure_key, add_tdcx, initialize, read_conditions, field_value, read_td, finalize}
@@ -35,13 +35,12 @@ use Rattle.flat_core.specs.ExportRows.{add_stream, create_stream, write_blocked,
 use Rattle.flat_core.specs.BundleRows.{export_immutable, export_page, export_token, export_td, export_vp}
 use Rattle.flat_core.specs.ImportRows.{import_immutable, import_page, import_token, import_td, import_vp, commit_import, end_import, abort_import, abort_by_token}
 use Rattle.flat_core.specs.Exports.{is_dirty}
-use Rattle.flat_core.specs.Tree.{page_of_gpa, number_at, entry_at, same_state, state_in}
+use Rattle.flat_core.specs.Tree.{page_of_gpa, number_at, entry_at, same_state}
 use Rattle.flat_core.specs.Table.{row_of}
 use Rattle.flat_core.specs.Lawful.{IsAlive, LawfulPages, Lawful, is_free}
 use Rattle.flat_core.specs.Alike.{Alike, AreBlind, is_public, is_being_built}
-use Rattle.flat_core.proofs.Tests.{by_test, host_kind, tdr_kind, range_of}
+use Rattle.flat_core.proofs.Tests.{by_test, host_kind}
 use Rattle.flat_core.proofs.Passed.{TdPassed, td_alive, sept_passed}
-use Rattle.flat_core.proofs.Maps.{walk_passed}
 use Rattle.flat_core.proofs.AlikeParts.{host_public, tds_alike, op_alike, keys_alike, key_alike, vps_alike, hidden_alike, taken_alike, cleared_alike, left_alike, filled_alike, mapped_alike, measured_alike, with_entered, added_alike}
 use Rattle.flat_core.proofs.BundleBlind.{export_immutable-blind, export_page-blind, export_token-blind, export_td-blind, export_vp-blind}
 use Rattle.flat_core.proofs.ImportBlind.{AlikeIn, inputs_agree, import_immutable-blind, import_page-blind, import_token-blind, import_td-blind, import_vp-blind, commit_import-blind, end_import-blind, abort_import-blind, abort_by_token-blind}

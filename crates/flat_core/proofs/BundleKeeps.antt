@@ -1,32 +1,29 @@
 -- Each row that makes a bundle keeps what every world keeps.
-use Rattle.std.proofs.Common.{lit<, lit≤, ◌≡◌, ◌≢◌, refl, sym, ◌∙◌, subst, ap, ℕ, zero, suc, ◌+◌, ◌-◌, ◌%◌, ◌^◌, ◌<◌, ◌≤◌, List, ◌∷◌, length, get_or, Bool, true, false, not, if◌then◌else◌, ◌==◌, nat_lt, arith}
+use Rattle.std.proofs.Common.{lit<, lit≤, ◌≡◌, ◌≢◌, refl, sym, ◌∙◌, subst, ap, ℕ, zero, suc, ◌+◌, ◌-◌, ◌%◌, ◌^◌, ◌<◌, ◌≤◌, List, length, get_or, Bool, true, false, not, if◌then◌else◌, ◌==◌, nat_lt, arith}
 use Rattle.std.specs.List.{list_any, sum_by}
 use Rattle.std.proofs.lemmas.Bool.{eqb-true, eqb-false, ne_eqb, and_parts, ltb-true}
 use Rattle.td_words.specs.declared.names.PageKind.TheVariants as kind
 use Rattle.td_words.specs.declared.names.OpState.{OpState}
 use Rattle.td_words.specs.declared.names.OpState.TheVariants as op
 use Rattle.td_words.specs.declared.names.EntryState.TheVariants as entry
-use Rattle.td_words.specs.declared.names.Mode.TheVariants.{Exclusive}
 use Rattle.td_words.specs.declared.machines.Machine.{Machine}
 use Rattle.td_words.specs.Packing.{Entry, is_lawful_entry, is_exported}
 use Rattle.flat_core.specs.World.{World, Pages, Tds, Streams, put}
 use Rattle.flat_core.specs.Row.{Passes}
 use Rattle.flat_core.specs.Locks.{one_if}
-use Rattle.flat_core.specs.Conditions.{page_exclusive}
-use Rattle.flat_core.specs.Tree.{number_at, entry_at, state_in, has_page, named_page}
+use Rattle.flat_core.specs.Tree.{number_at, entry_at}
 use Rattle.flat_core.specs.Exports.{is_dirty, entries_where}
-use Rattle.flat_core.specs.Sessions.{stream_page, stream_counter, other_epoch, counter_room, unrestored_count, About, make_bundle, put_all, begin_session, set_mig_epoch, note_td_export, note_vp_export}
+use Rattle.flat_core.specs.Sessions.{stream_page, stream_counter, unrestored_count, About, make_bundle, put_all, begin_session, set_mig_epoch, note_td_export, note_vp_export}
 use Rattle.flat_core.specs.ExportRows.{abortable_ops}
-use Rattle.flat_core.specs.BundleRows.{session_ops, paused_ops, export_immutable, exportable, tracked_in, export_page, start_epoch, track_export, export_token, export_td, export_vp}
+use Rattle.flat_core.specs.BundleRows.{session_ops, paused_ops, export_immutable, exportable, export_page, start_epoch, track_export, export_token, export_td, export_vp}
 use Rattle.flat_core.specs.Lawful.{IsAlive, all_differ, LawfulStreams, Lawful, RowKeeps, is_free, is_node, is_exporting}
-use Rattle.flat_core.proofs.Tests.{by_test, tdr_kind, same_self, put_here}
+use Rattle.flat_core.proofs.Tests.{by_test, same_self, put_here}
 use Rattle.flat_core.proofs.Exports.{IsCounted, counts_of, counted_still, counted_on, none_dirty_of}
 use Rattle.flat_core.proofs.Parts.{untouched, streams_kept, session_at, sessions_of, same_shape, session_kept, built_kept, op_kept}
 use Rattle.flat_core.proofs.Streams.{stream_owned, sum_same, sum_without, sum_zero, sum_raised, page_among, stream_among, none_elsewhere}
-use Rattle.flat_core.proofs.Maps.{behind_walk}
 use Rattle.flat_core.proofs.EntryStates.{with_entry, counted_entry_kept, moved, others_counted}
 use Rattle.flat_core.proofs.Numbers.{few_where}
-use Rattle.flat_core.proofs.Ranges.{begun_of, living, paused_exporting, abortable_exporting, export_passed, entry_alive, can_export}
+use Rattle.flat_core.proofs.Ranges.{begun_of, paused_exporting, abortable_exporting, export_passed, entry_alive, can_export}
 use Rattle.flat_core.proofs.Passed.{TdPassed, td_alive}
 
 -- one more at a page, on both sides or on the greater one
@@ -268,18 +265,20 @@ epoch_set m w t epoch l built begun small =
 token_kept : (m : Machine) (w : World) (t slot start : ℕ) → Lawful m w → Passes ((export_token m t slot start).items w) → Lawful m ((export_token m t slot start).act w)
 token_kept m w t slot zero l ps =
     let td : TdPassed w t abortable_ops = search in
+    let alive = td_alive td in
     let room : w.tds.mig_epochs t < 2 ^ 32 - 2 = ltb-true _ _ (search) in
     let exporting = abortable_exporting (w.tds.ops t) td.op in
     bundle_kept m (set_mig_epoch t (w.tds.mig_epochs t + 1) w) t slot _ _ (epoch_set m w t (w.tds.mig_epochs t + 1) l td.built (omega arith) (omega (arith, room)))
-    (td_alive td) (exporting_begun (w.tds.ops t) exporting) (l.sessions.first_stream t exporting) (ltb-true _ _ (search))
+    (record { kind = alive.kind; life = alive.life }) (exporting_begun (w.tds.ops t) exporting) (l.sessions.first_stream t exporting) (ltb-true _ _ (search))
 token_kept m w t slot (suc n) l ps =
     let td : TdPassed w t paused_ops = search in
+    let alive = td_alive td in
     let w1 : World = set_mig_epoch t start_epoch w in
     let l1 : Lawful m w1 = epoch_set m w t start_epoch l td.built (lit≤ tt) (lit< tt) in
     let begun = begun_of paused_ops (w.tds.ops t) refl td.op in
     bundle_kept m (track_export t (suc n) w) t slot _ _
     (op_kept m w1 t td.built l1 op.PostExport (l.tds.epoch_begun t begun) (λ e. (session_at w1.tds w1.key_table l1.sessions t).2 (paused_exporting (w.tds.ops t) td.op)) (λ e. cc) (l.tds.vps_few t) (λ e. cc))
-    (td_alive td) (λ e. let no : op.PostExport ≡ op.Uninitialized = rw (same_self t) at e in cc)
+    (record { kind = alive.kind; life = alive.life }) (λ e. let no : op.PostExport ≡ op.Uninitialized = rw (same_self t) at e in cc)
     (l.sessions.first_stream t (paused_exporting (w.tds.ops t) td.op))
     (ltb-true _ _ (search))
 
@@ -295,10 +294,11 @@ pub export_td-keeps : (m : Machine) (t slot : ℕ) → RowKeeps m (export_td m t
 export_td-keeps m t slot = record {
   act = λ w l ps.
       let td : TdPassed w t paused_ops = search in
+      let alive = td_alive td in
       let exporting = paused_exporting (w.tds.ops t) td.op in
       bundle_kept m (note_td_export t w) t slot _ _
       (built_kept m w t td.built l (note_td_export t w).tds (same_shape m w t td.built l _ refl refl refl refl refl refl) (λ x. refl) refl l.tds.epoch l.tds.epoch_begun (λ x n. rw n refl) (λ x h. h) (λ x e. e))
-      (td_alive td) (exporting_begun (w.tds.ops t) exporting) (l.sessions.first_stream t exporting)
+      (record { kind = alive.kind; life = alive.life }) (exporting_begun (w.tds.ops t) exporting) (l.sessions.first_stream t exporting)
       (ltb-true _ _ (search));
   to_tell = λ w. refl;
 }
@@ -307,11 +307,12 @@ pub export_vp-keeps : (m : Machine) (t v slot : ℕ) → RowKeeps m (export_vp m
 export_vp-keeps m t v slot = record {
   act = λ w l ps.
       let td : TdPassed w t paused_ops = search in
+      let alive = td_alive td in
       let exporting = paused_exporting (w.tds.ops t) td.op in
       bundle_kept m (note_vp_export t v w) t slot _ _
       (untouched m (record w { tds = (note_vp_export t v w).tds }) _ refl
       (built_kept m w t td.built l (note_vp_export t v w).tds (same_shape m w t td.built l _ refl refl refl refl refl refl) (λ x. refl) refl l.tds.epoch l.tds.epoch_begun (λ x n. rw n refl) (λ x h. h) (λ x e. e)))
-      (td_alive td) (exporting_begun (w.tds.ops t) exporting) (l.sessions.first_stream t exporting)
+      (record { kind = alive.kind; life = alive.life }) (exporting_begun (w.tds.ops t) exporting) (l.sessions.first_stream t exporting)
       (ltb-true _ _ (search));
   to_tell = λ w. refl;
 }

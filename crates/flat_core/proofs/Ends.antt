@@ -2,7 +2,7 @@
 use Rattle.std.proofs.Common.{◌≡◌, ◌≢◌, inl, inr, refl, sym, ◌∙◌, subst, ap, ℕ, zero, suc, ◌+◌, ◌-◌, ◌*◌, ◌<◌, ◌≤◌, List, [], ◌∷◌, ◌++◌, length, drop, replicate, Option, Some, None, option_map, Bool, true, false, ◌==◌, arith, length-append}
 use Rattle.std.specs.List.{list_any}
 use Rattle.std.specs.Prelude.{nat_le, slice_get, IfSome}
-use Rattle.std.proofs.lemmas.Bool.{eq-eqb, eqb-true, eqb-false, ne_eqb, and_parts}
+use Rattle.std.proofs.lemmas.Bool.{eq-eqb, eqb-true, eqb-false, ne_eqb}
 use Rattle.std.proofs.lemmas.Bool.Decides.{nat_tests}
 use Rattle.td_words.specs.declared.names.Mode.{Mode}
 use Rattle.td_words.specs.declared.names.Mode.TheVariants.{Shared, Exclusive}
@@ -15,8 +15,6 @@ use Rattle.td_words.specs.declared.replies.Outcome.{Outcome}
 use Rattle.td_words.specs.declared.replies.Outcome.TheVariants.{EptViolation, Stop, Max}
 use Rattle.td_words.specs.declared.replies.Reply.{Reply}
 use Rattle.td_words.specs.declared.replies.Reply.TheVariants.{Done, Exited}
-use Rattle.td_words.specs.declared.names.PageKind.{PageKind}
-use Rattle.td_words.specs.declared.names.PageKind.TheVariants as kind
 use Rattle.td_words.specs.declared.names.LifeState.{LifeState}
 use Rattle.td_words.specs.declared.names.LifeState.TheVariants as life
 use Rattle.td_words.specs.declared.names.VcpuState.{VcpuState}
@@ -24,7 +22,7 @@ use Rattle.td_words.specs.declared.names.OpState.{OpState}
 use Rattle.td_words.specs.declared.names.VcpuState.TheVariants as vcpu
 use Rattle.td_words.specs.NameNumber.{life_number, op_number}
 use Rattle.td_words.specs.Packing.{Entry}
-use Rattle.flat_core.specs.Conditions.{same_kind, same_vp_state, running_ops}
+use Rattle.flat_core.specs.Conditions.{same_vp_state, running_ops}
 use Rattle.flat_core.specs.Tree.{page_of_gpa}
 use Rattle.flat_core.specs.World.{World, Pages, Vps, put}
 use Rattle.flat_core.specs.Processor.{LockId, OfPage, OfOp, name_of, Held, Phase, Trying, Undoing, Answered, Progress, Translation, Walk, Guest, Entering, new_guest, Lp, idle, nothing_yet}

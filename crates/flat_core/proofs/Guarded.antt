@@ -3,8 +3,7 @@
 use Rattle.std.proofs.Common.{◌≡◌, ◌⊎◌, inl, inr, refl, sym, ◌∙◌, subst, ap, ℕ, zero, suc, ◌/◌, ◌^◌, ◌≤◌, List, [], ◌∷◌, Option, Some, None, true, false, not, ◌==◌, arith}
 use Rattle.std.specs.List.{list_any}
 use Rattle.std.specs.Prelude.{Contains}
-use Rattle.std.proofs.lemmas.Bool.{eq-eqb, eqb-true, and_parts}
-use Rattle.td_words.specs.declared.names.PageKind.{PageKind}
+use Rattle.std.proofs.lemmas.Bool.{eq-eqb, eqb-true}
 use Rattle.td_words.specs.declared.names.PageKind.TheVariants as kind
 use Rattle.td_words.specs.declared.names.LifeState.{LifeState}
 use Rattle.td_words.specs.declared.names.LifeState.TheVariants as life
@@ -21,7 +20,7 @@ use Rattle.flat_core.specs.World.{World}
 use Rattle.flat_core.specs.Processor.{Translation, Walk, Guest, new_guest}
 use Rattle.flat_core.specs.Opening.{Opening}
 use Rattle.flat_core.specs.Row.{Passes}
-use Rattle.flat_core.specs.Conditions.{is_elsewhere, same_kind, running_ops}
+use Rattle.flat_core.specs.Conditions.{is_elsewhere, running_ops}
 use Rattle.flat_core.specs.Effects.{leave_guest, end_association}
 use Rattle.flat_core.specs.Tree.{page_of_gpa, number_at, entry_at, same_state, allows, may_read, may_write}
 use Rattle.flat_core.specs.Translations.{cache, is_stale, cache_at_entry, drop_td}

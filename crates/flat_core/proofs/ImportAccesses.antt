@@ -10,16 +10,15 @@ use Rattle.flat_core.specs.World.{World}
 use Rattle.flat_core.specs.Processor.{Translation, Guest}
 use Rattle.flat_core.specs.Opening.{Incoming}
 use Rattle.flat_core.specs.Row.{Item, Row, Passes}
-use Rattle.flat_core.specs.Tree.{page_of_gpa, number_at, entry_at, state_in}
+use Rattle.flat_core.specs.Tree.{page_of_gpa, number_at, entry_at}
 use Rattle.flat_core.specs.Effects.{begin_memory}
 use Rattle.flat_core.specs.Sessions.{count_bundle}
 use Rattle.flat_core.specs.Inputs.{Input, input_in, tag_holds}
-use Rattle.flat_core.specs.ImportRows.{is_start, importable, page_to_fill, fill_page, import_immutable, import_page, import_token, import_td, commit_import, end_import, abort_import, abort_by_token}
+use Rattle.flat_core.specs.ImportRows.{is_start, page_to_fill, fill_page, import_immutable, import_page, import_token, import_td, commit_import, end_import, abort_import, abort_by_token}
 use Rattle.flat_core.specs.Lawful.{Lawful, is_free}
 use Rattle.flat_core.specs.Guests.{IsOccupied}
 use Rattle.flat_core.specs.Access.{LawfulTranslations, LawfulEpochs}
 use Rattle.flat_core.proofs.Tests.{by_test, host_kind}
-use Rattle.flat_core.proofs.Maps.{behind_walk}
 use Rattle.flat_core.proofs.AccessActs.{is_new, entry-kept, quiet-act, op-off, op-act, td-act, host-act}
 use Rattle.flat_core.proofs.ImportStates.{token_not_run, td_state_not_run, commit_not_run, given_up_not_run}
 

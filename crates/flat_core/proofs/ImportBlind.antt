@@ -18,18 +18,16 @@ use Rattle.td_words.specs.NameNumber.{op_number}
 use Rattle.flat_core.specs.World.{World, Tds, Vps, Streams, KeyTable, Made, ClearHeader, put}
 use Rattle.flat_core.specs.Opening.{Incoming, Opening, Agree, is_private_kind, blind_words, blind_bundle, public_bundle}
 use Rattle.flat_core.specs.Row.{Item, Passes}
-use Rattle.flat_core.specs.Tree.{page_of_gpa, number_at, entry_at, same_state, state_in}
+use Rattle.flat_core.specs.Tree.{page_of_gpa, number_at, entry_at, same_state}
 use Rattle.flat_core.specs.Effects.{set_page, map_page, begin_memory, set_op}
 use Rattle.flat_core.specs.Sessions.{stream_page, count_bundle, set_mig_epoch}
 use Rattle.flat_core.specs.Inputs.{Input, header_of_input, word_given, input_in, tag_holds}
 use Rattle.flat_core.specs.ImportRows.{filling_ops, begin_import, import_immutable, importable, page_to_fill, fill_page, import_page, is_start, op_then, import_token, give_rtmrs, import_td, give_vp_state, import_vp, note_commit, commit_import, end_import, abort_import, abort_by_token}
 use Rattle.flat_core.specs.Lawful.{IsAlive, Lawful, is_free}
 use Rattle.flat_core.specs.Alike.{is_being_built, is_public, Alike, AreBlind}
-use Rattle.flat_core.proofs.Tests.{by_test, host_kind, tdr_kind}
+use Rattle.flat_core.proofs.Tests.{by_test, host_kind}
 use Rattle.flat_core.proofs.Passed.{TdPassed, td_alive}
 use Rattle.flat_core.proofs.AlikeParts.{tds_alike, op_alike, vps_alike, hidden_alike, mapped_alike}
-use Rattle.flat_core.proofs.Maps.{behind_walk}
-use Rattle.flat_core.proofs.Ranges.{living}
 
 -- two inputs that differ in private words alone
 pub record AreAlikeInputs (x y : Input) : Type 0 where

@@ -14,7 +14,7 @@ use Rattle.flat_core.specs.Tree.{page_of_gpa, number_at, entry_at}
 use Rattle.flat_core.specs.Effects.{begin_memory}
 use Rattle.flat_core.specs.Sessions.{count_bundle}
 use Rattle.flat_core.specs.Inputs.{Input, input_in}
-use Rattle.flat_core.specs.ImportRows.{is_start, op_then, fill_page, import_immutable, import_page, import_token, import_td, commit_import, end_import, abort_import, abort_by_token}
+use Rattle.flat_core.specs.ImportRows.{first_ops, import_token_ops, is_start, op_then, fill_page, import_immutable, import_page, import_token, import_td, commit_import, end_import, abort_import, abort_by_token}
 use Rattle.flat_core.specs.Lawful.{Lawful}
 use Rattle.flat_core.specs.Access.{has_not_run, LawfulEpochs}
 use Rattle.flat_core.proofs.Tests.{by_test, tdr_kind}

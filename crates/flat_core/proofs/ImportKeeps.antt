@@ -18,18 +18,18 @@ use Rattle.flat_core.specs.World.{World, Tds, ClearHeader, put}
 use Rattle.flat_core.specs.Opening.{Incoming}
 use Rattle.flat_core.specs.Row.{Item, Passes}
 use Rattle.flat_core.specs.Arguments.{level_size}
-use Rattle.flat_core.specs.Tree.{page_of_gpa, number_at, entry_at, state_in}
+use Rattle.flat_core.specs.Tree.{page_of_gpa, number_at, entry_at}
 use Rattle.flat_core.specs.Effects.{set_op, begin_memory, map_page}
 use Rattle.flat_core.specs.Sessions.{stream_page, stream_counter, count_bundle, set_mig_epoch}
 use Rattle.flat_core.specs.Inputs.{Input, has_values, has_no_fault, fault_of_input, header_of_input, input_in, most_info, most_gpa, tag_holds}
-use Rattle.flat_core.specs.ImportRows.{first_ops, filling_ops, td_state_ops, vp_state_ops, commit_ops, late_ops, given_up_ops, sent_ops, begin_import, import_immutable, importable, page_to_fill, fill_page, import_page, is_start, import_token_ops, op_then, import_token, give_rtmrs, import_td, import_vp, note_commit, commit_import, end_import, abort_import, abort_by_token}
+use Rattle.flat_core.specs.ImportRows.{first_ops, filling_ops, td_state_ops, vp_state_ops, commit_ops, late_ops, given_up_ops, sent_ops, begin_import, import_immutable, page_to_fill, fill_page, import_page, is_start, import_token_ops, op_then, import_token, give_rtmrs, import_td, import_vp, note_commit, commit_import, end_import, abort_import, abort_by_token}
 use Rattle.flat_core.specs.Lawful.{IsAlive, Lawful, RowKeeps, is_free, is_exporting, is_importing, most_vps}
 use Rattle.flat_core.proofs.Tests.{by_test, tdr_kind, host_kind, same_self}
 use Rattle.flat_core.proofs.Exports.{counts_of}
 use Rattle.flat_core.proofs.Parts.{untouched, streams_kept, sessions_kept, sessions_of, session_at, same_shape, built_kept, op_kept, new_kept, built_other}
-use Rattle.flat_core.proofs.Maps.{map_kept, walk_passed}
+use Rattle.flat_core.proofs.Maps.{map_kept}
 use Rattle.flat_core.proofs.Streams.{stream_among}
-use Rattle.flat_core.proofs.Ranges.{begun_of, living}
+use Rattle.flat_core.proofs.Ranges.{begun_of}
 use Rattle.flat_core.proofs.Passed.{TdPassed, td_alive, lowest_above}
 use Rattle.flat_core.proofs.ImportFills.{fill_tells}
 use Rattle.flat_core.proofs.BundleKeeps.{IsOfBegun, of_begun, counted_bundle}
@@ -316,11 +316,12 @@ import_token-keeps m b t slot = record {
       let x : Input = input_in b in
       let f : IsInForm x.header = input_form b (search) in
       let td : TdPassed w t (import_token_ops (is_start x.header)) = search in
+      let alive = td_alive td in
       let begun = token_begun (is_start x.header) (w.tds.ops t) td.op in
       let w1 : World = set_op t (op_then (is_start x.header) (w.tds.ops t)) (set_mig_epoch t x.header.epoch w) in
       counted m w1 t 0 (token_kept m w t x.header.epoch (op_then (is_start x.header) (w.tds.ops t)) l td.built begun.0 begun.1 (l.sessions.import_stream t begun.2)
       (token_vps (is_start x.header) (w.tds.ops t) (w.tds.vps_expected t) (length (w.tds.vps t)) (l.sessions.vps t) (l.tds.vps_few t)) begun.3 f.epoch)
-      (td_alive td) (λ e. begun.3 (rw (same_self t) at e)) (l.sessions.import_stream t begun.2) (has_room x.header.counter (stream_counter w t 0) (search));
+      (record { kind = alive.kind; life = alive.life }) (λ e. begun.3 (rw (same_self t) at e)) (l.sessions.import_stream t begun.2) (has_room x.header.counter (stream_counter w t 0) (search));
   to_tell = λ w. refl;
 }
 
@@ -344,13 +345,14 @@ import_td-keeps m b t slot = record {
   act = λ w l ps.
       let x : Input = input_in b in
       let td : TdPassed w t td_state_ops = search in
+      let alive = td_alive td in
       let w1 : World = give_rtmrs t x.words w in
       let l1 : Lawful m w1 = rtmrs_given m w t x.words l td.built in
       let begun = l.tds.epoch_begun t (begun_of td_state_ops (w.tds.ops t) refl td.op) in
       let some = l.sessions.import_stream t (td_state_importing (w.tds.ops t) td.op) in
       counted m (set_op t op.StateImport w1) t 0 (op_kept m w1 t td.built l1 op.StateImport begun (λ e. cc) (λ e. some)
       (td_state_vps (w.tds.ops t) (w.tds.vps_expected t) (length (w.tds.vps t)) td.op (l.sessions.vps t)) (λ e. cc))
-      (td_alive td) (λ e. let no : op.StateImport ≡ op.Uninitialized = rw (same_self t) at e in cc) some (has_room x.header.counter (stream_counter w t 0) (search));
+      (record { kind = alive.kind; life = alive.life }) (λ e. let no : op.StateImport ≡ op.Uninitialized = rw (same_self t) at e in cc) some (has_room x.header.counter (stream_counter w t 0) (search));
   to_tell = λ w. refl;
 }
 

@@ -11,16 +11,14 @@ use Rattle.td_words.specs.Packing.{Entry}
 use Rattle.flat_core.specs.World.{World, put}
 use Rattle.flat_core.specs.Opening.{Incoming}
 use Rattle.flat_core.specs.Row.{Item, Passes}
-use Rattle.flat_core.specs.Tree.{page_of_gpa, entry_at, same_state, state_in}
+use Rattle.flat_core.specs.Tree.{page_of_gpa, entry_at, same_state}
 use Rattle.flat_core.specs.Effects.{set_page, begin_memory}
 use Rattle.flat_core.specs.Inputs.{Input, input_in, tag_holds}
-use Rattle.flat_core.specs.ImportRows.{importable, page_to_fill, fill_page, import_page}
+use Rattle.flat_core.specs.ImportRows.{filling_ops, importable, page_to_fill, fill_page, import_page}
 use Rattle.flat_core.specs.Lawful.{IsAlive, Lawful, is_free}
 use Rattle.flat_core.specs.Laws.{memory_of, ArePagesKnown}
-use Rattle.flat_core.proofs.Tests.{by_test, same_self, host_kind, tdr_kind}
+use Rattle.flat_core.proofs.Tests.{by_test, same_self, host_kind}
 use Rattle.flat_core.proofs.Passed.{TdPassed, td_alive}
-use Rattle.flat_core.proofs.Maps.{behind_walk}
-use Rattle.flat_core.proofs.Ranges.{living}
 use Rattle.flat_core.proofs.Known.{still_known, added_known}
 
 module _ (m : Machine) (w : World) (l : Lawful m w) (h : ArePagesKnown w) (t g : ℕ) (ws : ℕ → ℕ) (alive : IsAlive w.pages w.tds t) (is : (w.tds.entries t 0 g).state ≡ entry.Mapped) where

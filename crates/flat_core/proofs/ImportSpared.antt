@@ -7,15 +7,14 @@ use Rattle.td_words.specs.declared.replies.Reply.{Reply}
 use Rattle.flat_core.specs.World.{World}
 use Rattle.flat_core.specs.Opening.{Incoming}
 use Rattle.flat_core.specs.Row.{Item, Passes}
-use Rattle.flat_core.specs.Tree.{page_of_gpa, entry_at, state_in}
+use Rattle.flat_core.specs.Tree.{page_of_gpa, entry_at}
 use Rattle.flat_core.specs.Effects.{begin_memory}
 use Rattle.flat_core.specs.Sessions.{count_bundle}
 use Rattle.flat_core.specs.Inputs.{Input, input_in, tag_holds}
-use Rattle.flat_core.specs.ImportRows.{first_ops, td_state_ops, given_up_ops, import_token_ops, is_start, importable, page_to_fill, fill_page, import_immutable, import_page, import_token, import_td, import_vp, commit_import, end_import, abort_import, abort_by_token}
+use Rattle.flat_core.specs.ImportRows.{first_ops, td_state_ops, given_up_ops, import_token_ops, is_start, page_to_fill, fill_page, import_immutable, import_page, import_token, import_td, import_vp, commit_import, end_import, abort_import, abort_by_token}
 use Rattle.flat_core.specs.Lawful.{Lawful}
 use Rattle.flat_core.specs.Guests.{IsOccupied, Spares, RowSpares}
 use Rattle.flat_core.proofs.Tests.{by_test, host_kind}
-use Rattle.flat_core.proofs.Maps.{behind_walk}
 use Rattle.flat_core.proofs.Sparing.{uninitialized_runs, running_on, beside, no_change, page_off, tdr_off, op_off, created_off}
 use Rattle.flat_core.proofs.ImportStates.{td_state_runs, given_up_runs, token_runs}
 

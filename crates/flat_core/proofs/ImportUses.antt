@@ -9,11 +9,10 @@ use Rattle.flat_core.specs.World.{World}
 use Rattle.flat_core.specs.Opening.{Incoming}
 use Rattle.flat_core.specs.Row.{Item, Passes}
 use Rattle.flat_core.specs.Conditions.{is_host_in}
-use Rattle.flat_core.specs.Tree.{number_at, entry_at, state_in}
+use Rattle.flat_core.specs.Tree.{number_at, entry_at}
 use Rattle.flat_core.specs.Inputs.{Input, input_in, tag_holds}
-use Rattle.flat_core.specs.ImportRows.{importable, page_to_fill, fill_page, import_page}
+use Rattle.flat_core.specs.ImportRows.{page_to_fill, fill_page, import_page}
 use Rattle.flat_core.specs.Laws.{IsUsedAsBefore}
-use Rattle.flat_core.proofs.Maps.{behind_walk}
 use Rattle.flat_core.proofs.Uses.{host_taken}
 
 filled_uses : (w : World) (u gpa page : ℕ) (ws : ℕ → ℕ) (rest : List (Item Reply)) (q : ℕ) (s : EntryState) → Passes (page_to_fill w u gpa page s ++ rest) → is_host_in w.pages q ≡ false

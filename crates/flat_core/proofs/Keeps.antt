@@ -22,16 +22,16 @@ use Rattle.flat_core.specs.World.{World, Pages, Tds, Streams, KeyTable, put, fir
 use Rattle.flat_core.specs.Opening.{Opening}
 use Rattle.flat_core.specs.Row.{Passes}
 use Rattle.flat_core.specs.Locks.{one_if}
-use Rattle.flat_core.specs.Conditions.{same_kind, is_free_key, is_host, vp_limit, host_page, page_exclusive}
+use Rattle.flat_core.specs.Conditions.{same_kind, is_free_key, is_host, vp_limit}
 use Rattle.flat_core.specs.Arguments.{level_size}
-use Rattle.flat_core.specs.Tree.{page_of_gpa, number_at, entry_at, same_state, state_in, empty_below}
+use Rattle.flat_core.specs.Tree.{page_of_gpa, number_at, entry_at, same_state, empty_below}
 use Rattle.flat_core.specs.Effects.{new_td, set_page, clear_page, take_page, map_page, begin_memory, end_memory_in, set_state, unmap_page, set_op, set_epoch, end_measurement, restate}
 use Rattle.flat_core.specs.Tracking.{tracked_page}
 use Rattle.flat_core.specs.HostRows.{host_read, host_write, read_metadata}
 use Rattle.flat_core.specs.TdRows.{create, configure_key, add_tdcx, initialize, read_td, finalize}
 use Rattle.flat_core.specs.KeyRows.{write_caches_back, reclaim_conditions, reclaim_page, end_flush, free_hkid}
 use Rattle.flat_core.specs.VpRows.{create_vp, initialize_vp, enter_vp, flush_vp}
-use Rattle.flat_core.specs.MemRows.{add_sept, read_sept, add_page, augment_page, remove_page, remove_sept, removed_states, open_states, blocked_states, blocked_state, unblocked_state, block_range, unblock_range, advance_epoch, chunk_bytes, extend}
+use Rattle.flat_core.specs.MemRows.{add_sept, read_sept, add_page, augment_page, remove_page, remove_sept, removed_states, open_states, blocked_state, unblocked_state, block_range, unblock_range, advance_epoch, chunk_bytes, extend}
 use Rattle.flat_core.specs.ExportRows.{stream_ops, live_ops, abortable_ops, create_stream, writable_states, write_blocked, block_write, write_blocked_states, write_unblocked, is_first_dirt, unblock_write, note_pause, pause, abort_export, restoring_ops, restored_states, one_less, restore}
 use Rattle.flat_core.specs.Exports.{is_dirty}
 use Rattle.flat_core.specs.Table.{row_of}
@@ -39,7 +39,7 @@ use Rattle.flat_core.specs.Lawful.{IsAlive, AreControls, ArePagesOf, LawfulPages
 use Rattle.flat_core.proofs.Tests.{by_test, host_kind, tdr_kind, range_of, some_same, same_self}
 use Rattle.flat_core.proofs.Pages.{taken, other, taken_node, taken_controls, taken_list, unowned, taken_pages}
 use Rattle.flat_core.proofs.Exports.{counts_of, new_counted, counted_still, taken_where}
-use Rattle.flat_core.proofs.Maps.{kind_named, named_owned, node_named, is_upper, map_kept, walk_passed}
+use Rattle.flat_core.proofs.Maps.{kind_named, named_owned, node_named, is_upper, map_kept}
 use Rattle.flat_core.proofs.EntryStates.{entry_kept, restated, remarked, state_kept, counts_moved, block_kept}
 use Rattle.flat_core.proofs.Ranges.{begun_of, live_exporting, EntryPassed, living, named_alive, write_passed, entry_alive, block_restates, unblock_restates, write_remarks, write_dirt, unwrite_remarks, unwrite_dirt, restored, page_removed, sept_removed}
 use Rattle.flat_core.proofs.Passed.{TdPassed, td_alive, sept_passed, page_passed, augment_passed, block_passed, unblock_passed, remove_passed, sept_remove_passed}

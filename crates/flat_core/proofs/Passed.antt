@@ -1,7 +1,7 @@
 -- What the conditions of a row say that have passed, by name: a record for what many rows ask, and for what stands behind a walk.
 -- `search` finds a record's fields, or one condition, among those of the row, wherever they stand there; so a condition that is
 -- added to a row shifts no proof.
-use Rattle.std.proofs.Common.{lit≤, ◌≡◌, refl, subst, ℕ, suc, ◌/◌, ◌^◌, ◌<◌, List, [], ◌∷◌, length, Bool, true, false, ◌==◌, ◌&&◌, nat_lt, arith}
+use Rattle.std.proofs.Common.{◌≡◌, refl, subst, ℕ, suc, ◌/◌, ◌^◌, ◌<◌, List, [], ◌∷◌, length, true, false, ◌==◌, nat_lt, arith}
 use Rattle.std.specs.List.{list_any}
 use Rattle.std.proofs.lemmas.Bool.{eqb-true, and_parts}
 use Rattle.td_words.specs.declared.names.PageKind.{PageKind}
