@@ -12,6 +12,7 @@ pub mod Operations
 pub mod EntryStates
 pub mod Numbers
 pub mod Ranges
+pub mod Passed
 pub mod Removals
 pub mod Trackings
 pub mod Shapes
