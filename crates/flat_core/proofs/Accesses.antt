@@ -154,7 +154,7 @@ module _ (me : ℕ) (c : Call) (m : Machine) (w w' : World) (la : Lawful m w) (l
   shape-access (begins x) n k = by-world _ x.is (begins-access x)
   shape-access (changes_life x) n k = life-access x
   shape-access (changes_op x) n k = op-access x
-  shape-access (changes_vp x) n k = by-aspect _ x.rest refl refl refl refl refl x.associated x.lasts x.entered
+  shape-access (changes_vp x) n k = by-aspect _ x.rest refl refl refl refl refl refl refl refl
   shape-access (enters x) n k = by-world _ x.is (enters-access x (n x.tdr x.vp x.most x.call))
   shape-access (flushes x) n k = by-world _ x.is (flushes-access x (k x.tdr x.vp x.call))
   shape-access (changes_entry x) n k = entry-access x x.block

@@ -154,7 +154,7 @@ module _ (me : ℕ) (c : Call) (o : Opening) (w w' : World) (la : Lawful o.machi
   shape-epochs (begins x) = begun-epochs x
   shape-epochs (changes_life x) = life-epochs x
   shape-epochs (changes_op x) = op-epochs x
-  shape-epochs (changes_vp x) = by-aspect _ x.rest refl refl refl refl refl x.associated x.lasts x.entered
+  shape-epochs (changes_vp x) = by-aspect _ x.rest refl refl refl refl refl refl refl refl
   shape-epochs (enters x) = by-world _ x.is (entered-epochs x)
   shape-epochs (flushes x) = by-world _ x.is (flushed-epochs x.vp)
   shape-epochs (changes_entry x) = by-aspect _ x.rest refl refl refl refl refl refl refl refl

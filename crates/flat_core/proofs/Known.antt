@@ -180,8 +180,8 @@ module _ (me : ℕ) (c : Call) (m : Machine) (w w' : World) (l : Lawful m w) (h 
   -- words of the host's pages change
   notes_known : Notes w w' → ArePagesKnown w'
   notes_known x = by_aspect _ x.rest (λ t n k a.
-    let alive : IsAlive w.pages w.tds t = record { kind = k; life = a } in
-    h t n (record { kind = k; life = a }) ∙ sym (same_memory (w.tds.entries t 0 n) w.words w'.words (λ used. x.words _ (ap (λ (j : PageKind). same_kind j kind.Nda) (l.tree.lowest t n alive used).1.page.kind))))
+      let alive : IsAlive w.pages w.tds t = record { kind = k; life = a } in
+      h t n (record { kind = k; life = a }) ∙ sym (same_memory (w.tds.entries t 0 n) w.words w'.words (λ used. x.words _ (ap (λ (j : PageKind). same_kind j kind.Nda) (l.tree.lowest t n alive used).1.page.kind))))
 
   held_known : (x : Takes w w') (t n : ℕ) → IsAlive w.pages w.tds t → IsHeld w w' t n → w'.hidden.memories t n ≡ memory_of (w'.tds.entries t 0 n) w'.words
   held_known x t n alive (inl holds) = holds
@@ -195,8 +195,8 @@ module _ (me : ℕ) (c : Call) (m : Machine) (w w' : World) (l : Lawful m w) (h 
   shape_known (takes x) = by_aspect _ x.rest (λ t n k a. held_known x t n (alive_before m w l h x.page x.becomes x.tdr x.level x.number x.no_tdr w.tds refl t (record { kind = k; life = a })) (x.held t n))
   shape_known (reclaims x) = by_world _ x.is (reclaim_known m w l h x.tdr x.page x.dead (owner_reclaimed m c w w' l x))
   shape_known (unmaps x) = by_world _ x.is (λ t n a.
-    unmapped_known m w l h x.tdr x.level x.number (unmap_page x.tdr x.level x.number (record w { hidden = record (w.hidden) { memories = x.memories } })) x.alive x.removed.used x.removed.unmarked x.empty refl refl x.ended x.others t n
-    (alive_before m w l h (w.tds.entries x.tdr x.level x.number).page kind.Nda 0 0 0 (λ e. cc) w.tds refl t (record { kind = a.kind; life = a.life })))
+      unmapped_known m w l h x.tdr x.level x.number (unmap_page x.tdr x.level x.number (record w { hidden = record (w.hidden) { memories = x.memories } })) x.alive x.removed.used x.removed.unmarked x.empty refl refl x.ended x.others t n
+      (alive_before m w l h (w.tds.entries x.tdr x.level x.number).page kind.Nda 0 0 0 (λ e. cc) w.tds refl t (record { kind = a.kind; life = a.life })))
   shape_known (begins x) = by_world _ x.is (create_known m w l h x.tdr x.hkid (host_kind _ x.host))
   shape_known (changes_life x) = by_aspect _ x.rest (λ t n k a. h t n (lived_before m w l h x.tdr x.then_in x.live t (record { kind = k; life = a })))
   shape_known (changes_op x) = by_aspect _ x.rest (λ t n k a. h t n (record { kind = k; life = a }))

@@ -53,8 +53,8 @@ module _ (me : ℕ) (c : Call) (m : Machine) (w w' : World) (h : AreMrtdsTrue m 
   shape_true (shape.begins x) = by_world _ x.is (λ t r. by_test (t == x.tdr) (λ y. absurd (let no : false ≡ true = rw y at r in cc)) (λ n. rw n (h t (rw n at r))))
   shape_true (shape.changes_life x) = by_aspect _ x.rest h
   shape_true (shape.changes_op x) = by_aspect _ x.rest (λ t r. by_test (t == x.tdr)
-    (λ y. subst (λ (z : ℕ). IsTrue (mrtd_of w' z)) (sym (eqb-true t x.tdr y)) (op_true x (rw y at r)))
-    (λ n. stays t (x.mrtds t n) (rw n at r)))
+      (λ y. subst (λ (z : ℕ). IsTrue (mrtd_of w' z)) (sym (eqb-true t x.tdr y)) (op_true x (rw y at r)))
+      (λ n. stays t (x.mrtds t n) (rw n at r)))
   shape_true (shape.changes_vp x) = by_aspect _ x.rest h
   shape_true (shape.enters x) = by_world _ x.is h
   shape_true (shape.flushes x) = by_world _ x.is h

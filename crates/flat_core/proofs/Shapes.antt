@@ -1,7 +1,7 @@
 -- The shapes of acts: relations of the world before a call's act and the world after it, of which `ShapeOf` names one for each
 -- call. The laws of acts are shown of shapes, once for all calls. Each says under `rest` that all else is as it was, of what
 -- these laws look at.
-use Rattle.std.proofs.Common.{◌≡◌, ◌≢◌, ◌⊎◌, sym, ◌∙◌, subst, ℕ, suc, ◌+◌, ◌/◌, List, Option, Some, None, Bool, true, false, not, ◌==◌}
+use Rattle.std.proofs.Common.{◌≡◌, ◌≢◌, ◌⊎◌, sym, ◌∙◌, subst, ap, ℕ, suc, ◌+◌, ◌/◌, List, Option, Some, None, Bool, true, false, not, ◌==◌}
 use Rattle.std.proofs.lemmas.Bool.{eqb-true}
 use Rattle.std.specs.List.{list_any}
 use Rattle.td_words.specs.declared.names.PageKind.{PageKind}
@@ -192,11 +192,9 @@ pub record ChangesOp (c : Call) (w w' : World) : Type 0 where
 pub record ChangesVp (w w' : World) : Type 0 where
   pub vp : ℕ
   pub idle : (p t : ℕ) → IsOccupied w p t vp → ⊥
-  pub rest : aspect_of w' ≡ record (aspect_of w) { vps = w'.vps; registers = w'.hidden.registers }
-  pub others : (v : ℕ) → (v == vp) ≡ false → SameVp w w' v
-  pub associated : w'.vps.associated ≡ w.vps.associated
-  pub lasts : w'.vps.lasts ≡ w.vps.lasts
-  pub entered : w'.vps.entered ≡ w.vps.entered
+  pub rest : aspect_of w' ≡ record (aspect_of w) { vps = record (w.vps) { states = w'.vps.states; positions = w'.vps.positions; exported = w'.vps.exported }; registers = w'.hidden.registers }
+  pub others : (v : ℕ) → (v == vp) ≡ false
+      → (w'.vps.states v ≡ w.vps.states v) × (w'.vps.positions v ≡ w.vps.positions v) × (w'.vps.exported v ≡ w.vps.exported v) × ((r : ℕ) → w'.hidden.registers v r ≡ w.hidden.registers v r)
 
 -- a virtual processor enters the guest on the processor that calls
 pub record Enters (me : ℕ) (c : Call) (w w' : World) : Type 0 where
@@ -273,3 +271,16 @@ pub owner_reclaimed : (m : Machine) (c : Call) (w w' : World) → Lawful m w →
 owner_reclaimed m c w w' l x = by_test (x.page == x.tdr)
     (λ y. let here = eqb-true x.page x.tdr y in l.pages.tdr x.page (subst (λ (z : ℕ). w.pages.kinds z ≡ kind.Tdr) (sym here) x.root) ∙ here)
     x.own
+
+-- a virtual processor stays where all do
+pub same_vp : (w w' : World) (v : ℕ) → w'.vps ≡ w.vps → w'.hidden.registers ≡ w.hidden.registers → SameVp w w' v
+same_vp w w' v e k = record {
+  registers = λ r. ap (λ (z : ℕ → ℕ → ℕ). z v r) k;
+  index = ap (λ (z : Vps). z.indexes v) e;
+  state = ap (λ (z : Vps). z.states v) e;
+  associated = ap (λ (z : Vps). z.associated v) e;
+  last = ap (λ (z : Vps). z.lasts v) e;
+  position = ap (λ (z : Vps). z.positions v) e;
+  exported = ap (λ (z : Vps). z.exported v) e;
+  entered = ap (λ (z : Vps). z.entered v) e;
+}

@@ -13,9 +13,9 @@ use Rattle.flat_core.specs.Guests.{IsOccupied, SameVp, Spares, RowsSpare}
 use Rattle.flat_core.proofs.Tests.{by_test, host_kind}
 use Rattle.flat_core.proofs.Maps.{node_named}
 use Rattle.flat_core.proofs.AccessActs.{occupied-here}
-use Rattle.flat_core.proofs.Shapes.{Aspect, aspect_of, IsOneOf, ChangesOp, Shape, notes, fills, takes, reclaims, unmaps, begins, changes_life, changes_op, changes_vp, enters, flushes, changes_entry, advances, owner_reclaimed}
+use Rattle.flat_core.proofs.Shapes.{Aspect, aspect_of, IsOneOf, ChangesOp, Shape, notes, fills, takes, reclaims, unmaps, begins, changes_life, changes_op, changes_vp, enters, flushes, changes_entry, advances, owner_reclaimed, same_vp}
 use Rattle.flat_core.proofs.ShapeOf.{shape_of}
-use Rattle.flat_core.proofs.Sparing.{beside, running_on, no_change, page_off, tdr_off, dead_off, idle_off, owned_off, named_off, elsewhere_off}
+use Rattle.flat_core.proofs.Sparing.{beside, running_on, page_off, tdr_off, dead_off, idle_off, owned_off, named_off, elsewhere_off}
 
 module _ (me : ℕ) (c : Call) (m : Machine) (w w' : World) (l : Lawful m w) (p t v : ℕ) (x : IsOccupied w p t v) (apart : p ≢ me) (unpaused : c ≢ call.ExportPause t) where
   by_aspect : (a : Aspect) → aspect_of w' ≡ a → a.pages.kinds t ≡ w.pages.kinds t → a.lives t ≡ w.tds.lives t → a.ops t ≡ w.tds.ops t → a.pages.kinds v ≡ w.pages.kinds v → a.pages.owners v ≡ w.pages.owners v → SameVp w w' v → Spares w w' p t v
@@ -24,7 +24,7 @@ module _ (me : ℕ) (c : Call) (m : Machine) (w w' : World) (l : Lawful m w) (p 
       (ap (λ (z : Aspect). z.pages.kinds v) e ∙ kv) (ap (λ (z : Aspect). z.pages.owners v) e ∙ ov) same
 
   vp_stays : (a : Aspect) → aspect_of w' ≡ a → a.vps ≡ w.vps → a.registers ≡ w.hidden.registers → SameVp w w' v
-  vp_stays a e vps registers = no_change m w l p t v x w' (ap (λ (z : Aspect). z.vps) e ∙ vps) (ap (λ (z : Aspect). z.registers) e ∙ registers)
+  vp_stays a e vps registers = same_vp w w' v (ap (λ (z : Aspect). z.vps) e ∙ vps) (ap (λ (z : Aspect). z.registers) e ∙ registers)
 
   by_world : (u : World) → w' ≡ u → Spares w u p t v → Spares w w' p t v
   by_world u e s = subst (λ (z : World). Spares w z p t v) (sym e) s
@@ -48,22 +48,32 @@ module _ (me : ℕ) (c : Call) (m : Machine) (w w' : World) (l : Lawful m w) (p 
       by_aspect _ y.rest (rw b refl) refl refl (rw a refl) (rw a refl) (y.vps v a)
   shape_spares (reclaims y) =
       let off = owned_off m w l p t v x y.tdr y.page (dead_off m w l p t v x y.tdr y.dead) (owner_reclaimed m c w w' l y) in
-      by_world _ y.is (beside m w l p t v x _ (rw (off.1) refl) refl refl (rw (off.0) refl) (rw (off.0) refl) (no_change m w l p t v x _ refl refl))
+      by_world _ y.is (beside m w l p t v x _ (rw (off.1) refl) refl refl (rw (off.0) refl) (rw (off.0) refl) (same_vp w _ v refl refl))
   shape_spares (unmaps y) =
       let node = node_named m w l y.tdr y.level y.number y.alive y.removed.used in
       let off = named_off m w l p t v x y.level (w.tds.entries y.tdr y.level y.number).page node.page.kind in
-      by_world _ y.is (beside m w l p t v x _ (rw (off.1) refl) refl refl (rw (off.0) refl) (rw (off.0) refl) (no_change m w l p t v x _ refl refl))
+      by_world _ y.is (beside m w l p t v x _ (rw (off.1) refl) refl refl (rw (off.0) refl) (rw (off.0) refl) (same_vp w _ v refl refl))
   shape_spares (begins y) =
       let host = host_kind _ y.host in
       let a = page_off m w l p t v x y.tdr host in let b = tdr_off m w l p t v x y.tdr host in
-      by_world _ y.is (beside m w l p t v x _ (rw b refl) (rw b refl) (rw b refl) (rw a refl) (rw a refl) (no_change m w l p t v x _ refl refl))
+      by_world _ y.is (beside m w l p t v x _ (rw b refl) (rw b refl) (rw b refl) (rw a refl) (rw a refl) (same_vp w _ v refl refl))
   shape_spares (changes_life y) =
       let off = idle_off m w w' l y p t v (occupied-here w p t v x) in
       by_aspect _ y.rest refl (rw off refl) refl refl refl (vp_stays _ y.rest refl refl)
   shape_spares (changes_op y) = op_spares y
   shape_spares (changes_vp y) =
       let off : (v == y.vp) ≡ false = by_test (v == y.vp) (λ z. absurd (y.idle p t (subst (λ (u : ℕ). IsOccupied w p t u) (eqb-true v y.vp z) x))) (λ z. z) in
-      by_aspect _ y.rest refl refl refl refl refl (y.others v off)
+      let o = y.others v off in
+      by_aspect _ y.rest refl refl refl refl refl (record {
+        index = ap (λ (z : Aspect). z.vps.indexes v) y.rest;
+        state = o.0;
+        associated = ap (λ (z : Aspect). z.vps.associated v) y.rest;
+        last = ap (λ (z : Aspect). z.vps.lasts v) y.rest;
+        position = o.1;
+        exported = o.2;
+        entered = ap (λ (z : Aspect). z.vps.entered v) y.rest;
+        registers = o.3;
+      })
   shape_spares (enters y) =
       let a = elsewhere_off m w l p t v x me y.vp apart y.here in
       by_world _ y.is (beside m w l p t v x _ refl refl refl refl refl (record { index = refl; state = refl; associated = rw a refl; last = rw a refl; position = refl; exported = refl; entered = rw a refl; registers = λ r. refl }))
@@ -71,7 +81,7 @@ module _ (me : ℕ) (c : Call) (m : Machine) (w w' : World) (l : Lawful m w) (p 
       let a = elsewhere_off m w l p t v x me y.vp apart y.here in
       by_world _ y.is (beside m w l p t v x _ refl refl refl refl refl (record { index = refl; state = refl; associated = rw a refl; last = refl; position = refl; exported = refl; entered = refl; registers = λ r. refl }))
   shape_spares (changes_entry y) = by_aspect _ y.rest refl refl refl refl refl (vp_stays _ y.rest refl refl)
-  shape_spares (advances y) = by_world _ y.is (beside m w l p t v x _ refl refl refl refl refl (no_change m w l p t v x _ refl refl))
+  shape_spares (advances y) = by_world _ y.is (beside m w l p t v x _ refl refl refl refl refl (same_vp w _ v refl refl))
 
 pub row_spares : RowsSpare
 row_spares o me c t n w p v l ps x apart = shape_spares me c o.machine w ((row_of o me c).act w) l p t v x apart n (shape_of o me c w ps)

@@ -83,18 +83,6 @@ module _ (m : Machine) (w : World) (l : Lawful m w) (p t v : ℕ) (x : IsOccupie
   pub beside : (w' : World) → w'.pages.kinds t ≡ w.pages.kinds t → w'.tds.lives t ≡ w.tds.lives t → w'.tds.ops t ≡ w.tds.ops t → w'.pages.kinds v ≡ w.pages.kinds v → w'.pages.owners v ≡ w.pages.owners v → SameVp w w' v → IsSpared w'
   beside w' kt life ops kv ov same = running_on w' kt life (ap (λ (z : OpState). list_any (λ s. op_number s == op_number z) running_ops) ops ∙ x.running) kv ov same
 
-  pub no_change : (w' : World) → w'.vps ≡ w.vps → w'.hidden.registers ≡ w.hidden.registers → SameVp w w' v
-  no_change w' e k = record {
-    registers = λ r. ap (λ (z : ℕ → ℕ → ℕ). z v r) k;
-    index = ap (λ (z : Vps). z.indexes v) e;
-    state = ap (λ (z : Vps). z.states v) e;
-    associated = ap (λ (z : Vps). z.associated v) e;
-    last = ap (λ (z : Vps). z.lasts v) e;
-    position = ap (λ (z : Vps). z.positions v) e;
-    exported = ap (λ (z : Vps). z.exported v) e;
-    entered = ap (λ (z : Vps). z.entered v) e;
-  }
-
   -- it is neither a host page, nor is its TDR page
   pub page_off : (q : ℕ) → w.pages.kinds q ≡ kind.Nda → (v == q) ≡ false
   page_off q host = by_test (v == q) (λ y. absurd (let no : kind.Tdvpr ≡ kind.Nda = sym x.page.kind ∙ (ap w.pages.kinds (eqb-true v q y) ∙ host) in cc)) (λ n. n)
