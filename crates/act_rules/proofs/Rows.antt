@@ -40,6 +40,7 @@ use Rattle.flat_core.specs.ImportRows.{begin_import, import_immutable, importabl
 use Rattle.flat_core.specs.BundleRows.{start_epoch, track_export, token_kind, token_epoch, export_immutable, export_page, export_token, export_td, export_vp}
 use Rattle.flat_core.proofs.Maps.{kind_named, node_named, behind_walk}
 use Rattle.flat_core.proofs.Ranges.{named_passed, named_alive, page_removed, sept_removed, export_passed, can_export}
+use Rattle.flat_core.proofs.Passed.{sept_passed, remove_passed, sept_remove_passed}
 use Rattle.flat_core.proofs.Keeps.{live_of}
 use Rattle.flat_core.proofs.Tests.{by_test, host_kind, tdr_kind}
 use Rattle.word_rules.specs.Guards.{Grip, Locked}
@@ -509,55 +510,54 @@ rows-respect o me (call.HostWrite page word value) g w la ps h = written g w pag
 rows-respect o me (call.PhymemPageRdmd page) g w la ps h = stays g w
 rows-respect o me call.PhymemCacheWb g w la ps h = cached-back g w
 rows-respect o me (call.PhymemPageReclaim tdr page) g w la ps h =
-    reclaimed g w o.machine tdr page (page == tdr) refl la (tdr_kind (w.pages.kinds tdr) ps.1.1.0) h.0.0 h.0.1 ps.1.1.1.1 h.1
+    reclaimed g w o.machine tdr page (page == tdr) refl la (tdr_kind (w.pages.kinds tdr) (search)) h.0.0 h.0.1 (search) h.1
 rows-respect o me (call.MngCreate tdr hkid) g w la ps h =
-    created o.machine g w tdr hkid la (host_kind (w.pages.kinds tdr) ps.1.1.0) (free-owner (w.key_table.keys hkid) ps.1.1.1.0) h.0.1 h.1.0.1
+    created o.machine g w tdr hkid la (host_kind (w.pages.kinds tdr) (search)) (free-owner (w.key_table.keys hkid) (search)) h.0.1 h.1.0.1
 rows-respect o me (call.MngKeyConfig tdr) g w la ps h = (effects-respect g w).life tdr life.KeysConfigured h.0.0 h.0.1
-rows-respect o me (call.MngAddcx tdr page) g w la ps h = tdcx-added o.machine g w tdr page la (host_kind (w.pages.kinds page) ps.1.1.1.1.1.1.0) ps.1.1.1.1.1.0 h.1.0.1
+rows-respect o me (call.MngAddcx tdr page) g w la ps h = tdcx-added o.machine g w tdr page la (host_kind (w.pages.kinds page) (search)) (search) h.1.0.1
 rows-respect o me (call.MngInit tdr) g w la ps h = initialized g w tdr h.0 h.1.0.1
 rows-respect o me (call.MngRd tdr field) g w la ps h = stays g w
 rows-respect o me (call.MngVpflushdone tdr) g w la ps h =
-    ended g w tdr life.Blocked (FlushedOf tdr false) (la.keys.owner tdr (record { kind = tdr_kind (w.pages.kinds tdr) ps.1.0; life = live_of (life.HkidAssigned ∷ life.KeysConfigured ∷ []) (w.tds.lives tdr) refl ps.1.1.0 })) h.0.0 h.0.1
+    ended g w tdr life.Blocked (FlushedOf tdr false) (la.keys.owner tdr (record { kind = tdr_kind (w.pages.kinds tdr) (search); life = live_of (life.HkidAssigned ∷ life.KeysConfigured ∷ []) (w.tds.lives tdr) refl (search) })) h.0.0 h.0.1
 rows-respect o me (call.MngKeyFreeid tdr) g w la ps h =
-    ended g w tdr life.Teardown Unassigned (la.keys.owner tdr (record { kind = tdr_kind (w.pages.kinds tdr) ps.1.0; life = live_of (life.Blocked ∷ []) (w.tds.lives tdr) refl ps.1.1.0 })) h.0.0 h.0.1
+    ended g w tdr life.Teardown Unassigned (la.keys.owner tdr (record { kind = tdr_kind (w.pages.kinds tdr) (search); life = live_of (life.Blocked ∷ []) (w.tds.lives tdr) refl (search) })) h.0.0 h.0.1
 rows-respect o me (call.MrFinalize tdr) g w la ps h = finalized g w tdr h.0 h.1.0.1
 rows-respect o me (call.VpCreate tdr page) g w la ps h =
-    vp-added o.machine g w tdr page la (host_kind (w.pages.kinds page) ps.1.1.1.1.1.1.1.1.0) h.1.1.0.1
+    vp-added o.machine g w tdr page la (host_kind (w.pages.kinds page) (search)) (search)
 rows-respect o me (call.VpInit tdr vp value) g w la ps h = vp-initialized g w vp value
 rows-respect o me (call.VpEnter tdr vp most) g w la ps h =
-    (effects-respect g w).enter o.machine me tdr vp la (eqb-true _ tdr (and_parts (same_kind (w.pages.kinds vp) kind.Tdvpr) (w.pages.owners vp == tdr) ps.1.1.1.1.1.1.1.1.0).1) h.0
+    (effects-respect g w).enter o.machine me tdr vp la (eqb-true _ tdr (and_parts (same_kind (w.pages.kinds vp) kind.Tdvpr) (w.pages.owners vp == tdr) (search)).1) h.0
 rows-respect o me (call.MrExtend tdr gpa) g w la ps h = measured g w tdr _
 rows-respect o me (call.MemSeptAdd tdr gpa level page) g w la ps h =
-    let behind = behind_walk w tdr gpa level _ ps.1.1.1.1.1.1.1.1.1.1 in
     let held = held-behind g (is_passed w tdr gpa) (λ l. Refused (EptWalkFailed l)) (levels_above level) _ h.1.1.1 in
-    sept-added g w tdr gpa level page behind.1.0 held.0.1 (record { tdr = h.0; op = h.1.0 }) h.1.1.0.1
+    sept-added g w tdr gpa level page (sept_passed o.machine w tdr gpa level page ps).host held.0.1 (search) (search)
 rows-respect o me (call.MemSeptRd tdr gpa level) g w la ps h = stays g w
 rows-respect o me (call.VpFlush tdr vp) g w la ps h = flushed g w vp
-rows-respect o me (call.MemTrack tdr) g w la ps h = (effects-respect g w).epoch tdr (w.tds.epochs tdr + 1) (record { tdr = h.0; op = h.1.0 }) h.1.1.0.1
+rows-respect o me (call.MemTrack tdr) g w la ps h = (effects-respect g w).epoch tdr (w.tds.epochs tdr + 1) (search) (search)
 rows-respect o me (call.MemRangeBlock tdr gpa level) g w la ps h =
-    block-noted g w _ tdr (entry_at w tdr level gpa).page ((effects-respect g w).entry tdr level (number_at level gpa) _ (record { tdr = h.0; op = h.1.0 }) h.1.1.0.1)
-rows-respect o me (call.MemRangeUnblock tdr gpa level) g w la ps h = (effects-respect g w).entry tdr level (number_at level gpa) _ (record { tdr = h.0; op = h.1.0 }) h.1.1.0.1
+    block-noted g w _ tdr (entry_at w tdr level gpa).page ((effects-respect g w).entry tdr level (number_at level gpa) _ (search) (search))
+rows-respect o me (call.MemRangeUnblock tdr gpa level) g w la ps h = (effects-respect g w).entry tdr level (number_at level gpa) _ (search) (search)
 rows-respect o me (call.MemPageRemove tdr gpa) g w la ps h =
     let rest = tracked_page w tdr (entry_at w tdr 0 gpa).page ∷ [] in
-    let q = named_passed w tdr gpa 0 removed_states rest ps.1.1.1 in
+    let q = remove_passed o.machine w tdr gpa ps in
     let node = node_named o.machine w la tdr 0 (number_at 0 gpa) (named_alive w tdr gpa 0 removed_states rest q) (page_removed (entry_at w tdr 0 gpa).state q.state).used in
-    page-unmapped g w tdr gpa node.page.kind node.page.owner (record { tdr = h.0; op = h.1.0 }) h.1.1.0.1 h.1.1.1.1.0.1
+    page-unmapped g w tdr gpa node.page.kind node.page.owner (search) (search) (search)
 rows-respect o me (call.MemSeptRemove tdr gpa level) g w la ps h =
     let rest = empty_below w tdr gpa level ∷ tracked_page w tdr (entry_at w tdr level gpa).page ∷ [] in
-    let q = named_passed w tdr gpa level (entry.NlBlocked ∷ []) rest ps.1.1.1.1 in
+    let q = sept_remove_passed o.machine w tdr gpa level ps in
     let node = node_named o.machine w la tdr level (number_at level gpa) (named_alive w tdr gpa level (entry.NlBlocked ∷ []) rest q) (sept_removed (entry_at w tdr level gpa).state q.state).used in
     let held = held-behind g (is_passed w tdr gpa) (λ l. Refused (EptWalkFailed l)) (levels_above level) _ h.1.1.1.1 in
-    unmapped g w tdr level (number_at level gpa) node.page.kind node.page.owner (record { tdr = h.0; op = h.1.0 }) h.1.1.0.1 held.0.1
+    unmapped g w tdr level (number_at level gpa) node.page.kind node.page.owner (search) (search) held.0.1
 rows-respect o me (call.MemPageAdd tdr gpa page source) g w la ps h =
-    page-added g w tdr gpa page (w.words source) _ ps.1.1.1.1.1.1.1.1.1.1.1.1.1.1.1.1.1.0 h.1.1.1.1.0.1 (record { tdr = h.0; op = h.1.0.0 }) h.1.1.0.1
+    page-added g w tdr gpa page (w.words source) _ (search) (search) (search) (search)
 rows-respect o me (call.MemPageAug tdr gpa page) g w la ps h =
-    page-augmented g w tdr gpa page ps.1.1.1.1.1.1.1.1.1.1.1.1.1.0 h.1.1.1.0.1 (record { tdr = h.0; op = h.1.0 }) h.1.1.0.1
-rows-respect o me (call.MigStreamCreate tdr page) g w la ps h = stream-added g w tdr page ps.1.1.1.1.1.1.1.1.0 h.1.1.0.1
+    page-augmented g w tdr gpa page (search) (search) (search) (search)
+rows-respect o me (call.MigStreamCreate tdr page) g w la ps h = stream-added g w tdr page (search) (search)
 rows-respect o me (call.ExportBlockw tdr gpa) g w la ps h = block-noted g w _ tdr (entry_at w tdr 0 gpa).page (blocks-write g w tdr (number_at 0 gpa))
-rows-respect o me (call.ExportUnblockw tdr gpa) g w la ps h = unblocks-write g w tdr (number_at 0 gpa) _ _ _ (record { tdr = h.0; op = h.1.0 }) h.1.1.0.1
+rows-respect o me (call.ExportUnblockw tdr gpa) g w la ps h = unblocks-write g w tdr (number_at 0 gpa) _ _ _ (search) (search)
 rows-respect o me (call.ExportPause tdr) g w la ps h = paused g w tdr h.0 h.1.0.1
 rows-respect o me (call.ExportAbort tdr) g w la ps h = (effects-respect g w).op tdr op.Runnable h.0 h.1.0.1
-rows-respect o me (call.ExportRestore tdr gpa) g w la ps h = restored g w tdr (number_at 0 gpa) (entry_at w tdr 0 gpa).state (record { tdr = h.0; op = h.1.0 }) h.1.1.0.1
+rows-respect o me (call.ExportRestore tdr gpa) g w la ps h = restored g w tdr (number_at 0 gpa) (entry_at w tdr 0 gpa).state (search) (search)
 rows-respect o me (call.ExportStateImmutable tdr slot) g w la ps h = immutable-exported g w o.machine tdr slot h.0 h.1.0.1
 rows-respect o me (call.ExportMem tdr gpa stream slot) g w la ps h =
     page-exported g w o.machine tdr gpa stream slot (can_export (w.tds.ops tdr) (entry_at w tdr 0 gpa).state (export_passed o.machine w tdr gpa stream slot ps).state).used
@@ -569,8 +569,7 @@ rows-respect o me (call.ImportStateImmutable tdr slot) g w la ps h = immutable-i
 rows-respect o me (call.ImportMem tdr slot page) g w la ps h =
     let x : Input = input_in (o.bundles slot) in
     let gpa : ℕ = x.header.gpa in
-    let behind = behind_walk w tdr gpa 0 (state_in w tdr gpa 0 importable ∷ (page_to_fill w tdr gpa page (entry_at w tdr 0 gpa).state ++ tag_holds x ∷ [])) ps.1.1.1.1.1.1.1.1.1.1.1.1.1.1 in
-    page-imported g w o.machine (o.bundles slot) tdr slot page behind.1 h.1.1.1 (record { tdr = h.0; op = h.1.0 }) h.1.1.0.1
+    page-imported g w o.machine (o.bundles slot) tdr slot page (search) (search) (search) (search)
 rows-respect o me (call.ImportTrack tdr slot) g w la ps h = token-imported g w o.machine (o.bundles slot) tdr slot h.0 h.1.0.1
 rows-respect o me (call.ImportStateTd tdr slot) g w la ps h = td-imported g w o.machine (o.bundles slot) tdr slot h.0 h.1.0.1
 rows-respect o me (call.ImportStateVp tdr vp slot) g w la ps h = vp-imported g w o.machine (o.bundles slot) tdr vp slot

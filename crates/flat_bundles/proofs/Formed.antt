@@ -51,6 +51,7 @@ use Rattle.flat_core.proofs.ImportKeeps.{input_form}
 use Rattle.flat_core.proofs.Induction.{in_runs}
 use Rattle.flat_core.proofs.Operations.{operation_row, accepted}
 use Rattle.flat_core.proofs.Ranges.{living}
+use Rattle.flat_core.proofs.Passed.{TdPassed, td_alive}
 use Rattle.flat_bundles.proofs.Fills.{fill_either}
 use Rattle.flat_bundles.specs.Formed.{tagged, IsFormed, AreCodesShort, EveryBundleIsFormed, has_session, FormsHold, FormsAreKept}
 
@@ -218,7 +219,7 @@ module _ (o : Opening) (me : ℕ) (w : World) (l : Lawful o.machine w) (h : Form
 
   immutable_forms : (t slot : ℕ) → Passes ((row_of o me (call.ExportStateImmutable t slot)).items w) → FormsHold (After (call.ExportStateImmutable t slot))
   immutable_forms t slot ps =
-      let room : w.key_table.last_exported < 65535 = ltb-true _ _ ps.1.1.1.1.1.1.1.0 in
+      let room : w.key_table.last_exported < 65535 = ltb-true _ _ (search) in
       let few = l.tds.vps_few t in
       let begun : FormsHold (begin_session t w) = record {
         formed = h.formed;
@@ -232,22 +233,22 @@ module _ (o : Opening) (me : ℕ) (w : World) (l : Lawful o.machine w) (h : Form
 
   page_forms : (t gpa k slot : ℕ) → Passes ((row_of o me (call.ExportMem t gpa k slot)).items w) → FormsHold (After (call.ExportMem t gpa k slot))
   page_forms t gpa k slot ps =
-      let few : k < 4 = ltb-true _ _ ps.1.1.0 in
-      let low : gpa < 2 ^ 47 = ltb-true _ _ ps.1.0 in
+      let few : k < 4 = ltb-true _ _ (search) in
+      let low : gpa < 2 ^ 47 = ltb-true _ _ (search) in
       let v : World = count_export t k (entry_at w t 0 gpa).state (restate t (number_at 0 gpa) entry.ExportedBlockedW (w.tds.mig_epochs t) w) in
       made_forms v (record { formed = h.formed; position = h.position; session = h.session }) t slot (record (about 3 (w.tds.mig_epochs t)) { stream = k; gpa = gpa }) (payload_words (w.words (entry_at w t 0 gpa).page) 512) bundle.Memory refl
-      (record { page = eqb-true (gpa % 4096) 0 ps.1.1.1.0; stream = omega (arith, few); epoch = epoch_fits t; index = omega arith; info = omega arith; gpa = omega (arith, low); total = omega arith })
+      (record { page = eqb-true (gpa % 4096) 0 (search); stream = omega (arith, few); epoch = epoch_fits t; index = omega arith; info = omega arith; gpa = omega (arith, low); total = omega arith })
       (let all = length-map-range_with_len (w.words (entry_at w t 0 gpa).page) 0 512 in omega (arith, all))
-      (h.session t (abortable_session (w.tds.ops t) ps.1.1.1.1.1.1.1.0)) (l.sessions.session t) (counter_fits t k)
+      (h.session t (abortable_session (w.tds.ops t) (search))) (l.sessions.session t) (counter_fits t k)
 
   token_forms : (t slot first : ℕ) → Passes ((row_of o me (call.ExportTrack t slot first)).items w) → FormsHold (After (call.ExportTrack t slot first))
   token_forms t slot zero ps =
-      let less : w.tds.mig_epochs t < 2 ^ 32 - 2 = ltb-true _ _ ps.1.1.1.1.1.1.1.0 in
+      let less : w.tds.mig_epochs t < 2 ^ 32 - 2 = ltb-true _ _ (search) in
       made_forms (set_mig_epoch t (w.tds.mig_epochs t + 1) w) (record { formed = h.formed; position = h.position; session = h.session }) t slot (record (about 4 (w.tds.mig_epochs t + 1)) { total = bundles_so_far w t }) [] bundle.EpochToken refl
       (record { page = refl; stream = omega arith; epoch = omega (arith, less); index = omega arith; info = omega arith; gpa = omega arith; total = total_fits t }) refl
-      (h.session t (abortable_session (w.tds.ops t) ps.1.1.1.1.1.0)) (l.sessions.session t) (counter_fits t 0)
+      (h.session t (abortable_session (w.tds.ops t) (search))) (l.sessions.session t) (counter_fits t 0)
   token_forms t slot (suc n) ps =
-      let own : 1 ≤ w.tds.sessions t = h.session t (paused_session (w.tds.ops t) ps.1.1.1.1.1.0) in
+      let own : 1 ≤ w.tds.sessions t = h.session t (paused_session (w.tds.ops t) (search)) in
       made_forms (set_op t op.PostExport (set_mig_epoch t start_epoch w)) (over_forms (set_mig_epoch t start_epoch w) t op.PostExport (λ e. own) (record { formed = h.formed; position = h.position; session = h.session }))
       t slot (record (about 5 start_epoch) { total = bundles_so_far w t }) [] bundle.StartToken refl
       (record { page = refl; stream = omega arith; epoch = omega arith; index = omega arith; info = omega arith; gpa = omega arith; total = total_fits t }) refl own (l.sessions.session t) (counter_fits t 0)
@@ -257,20 +258,19 @@ module _ (o : Opening) (me : ℕ) (w : World) (l : Lawful o.machine w) (h : Form
       made_forms (note_td_export t w) (record { formed = h.formed; position = h.position; session = h.session }) t slot (about 1 (w.tds.mig_epochs t)) (payload_words (w.hidden.rtmrs t) 24) bundle.TdState refl
       (record { page = refl; stream = omega arith; epoch = epoch_fits t; index = omega arith; info = omega arith; gpa = omega arith; total = omega arith })
       (let all = length-map-range_with_len (w.hidden.rtmrs t) 0 24 in omega (arith, all))
-      (h.session t (paused_session (w.tds.ops t) ps.1.1.1.1.0)) (l.sessions.session t) (counter_fits t 0)
+      (h.session t (paused_session (w.tds.ops t) (search))) (l.sessions.session t) (counter_fits t 0)
 
   vp_forms : (t p slot : ℕ) → Passes ((row_of o me (call.ExportStateVp t p slot)).items w) → FormsHold (After (call.ExportStateVp t p slot))
   vp_forms t p slot ps =
-      let head = ps.1.1.1 in
-      let alive : IsAlive w.pages w.tds t = record { kind = tdr_kind _ head.0; life = living (w.tds.lives t) head.1.0 } in
-      let its = and_parts (same_kind (w.pages.kinds p) kind.Tdvpr) (w.pages.owners p == t) head.1.1.1.1.0 in
+      let td : TdPassed w t paused_ops = search in
+      let its = and_parts (same_kind (w.pages.kinds p) kind.Tdvpr) (w.pages.owners p == t) (search) in
       let low = h.position p in
       let same = mod-le (w.vps.positions p) (2 ^ 32) in
       made_forms (note_vp_export t p w) (record { formed = h.formed; position = h.position; session = h.session }) t slot (record (about 2 (w.tds.mig_epochs t)) { index = w.vps.indexes p; info = w.vps.positions p % 2 ^ 32 })
       (payload_words (w.hidden.registers p) 8) bundle.VcpuState refl
-      (record { page = refl; stream = omega arith; epoch = epoch_fits t; index = index_fits t p alive its.0 (eqb-true _ _ its.1); info = omega (arith, low, same); gpa = omega arith; total = omega arith })
+      (record { page = refl; stream = omega arith; epoch = epoch_fits t; index = index_fits t p (td_alive td) its.0 (eqb-true _ _ its.1); info = omega (arith, low, same); gpa = omega arith; total = omega arith })
       (let all = length-map-range_with_len (w.hidden.registers p) 0 8 in omega (arith, all))
-      (h.session t (paused_session (w.tds.ops t) head.1.1.1.0)) (l.sessions.session t) (counter_fits t 0)
+      (h.session t (paused_session (w.tds.ops t) td.op)) (l.sessions.session t) (counter_fits t 0)
 
   abort_forms : (t slot : ℕ) → Passes ((row_of o me (call.ImportAbort t slot)).items w) → FormsHold (After (call.ImportAbort t slot))
   abort_forms t slot ps =
@@ -283,7 +283,7 @@ module _ (o : Opening) (me : ℕ) (w : World) (l : Lawful o.machine w) (h : Form
           reserved = refl;
           counter = omega arith;
           iv = refl;
-          session = h.session t (given_up_session (w.tds.ops t) ps.1.1.1.1.0);
+          session = h.session t (given_up_session (w.tds.ops t) (search));
           session_small = l.sessions.session t;
           page = refl;
           stream = omega arith;
@@ -322,7 +322,7 @@ module _ (o : Opening) (me : ℕ) (w : World) (l : Lawful o.machine w) (h : Form
     position = λ q. by_test (q == page) (λ y. rw y (omega arith)) (λ y. rw y (h.position q));
     session = h.session;
   }
-  row-forms (call.ExportPause t) ps = other_forms (After (call.ExportPause t)) t refl refl (λ e. h.session t (live_session (w.tds.ops t) ps.1.1.1.1.0)) (λ x y. rw y refl) (λ x y. refl)
+  row-forms (call.ExportPause t) ps = other_forms (After (call.ExportPause t)) t refl refl (λ e. h.session t (live_session (w.tds.ops t) (search))) (λ x y. rw y refl) (λ x y. refl)
   row-forms (call.ExportAbort t) ps = over_forms w t op.Runnable (λ e. cc) h
   row-forms (call.ExportAbortByToken t slot) ps = over_forms w t op.Runnable (λ e. cc) h
   row-forms (call.ExportStateImmutable t slot) ps = immutable_forms t slot ps
@@ -331,17 +331,17 @@ module _ (o : Opening) (me : ℕ) (w : World) (l : Lawful o.machine w) (h : Form
   row-forms (call.ExportStateTd t slot) ps = td_forms t slot ps
   row-forms (call.ExportStateVp t p slot) ps = vp_forms t p slot ps
   row-forms (call.ImportStateImmutable t slot) ps =
-      let later = ltb-true w.key_table.last_imported _ ps.1.1.1.1.1.1.1.1.1.0 in
+      let later = ltb-true w.key_table.last_imported _ (search) in
       other_forms (After (call.ImportStateImmutable t slot)) t refl refl (λ e. let self = same_self t in rw self (omega (arith, later))) (λ x y. rw y refl) (λ x y. rw y refl)
   row-forms (call.ImportMem t slot page) ps = let x : Input = input_in (o.bundles slot) in imported_forms t x.header.stream x.header.gpa page x.words
   row-forms (call.ImportTrack t slot) ps =
       let x : Input = input_in (o.bundles slot) in
-      other_forms (After (call.ImportTrack t slot)) t refl refl (λ e. h.session t (token_session (is_start x.header) (w.tds.ops t) ps.1.1.1.1.1.1.1.0)) (λ x y. rw y refl) (λ x y. refl)
+      other_forms (After (call.ImportTrack t slot)) t refl refl (λ e. h.session t (token_session (is_start x.header) (w.tds.ops t) (search))) (λ x y. rw y refl) (λ x y. refl)
   row-forms (call.ImportStateTd t slot) ps =
-      other_forms (After (call.ImportStateTd t slot)) t refl refl (λ e. h.session t (td_state_session (w.tds.ops t) ps.1.1.1.1.1.1.1.0)) (λ x y. rw y refl) (λ x y. refl)
+      other_forms (After (call.ImportStateTd t slot)) t refl refl (λ e. h.session t (td_state_session (w.tds.ops t) (search))) (λ x y. rw y refl) (λ x y. refl)
   row-forms (call.ImportStateVp t p slot) ps =
       let x : Input = input_in (o.bundles slot) in
-      let few : x.header.info ≤ 256 = subst (λ (n : ℕ). x.header.info ≤ most_info n) (only_two x.header.kind ps.1.1.1.1.1.0) (input_form (o.bundles slot) ps.1.1.1.1.0).info in
+      let few : x.header.info ≤ 256 = subst (λ (n : ℕ). x.header.info ≤ most_info n) (only_two x.header.kind (search)) (input_form (o.bundles slot) (search)).info in
       record {
         formed = h.formed;
         position = λ q. by_test (q == p) (λ y. rw y few) (λ y. rw y (h.position q));

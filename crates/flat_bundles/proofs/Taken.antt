@@ -41,12 +41,12 @@ none-there bundles named slot is none there =
     cc
 
 pub calls-need : CallsNeedTheirOwn
-calls-need o me (call.ExportAbortByToken tdr named) slot w is none ps = none-there o.bundles named slot is none ps.1.0
-calls-need o me (call.ImportStateImmutable tdr named) slot w is none ps = none-there o.bundles named slot is none ps.1.0
-calls-need o me (call.ImportMem tdr named page) slot w is none ps = none-there o.bundles named slot is none ps.1.1.1.0
-calls-need o me (call.ImportTrack tdr named) slot w is none ps = none-there o.bundles named slot is none ps.1.0
-calls-need o me (call.ImportStateTd tdr named) slot w is none ps = none-there o.bundles named slot is none ps.1.0
-calls-need o me (call.ImportStateVp tdr vp named) slot w is none ps = none-there o.bundles named slot is none ps.1.1.1.0
+calls-need o me (call.ExportAbortByToken tdr named) slot w is none ps = none-there o.bundles named slot is none (search)
+calls-need o me (call.ImportStateImmutable tdr named) slot w is none ps = none-there o.bundles named slot is none (search)
+calls-need o me (call.ImportMem tdr named page) slot w is none ps = none-there o.bundles named slot is none (search)
+calls-need o me (call.ImportTrack tdr named) slot w is none ps = none-there o.bundles named slot is none (search)
+calls-need o me (call.ImportStateTd tdr named) slot w is none ps = none-there o.bundles named slot is none (search)
+calls-need o me (call.ImportStateVp tdr vp named) slot w is none ps = none-there o.bundles named slot is none (search)
 calls-need o me _ slot w is none ps = cc
 
 module _ (o : Opening) (calls : List (List Call)) (bundles : ℕ → Option Incoming) where

@@ -30,11 +30,6 @@ use Rattle.flat_core.proofs.Removals.{other_entry}
 use Rattle.flat_core.proofs.Trackings.{entered_later, epoch_later}
 use Rattle.flat_core.proofs.Sparing.{not_configured, counted}
 
-pub is_new : (s : OpState) → list_any (λ a. op_number a == op_number s) (op.Uninitialized ∷ []) ≡ true → has_not_run s ≡ true
-is_new op.Uninitialized h = refl
-is_new op.Initialized h = refl
-is_new _ h = cc
-
 pub is_begun : (s : OpState) → list_any (λ a. op_number a == op_number s) (op.Initialized ∷ []) ≡ true → has_not_run s ≡ true
 is_begun op.Initialized h = refl
 is_begun _ h = cc
@@ -201,21 +196,9 @@ module _ (m : Machine) (w : World) (la : Lawful m w) (le : LawfulEpochs w) (p : 
   host-off : (q : ℕ) → w.pages.kinds q ≡ kind.Nda → (t x : ℕ) → IsBuilt w t → (w.pages.owners x ≡ t) → (w.pages.kinds x ≡ kind.Nda → ⊥) → (x == q) ≡ false
   host-off q host t x bu own not = by_test (x == q) (λ y. absurd (not (ap w.pages.kinds (eqb-true x q y) ∙ host))) (λ n. n)
 
-  -- lives that aren't this one
-  pub life-off : (u : ℕ) (allowed : List LifeState) → list_any (λ b. life_number b == life_number life.KeysConfigured) allowed ≡ false → list_any (λ b. life_number b == life_number (w.tds.lives u)) allowed ≡ true → (t : ℕ) → IsBuilt w t → (t == u) ≡ false
-  life-off u allowed off on t bu = by_test (t == u) (λ y. absurd (not_configured allowed (w.tds.lives u) off on (ap w.tds.lives (sym (eqb-true t u y)) ∙ bu.life))) (λ n. n)
-
+  -- a TD that has run isn't one that hasn't
   pub op-off : (u : ℕ) → has_not_run (w.tds.ops u) ≡ true → (t : ℕ) → IsBuilt w t → (t == u) ≡ false
   op-off u on t bu = by_test (t == u) (λ y. absurd (let no : true ≡ false = sym on ∙ (ap (λ (z : ℕ). has_not_run (w.tds.ops z)) (sym (eqb-true t u y)) ∙ bu.running) in cc)) (λ n. n)
-
-  pub flushed-off : (u : ℕ) → (associated_in w.vps.associated (w.tds.vps u) == 0) ≡ true → (t v : ℕ) → IsHere w p t v → (t == u) ≡ false
-  flushed-off u none t v h = by_test (t == u)
-      (λ y. absurd (let bu = here-built w le p t v h in
-      let listed : list_any (λ q. q == v) (w.tds.vps (w.pages.owners v)) ≡ true = la.lists.vp v h.page.kind (subst (λ (z : ℕ). IsAlive w.pages w.tds z) (sym h.page.owner) (built-alive w t bu)) in
-      let here : list_any (λ q. q == v) (w.tds.vps u) ≡ true = subst (λ (z : ℕ). list_any (λ q. q == v) (w.tds.vps z) ≡ true) (h.page.owner ∙ eqb-true t u y) listed in
-      let some = counted w.vps.associated v p (w.tds.vps u) h.associated here in
-      let zero_is : associated_in w.vps.associated (w.tds.vps u) ≡ 0 = eqb-true _ 0 none in omega (arith, some, zero_is)))
-      (λ n. n)
 
   -- an act that changes lives or epochs of TDs that don't run, and entries that are FREE; and operation states, but a page
   -- that is exempt is so still

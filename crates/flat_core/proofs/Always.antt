@@ -12,7 +12,7 @@ use Rattle.td_words.specs.declared.replies.Outcome.{Outcome}
 use Rattle.td_words.specs.declared.replies.Outcome.TheVariants.{Stop, Max}
 use Rattle.td_words.specs.declared.replies.Reply.{Reply}
 use Rattle.td_words.specs.Packing.{Entry}
-use Rattle.flat_core.specs.World.{World, Tds}
+use Rattle.flat_core.specs.World.{World, Pages, Tds}
 use Rattle.flat_core.specs.Processor.{Held, Phase, Trying, Undoing, Answered, Translation, Walk, Guest, Entering, Lp}
 use Rattle.flat_core.specs.Opening.{Opening, Incoming}
 use Rattle.flat_core.specs.Row.{Row, OperationRow, after_move, Passes, Move, Attempts, Undoes, Refuses, Succeeds, Releases, Rests, next, next_in}
@@ -124,7 +124,7 @@ module _ (o : Opening) (s : State) (p : ℕ) (lawful : Lawful o.machine s.world)
       let ops = ap (λ (z : Tds). z.ops) f.1 in
       let epochs = ap (λ (z : Tds). z.epochs) f.1 in
       let entries = ap (λ (z : Tds). z.entries) f.1 in (
-        quiet-epochs o w lawful holds.epochs w' f.0 lives ops epochs f.2 f.3 f.4,
+        quiet-epochs o w lawful holds.epochs w' (ap (λ (z : Pages). z.kinds) f.0) (ap (λ (z : Pages). z.owners) f.0) lives ops epochs f.2 f.3 f.4,
         λ q. quiet-act o.machine w lawful holds.epochs q (s.lps q).cached (s.lps q).guest (λ x i. occ q x i) (holds.each q) w' f.0 lives ops epochs entries f.2 f.3 f.4,
       )
 
@@ -133,7 +133,7 @@ module _ (o : Opening) (s : State) (p : ℕ) (lawful : Lawful o.machine s.world)
   accept-world t v gpa = accepted (λ x. StillHold (tell_words [] (pass_operation v x))) (is_pending_at w t gpa) t gpa w
       (λ y. let w' : World = tell_words [] (pass_operation v (accept_page true t gpa w)) in
       let new : Entry = record { state = entry.Mapped; page = (entry_at w t 0 gpa).page; mark = 0 } in (
-        quiet-epochs o w lawful holds.epochs w' refl refl refl refl refl refl refl,
+        quiet-epochs o w lawful holds.epochs w' refl refl refl refl refl refl refl refl,
         λ q. accept-access o.machine w lawful holds.epochs q (s.lps q).cached (s.lps q).guest (λ x i. occ q x i) (holds.each q) w' t (number_at 0 gpa) new (pending_state (entry_at w t 0 gpa).state y) refl refl refl refl refl,
       ))
       (λ y. quiet-world (tell_words [] (pass_operation v w)) (refl, refl, refl, refl, refl))
@@ -150,7 +150,7 @@ module _ (o : Opening) (s : State) (p : ℕ) (lawful : Lawful o.machine s.world)
       subst (λ (x : Option Guest). LawfulTranslations ((row_of o p (call.VpFlush t v)).act w) p (drop_td t lp.cached) x) (sym none)
       (flush-access o p t v w holds.epochs lp.cached ps (subst (λ (x : Option Guest). LawfulTranslations w p lp.cached x) none own))
   own-act (call.HostRead page i) ps en none = own
-  own-act c ps en none = row-access o.machine w lawful holds.epochs p lp.cached lp.guest (λ z i. occ p z i) own o p c refl ps (λ t v most i. cc) (λ t v i. cc)
+  own-act c ps en none = row-access o.machine w lawful holds.epochs p lp.cached lp.guest (λ z i. occ p z i) own o p c ps (λ t v most i. cc) (λ t v i. cc)
 
   -- a call's moves
   of-call : (c : Call) (b : Bool) (phase : Phase Reply) (hs : List Held) → lp.guest ≡ None → lp.call.phase ≡ phase → lp.call.held ≡ hs → IsAfter (OfCall (row_of o p c) (next_in ((row_of o p c).items w) phase hs)) b
@@ -175,7 +175,7 @@ module _ (o : Opening) (s : State) (p : ℕ) (lawful : Lawful o.machine s.world)
       acts e =
           let ps : Passes ((row_of o p c).items w) = passed ((row_of o p c).items w) phase hs e in
           let others : (q : ℕ) → q ≢ p → LawfulTranslations ((row_of o p c).act w) q (s.lps q).cached (s.lps q).guest =
-          λ q n. row-access o.machine w lawful holds.epochs q (s.lps q).cached (s.lps q).guest (λ x i. occ q x i) (holds.each q) o p c refl ps (λ t v most i. n) (λ t v i. n) in
+          λ q n. row-access o.machine w lawful holds.epochs q (s.lps q).cached (s.lps q).guest (λ x i. occ q x i) (holds.each q) o p c ps (λ t v most i. n) (λ t v i. n) in
           elim (enters_or_none o p c) [
             | inl en ↦ (row-epochs o w lawful holds.epochs p c ps, plain ps en, others)
             | inr x ↦ (row-epochs o w lawful holds.epochs p c ps, enters ps x.0 x.1 x.2 x.3, others)

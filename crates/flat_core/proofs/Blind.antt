@@ -24,7 +24,7 @@ use Rattle.flat_core.specs.World.{World, Pages, Tds, Vps, Streams, KeyTable, put
 use Rattle.flat_core.specs.Opening.{Opening, Incoming, Agree}
 use Rattle.flat_core.specs.Row.{Row}
 use Rattle.flat_core.specs.Digests.{digest_word}
-use Rattle.flat_core.specs.Conditions.{same_kind, is_host_in, host_page, page_exclusive}
+use Rattle.flat_core.specs.Conditions.{same_kind, is_host_in}
 use Rattle.flat_core.specs.Effects.{put_in, new_td, take_page, map_page, set_page, begin_memory, clear_page, give_back, block_page, set_state, set_entry, unmap_page, end_memory, enter_guest, end_association, end_memory_in, set_life, set_op, set_vp_state, set_register, end_measurement, set_epoch, written_back, restate}
 use Rattle.flat_core.specs.HostRows.{host_read, host_write, read_metadata}
 use Rattle.flat_core.specs.TdRows.{create, configure_key, add_tdcx, initialize, read_conditions, field_value, read_td, finalize}
@@ -35,12 +35,12 @@ use Rattle.flat_core.specs.ExportRows.{add_stream, create_stream, write_blocked,
 use Rattle.flat_core.specs.BundleRows.{export_immutable, export_page, export_token, export_td, export_vp}
 use Rattle.flat_core.specs.ImportRows.{import_immutable, import_page, import_token, import_td, import_vp, commit_import, end_import, abort_import, abort_by_token}
 use Rattle.flat_core.specs.Exports.{is_dirty}
-use Rattle.flat_core.specs.Tree.{page_of_gpa, number_at, entry_at, same_state, state_in}
+use Rattle.flat_core.specs.Tree.{page_of_gpa, number_at, entry_at, same_state}
 use Rattle.flat_core.specs.Table.{row_of}
 use Rattle.flat_core.specs.Lawful.{IsAlive, LawfulPages, Lawful, is_free}
 use Rattle.flat_core.specs.Alike.{Alike, AreBlind, is_public, is_being_built}
-use Rattle.flat_core.proofs.Tests.{by_test, host_kind, tdr_kind, range_of}
-use Rattle.flat_core.proofs.Maps.{walk_passed}
+use Rattle.flat_core.proofs.Tests.{by_test, host_kind}
+use Rattle.flat_core.proofs.Passed.{TdPassed, td_alive, sept_passed}
 use Rattle.flat_core.proofs.AlikeParts.{host_public, tds_alike, op_alike, keys_alike, key_alike, vps_alike, hidden_alike, taken_alike, cleared_alike, left_alike, filled_alike, mapped_alike, measured_alike, with_entered, added_alike}
 use Rattle.flat_core.proofs.BundleBlind.{export_immutable-blind, export_page-blind, export_token-blind, export_td-blind, export_vp-blind}
 use Rattle.flat_core.proofs.ImportBlind.{AlikeIn, inputs_agree, import_immutable-blind, import_page-blind, import_token-blind, import_td-blind, import_vp-blind, commit_import-blind, end_import-blind, abort_import-blind, abort_by_token-blind}
@@ -128,7 +128,7 @@ create-blind m t h = record {
   items = λ v w a. rw (a.pages, a.key_table) refl;
   value = λ v w a. refl;
   cached = λ v w ts a. refl;
-  act = λ v w lv lw a ps. (let host : v.pages.kinds t ≡ kind.Nda = host_kind _ ps.1.1.0 in
+  act = λ v w lv lw a ps. (let host : v.pages.kinds t ≡ kind.Nda = host_kind _ (search) in
       record {
         size = a.size;
         vps = a.vps;
@@ -161,7 +161,7 @@ add_tdcx-blind m t p = record {
   act = λ v w lv lw a ps.
       let v1 : World = take_page p kind.Tdcx t v in
       let w1 : World = take_page p kind.Tdcx t w in
-      let a1 : Alike v1 w1 = taken_alike v w a p kind.Tdcx t 0 0 (host_kind _ ps.1.1.1.1.1.1.0) in
+      let a1 : Alike v1 w1 = taken_alike v w a p kind.Tdcx t 0 0 (host_kind _ (search)) in
       tds_alike (clear_page p v1) (clear_page p w1) (cleared_alike v1 w1 a1 p) (λ x. record x { controls = put x.controls t (x.controls t ++ p ∷ []) }) (λ x. refl);
 }
 
@@ -180,7 +180,7 @@ initialize-blind m t = record {
   act = λ v w lv lw a ps.
       let v1 : World = set_op t op.Initialized v in
       let w1 : World = set_op t op.Initialized w in
-      let a1 : Alike v1 w1 = op_alike v w a t op.Initialized (λ h. is_new (v.tds.ops t) ps.1.1.1.1.0) in
+      let a1 : Alike v1 w1 = op_alike v w a t op.Initialized (λ h. is_new (v.tds.ops t) (search)) in
       let a2 : Alike (set_epoch t 1 v1) (set_epoch t 1 w1) = tds_alike v1 w1 a1 (λ x. record x { epochs = put x.epochs t 1 }) (λ x. refl) in
       tds_alike (set_epoch t 1 v1) (set_epoch t 1 w1) a2 (λ x. record x { measured = put x.measured t [] }) (λ x. refl);
 }
@@ -248,7 +248,7 @@ create_vp-blind m t p = record {
   act = λ v w lv lw a ps.
       let v1 : World = take_page p kind.Tdvpr t v in
       let w1 : World = take_page p kind.Tdvpr t w in
-      let a1 : Alike v1 w1 = taken_alike v w a p kind.Tdvpr t 0 0 (host_kind _ ps.1.1.1.1.1.1.1.1.0) in
+      let a1 : Alike v1 w1 = taken_alike v w a p kind.Tdvpr t 0 0 (host_kind _ (search)) in
       added_alike (clear_page p v1) (clear_page p w1) t p (cleared_alike v1 w1 a1 p);
 }
 
@@ -292,11 +292,9 @@ add_sept-blind m t gpa level p = record {
   value = λ v w a. refl;
   cached = λ v w ts a. refl;
   act = λ v w lv lw a ps.
-      let at = range_of level 3 ps.1.1.0 in
-      let behind = walk_passed v t gpa (state_in v t gpa level (entry.Free ∷ []) ∷ page_exclusive p ∷ host_page v p ∷ []) level at.1 ps.1.1.1.1.1.1.1.1.1.1 in
       let n : ℕ = number_at level gpa in
       cleared_alike (map_page p kind.Ept entry.NlMapped t level n v) (map_page p kind.Ept entry.NlMapped t level n w)
-      (mapped_alike v w p kind.Ept entry.NlMapped t level n (host_kind _ behind.0.1.0) a) p;
+      (mapped_alike v w p kind.Ept entry.NlMapped t level n (host_kind _ (sept_passed m v t gpa level p ps).host) a) p;
 }
 
 pub read_sept-blind : (m : Machine) (t gpa level : ℕ) → AreBlind m (read_sept m t gpa level) (read_sept m t gpa level)
@@ -315,13 +313,12 @@ add_page-blind m t gpa p source = record {
   value = λ v w a. refl;
   cached = λ v w ts a. refl;
   act = λ v w lv lw a ps.
-      let behind = ps.1.1.1.1.1.1.1.1.1.1.1.1.1.1.1 in
       let v1 : World = map_page p kind.Reg entry.Mapped t 0 (number_at 0 gpa) v in
       let w1 : World = map_page p kind.Reg entry.Mapped t 0 (number_at 0 gpa) w in
-      let a1 : Alike v1 w1 = mapped_alike v w p kind.Reg entry.Mapped t 0 (number_at 0 gpa) (host_kind _ behind.1.1.0) a in
+      let a1 : Alike v1 w1 = mapped_alike v w p kind.Reg entry.Mapped t 0 (number_at 0 gpa) (host_kind _ (search)) a in
       let v2 : World = set_page p (v.words source) v1 in
       let w2 : World = set_page p (w.words source) w1 in
-      let a2 : Alike v2 w2 = filled_alike v1 w1 p (v.words source) (w.words source) (λ i. a.words source i (host_public v.pages v.tds source behind.1.0)) a1 in
+      let a2 : Alike v2 w2 = filled_alike v1 w1 p (v.words source) (w.words source) (λ i. a.words source i (host_public v.pages v.tds source (search))) a1 in
       let v3 : World = begin_memory t (page_of_gpa gpa) (v.words source) v2 in
       let w3 : World = begin_memory t (page_of_gpa gpa) (w.words source) w2 in
       measured_alike v3 w3 t (page_record gpa) (page_record gpa) refl (hidden_alike v2 w2 a2 v3.hidden w3.hidden);
@@ -333,7 +330,7 @@ augment_page-blind m t gpa p = record {
   items = λ v w a. rw (a.pages, a.tds) refl;
   value = λ v w a. refl;
   cached = λ v w ts a. refl;
-  act = λ v w lv lw a ps. mapped_alike v w p kind.Reg entry.Pending t 0 (number_at 0 gpa) (host_kind _ ps.1.1.1.1.1.1.1.1.1.1.1.1.1.0) a;
+  act = λ v w lv lw a ps. mapped_alike v w p kind.Reg entry.Pending t 0 (number_at 0 gpa) (host_kind _ (search)) a;
 }
 
 -- an entry gets another state for the page that it names, and that page another BEPOCH
@@ -447,11 +444,9 @@ extend-blind m t gpa = record {
   value = λ v w a. refl;
   cached = λ v w ts a. refl;
   act = λ v w lv lw a ps.
-      let head = ps.1.1.1 in
-      let behind = head.1.1.1.1.1.1.1 in
-      let alive : IsAlive v.pages v.tds t = record { kind = tdr_kind _ head.0; life = is_living (v.tds.lives t) head.1.0 } in
+      let td : TdPassed v t (op.Initialized ∷ []) = search in
       measured_alike v w t _ _
-      (ap (λ (bytes : List ℕ). chunk_records gpa bytes) (measured_chunk m v w t gpa lv a alive (is_begun (v.tds.ops t) head.1.1.1.0) (mapped_used (entry_at v t 0 gpa).state behind.0))) a;
+      (ap (λ (bytes : List ℕ). chunk_records gpa bytes) (measured_chunk m v w t gpa lv a (td_alive td) (is_begun (v.tds.ops t) td.op) (mapped_used (entry_at v t 0 gpa).state (search)))) a;
 }
 
 -- a page that becomes the page of a TD's next stream
@@ -480,7 +475,7 @@ create_stream-blind m t p = record {
   act = λ v w lv lw a ps.
       let v1 : World = take_page p kind.Migsc t v in
       let w1 : World = take_page p kind.Migsc t w in
-      let a1 : Alike v1 w1 = taken_alike v w a p kind.Migsc t 0 0 (host_kind _ ps.1.1.1.1.1.1.1.1.0) in
+      let a1 : Alike v1 w1 = taken_alike v w a p kind.Migsc t 0 0 (host_kind _ (search)) in
       streamed_alike (clear_page p v1) (clear_page p w1) t p (cleared_alike v1 w1 a1 p);
 }
 

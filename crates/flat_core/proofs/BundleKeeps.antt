@@ -1,32 +1,30 @@
 -- Each row that makes a bundle keeps what every world keeps.
-use Rattle.std.proofs.Common.{lit<, lit≤, ◌≡◌, ◌≢◌, refl, sym, ◌∙◌, subst, ap, ℕ, zero, suc, ◌+◌, ◌-◌, ◌%◌, ◌^◌, ◌<◌, ◌≤◌, List, ◌∷◌, length, get_or, Bool, true, false, not, if◌then◌else◌, ◌==◌, nat_lt, arith}
+use Rattle.std.proofs.Common.{lit<, lit≤, ◌≡◌, ◌≢◌, refl, sym, ◌∙◌, subst, ap, ℕ, zero, suc, ◌+◌, ◌-◌, ◌%◌, ◌^◌, ◌<◌, ◌≤◌, List, length, get_or, Bool, true, false, not, if◌then◌else◌, ◌==◌, nat_lt, arith}
 use Rattle.std.specs.List.{list_any, sum_by}
 use Rattle.std.proofs.lemmas.Bool.{eqb-true, eqb-false, ne_eqb, and_parts, ltb-true}
 use Rattle.td_words.specs.declared.names.PageKind.TheVariants as kind
 use Rattle.td_words.specs.declared.names.OpState.{OpState}
 use Rattle.td_words.specs.declared.names.OpState.TheVariants as op
 use Rattle.td_words.specs.declared.names.EntryState.TheVariants as entry
-use Rattle.td_words.specs.declared.names.Mode.TheVariants.{Exclusive}
 use Rattle.td_words.specs.declared.machines.Machine.{Machine}
 use Rattle.td_words.specs.Packing.{Entry, is_lawful_entry, is_exported}
 use Rattle.flat_core.specs.World.{World, Pages, Tds, Streams, put}
 use Rattle.flat_core.specs.Row.{Passes}
 use Rattle.flat_core.specs.Locks.{one_if}
-use Rattle.flat_core.specs.Conditions.{page_exclusive}
-use Rattle.flat_core.specs.Tree.{number_at, entry_at, state_in, has_page, named_page}
+use Rattle.flat_core.specs.Tree.{number_at, entry_at}
 use Rattle.flat_core.specs.Exports.{is_dirty, entries_where}
-use Rattle.flat_core.specs.Sessions.{stream_page, stream_counter, other_epoch, counter_room, unrestored_count, About, make_bundle, put_all, begin_session, set_mig_epoch, note_td_export, note_vp_export}
+use Rattle.flat_core.specs.Sessions.{stream_page, stream_counter, unrestored_count, About, make_bundle, put_all, begin_session, set_mig_epoch, note_td_export, note_vp_export}
 use Rattle.flat_core.specs.ExportRows.{abortable_ops}
-use Rattle.flat_core.specs.BundleRows.{session_ops, paused_ops, export_immutable, exportable, tracked_in, export_page, start_epoch, track_export, export_token, export_td, export_vp}
+use Rattle.flat_core.specs.BundleRows.{session_ops, paused_ops, export_immutable, exportable, export_page, start_epoch, track_export, export_token, export_td, export_vp}
 use Rattle.flat_core.specs.Lawful.{IsAlive, all_differ, LawfulStreams, Lawful, RowKeeps, is_free, is_node, is_exporting}
-use Rattle.flat_core.proofs.Tests.{by_test, tdr_kind, same_self, put_here}
+use Rattle.flat_core.proofs.Tests.{by_test, same_self, put_here}
 use Rattle.flat_core.proofs.Exports.{IsCounted, counts_of, counted_still, counted_on, none_dirty_of}
 use Rattle.flat_core.proofs.Parts.{untouched, streams_kept, session_at, sessions_of, same_shape, session_kept, built_kept, op_kept}
 use Rattle.flat_core.proofs.Streams.{stream_owned, sum_same, sum_without, sum_zero, sum_raised, page_among, stream_among, none_elsewhere}
-use Rattle.flat_core.proofs.Maps.{behind_walk}
 use Rattle.flat_core.proofs.EntryStates.{with_entry, counted_entry_kept, moved, others_counted}
 use Rattle.flat_core.proofs.Numbers.{few_where}
-use Rattle.flat_core.proofs.Ranges.{begun_of, living, paused_exporting, abortable_exporting, export_passed, entry_alive, can_export}
+use Rattle.flat_core.proofs.Ranges.{begun_of, paused_exporting, abortable_exporting, export_passed, entry_alive, can_export}
+use Rattle.flat_core.proofs.Passed.{TdPassed, td_alive}
 
 -- one more at a page, on both sides or on the greater one
 more_each : (f g : ℕ → ℕ) → ((q : ℕ) → f q ≤ g q) → (p q : ℕ) → put f p (f p + 1) q ≤ put g p (g p + 1) q
@@ -140,13 +138,14 @@ module _ (m : Machine) (w : World) (t : ℕ) (l : Lawful m w) (alive : IsAlive w
 pub export_immutable-keeps : (m : Machine) (t slot : ℕ) → RowKeeps m (export_immutable m t slot)
 export_immutable-keeps m t slot = record {
   act = λ w l ps.
-      let alive : IsAlive w.pages w.tds t = record { kind = tdr_kind _ ps.1.0; life = living (w.tds.lives t) ps.1.1.0 } in
-      let begun = begun_of session_ops (w.tds.ops t) refl ps.1.1.1.1.0 in
-      let few : 0 < length (w.tds.streams t) = ltb-true _ _ ps.1.1.1.1.1.0 in
-      let restored : unrestored_count w t ≡ 0 = eqb-true _ 0 ps.1.1.1.1.1.1.0 in
-      let room : w.key_table.last_exported < 65535 = ltb-true _ _ ps.1.1.1.1.1.1.1.0 in
-      let none : stream_counter (begin_session t w) t 0 ≡ 0 = first_counter m w t l alive ps.1.1.1.0 begun few restored room in
-      bundle_kept m (begin_session t w) t slot _ _ (session_begun m w t l alive ps.1.1.1.0 begun few restored room)
+      let td : TdPassed w t session_ops = search in
+      let alive = td_alive td in
+      let begun = begun_of session_ops (w.tds.ops t) refl td.op in
+      let few : 0 < length (w.tds.streams t) = ltb-true _ _ (search) in
+      let restored : unrestored_count w t ≡ 0 = eqb-true _ 0 (search) in
+      let room : w.key_table.last_exported < 65535 = ltb-true _ _ (search) in
+      let none : stream_counter (begin_session t w) t 0 ≡ 0 = first_counter m w t l alive td.built begun few restored room in
+      bundle_kept m (begin_session t w) t slot _ _ (session_begun m w t l alive td.built begun few restored room)
       (record { kind = alive.kind; life = alive.life }) (λ e. let no : op.LiveExport ≡ op.Uninitialized = rw (same_self t) at e in cc) few (omega (arith, none));
   to_tell = λ w. refl;
 }
@@ -249,15 +248,11 @@ pub export_page-keeps : (m : Machine) (t gpa k slot : ℕ) → RowKeeps m (expor
 export_page-keeps m t gpa k slot = record {
   act = λ w l ps.
       let e : Entry = entry_at w t 0 gpa in
-      let head = ps.1.1.1.1 in
       let p = export_passed m w t gpa k slot ps in
-      let behind = behind_walk w t gpa 0
-      (has_page w t gpa 0 ∷ named_page w t gpa 0 Exclusive ∷ state_in w t gpa 0 (exportable (w.tds.ops t)) ∷ other_epoch w t gpa ∷ page_exclusive (stream_page w t k) ∷ counter_room w t k ∷ tracked_in (w.tds.ops t) w t e.page)
-      head.1.1.1.1.1 in
       let r = can_export (w.tds.ops t) e.state p.state in
       let alive = entry_alive w t gpa abortable_ops (exportable (w.tds.ops t)) p in
       untouched m _ _ refl
-      (page_exported m w t (number_at 0 gpa) k l alive (abortable_exporting (w.tds.ops t) p.op) (ltb-true _ _ head.1.1.1.1.0) r.used (sym r.same_level) r.dirt (ltb-true _ _ behind.1.1.1.0));
+      (page_exported m w t (number_at 0 gpa) k l alive (abortable_exporting (w.tds.ops t) p.op) (ltb-true _ _ (search)) r.used (sym r.same_level) r.dirt (ltb-true _ _ (search)));
   to_tell = λ w. refl;
 }
 
@@ -269,21 +264,23 @@ epoch_set m w t epoch l built begun small =
 
 token_kept : (m : Machine) (w : World) (t slot start : ℕ) → Lawful m w → Passes ((export_token m t slot start).items w) → Lawful m ((export_token m t slot start).act w)
 token_kept m w t slot zero l ps =
-    let head = ps.1.1 in
-    let room : w.tds.mig_epochs t < 2 ^ 32 - 2 = ltb-true _ _ head.1.1.1.1.1.0 in
-    let exporting = abortable_exporting (w.tds.ops t) head.1.1.1.0 in
-    bundle_kept m (set_mig_epoch t (w.tds.mig_epochs t + 1) w) t slot _ _ (epoch_set m w t (w.tds.mig_epochs t + 1) l head.1.1.0 (omega arith) (omega (arith, room)))
-    (record { kind = tdr_kind _ head.0; life = living (w.tds.lives t) head.1.0 }) (exporting_begun (w.tds.ops t) exporting) (l.sessions.first_stream t exporting) (ltb-true _ _ head.1.1.1.1.0)
+    let td : TdPassed w t abortable_ops = search in
+    let alive = td_alive td in
+    let room : w.tds.mig_epochs t < 2 ^ 32 - 2 = ltb-true _ _ (search) in
+    let exporting = abortable_exporting (w.tds.ops t) td.op in
+    bundle_kept m (set_mig_epoch t (w.tds.mig_epochs t + 1) w) t slot _ _ (epoch_set m w t (w.tds.mig_epochs t + 1) l td.built (omega arith) (omega (arith, room)))
+    (record { kind = alive.kind; life = alive.life }) (exporting_begun (w.tds.ops t) exporting) (l.sessions.first_stream t exporting) (ltb-true _ _ (search))
 token_kept m w t slot (suc n) l ps =
-    let head = ps.1.1 in
+    let td : TdPassed w t paused_ops = search in
+    let alive = td_alive td in
     let w1 : World = set_mig_epoch t start_epoch w in
-    let l1 : Lawful m w1 = epoch_set m w t start_epoch l head.1.1.0 (lit≤ tt) (lit< tt) in
-    let begun = begun_of paused_ops (w.tds.ops t) refl head.1.1.1.0 in
+    let l1 : Lawful m w1 = epoch_set m w t start_epoch l td.built (lit≤ tt) (lit< tt) in
+    let begun = begun_of paused_ops (w.tds.ops t) refl td.op in
     bundle_kept m (track_export t (suc n) w) t slot _ _
-    (op_kept m w1 t head.1.1.0 l1 op.PostExport (l.tds.epoch_begun t begun) (λ e. (session_at w1.tds w1.key_table l1.sessions t).2 (paused_exporting (w.tds.ops t) head.1.1.1.0)) (λ e. cc) (l.tds.vps_few t) (λ e. cc))
-    (record { kind = tdr_kind _ head.0; life = living (w.tds.lives t) head.1.0 }) (λ e. let no : op.PostExport ≡ op.Uninitialized = rw (same_self t) at e in cc)
-    (l.sessions.first_stream t (paused_exporting (w.tds.ops t) head.1.1.1.0))
-    (ltb-true _ _ head.1.1.1.1.0)
+    (op_kept m w1 t td.built l1 op.PostExport (l.tds.epoch_begun t begun) (λ e. (session_at w1.tds w1.key_table l1.sessions t).2 (paused_exporting (w.tds.ops t) td.op)) (λ e. cc) (l.tds.vps_few t) (λ e. cc))
+    (record { kind = alive.kind; life = alive.life }) (λ e. let no : op.PostExport ≡ op.Uninitialized = rw (same_self t) at e in cc)
+    (l.sessions.first_stream t (paused_exporting (w.tds.ops t) td.op))
+    (ltb-true _ _ (search))
 
 token_tells : (m : Machine) (w : World) (t slot start : ℕ) → ((export_token m t slot start).act w).outgoing.to_tell ≡ w.outgoing.to_tell
 token_tells m w t slot zero = refl
@@ -296,25 +293,26 @@ export_token-keeps m t slot start = record { act = λ w l ps. token_kept m w t s
 pub export_td-keeps : (m : Machine) (t slot : ℕ) → RowKeeps m (export_td m t slot)
 export_td-keeps m t slot = record {
   act = λ w l ps.
-      let built = ps.1.1.1.0 in
-      let exporting = paused_exporting (w.tds.ops t) ps.1.1.1.1.0 in
+      let td : TdPassed w t paused_ops = search in
+      let alive = td_alive td in
+      let exporting = paused_exporting (w.tds.ops t) td.op in
       bundle_kept m (note_td_export t w) t slot _ _
-      (built_kept m w t built l (note_td_export t w).tds (same_shape m w t built l _ refl refl refl refl refl refl) (λ x. refl) refl l.tds.epoch l.tds.epoch_begun (λ x n. rw n refl) (λ x h. h) (λ x e. e))
-      (record { kind = tdr_kind _ ps.1.0; life = living (w.tds.lives t) ps.1.1.0 }) (exporting_begun (w.tds.ops t) exporting) (l.sessions.first_stream t exporting)
-      (ltb-true _ _ ps.1.1.1.1.1.1.0);
+      (built_kept m w t td.built l (note_td_export t w).tds (same_shape m w t td.built l _ refl refl refl refl refl refl) (λ x. refl) refl l.tds.epoch l.tds.epoch_begun (λ x n. rw n refl) (λ x h. h) (λ x e. e))
+      (record { kind = alive.kind; life = alive.life }) (exporting_begun (w.tds.ops t) exporting) (l.sessions.first_stream t exporting)
+      (ltb-true _ _ (search));
   to_tell = λ w. refl;
 }
 
 pub export_vp-keeps : (m : Machine) (t v slot : ℕ) → RowKeeps m (export_vp m t v slot)
 export_vp-keeps m t v slot = record {
   act = λ w l ps.
-      let head = ps.1.1.1 in
-      let built = head.1.1.0 in
-      let exporting = paused_exporting (w.tds.ops t) head.1.1.1.0 in
+      let td : TdPassed w t paused_ops = search in
+      let alive = td_alive td in
+      let exporting = paused_exporting (w.tds.ops t) td.op in
       bundle_kept m (note_vp_export t v w) t slot _ _
       (untouched m (record w { tds = (note_vp_export t v w).tds }) _ refl
-      (built_kept m w t built l (note_vp_export t v w).tds (same_shape m w t built l _ refl refl refl refl refl refl) (λ x. refl) refl l.tds.epoch l.tds.epoch_begun (λ x n. rw n refl) (λ x h. h) (λ x e. e)))
-      (record { kind = tdr_kind _ head.0; life = living (w.tds.lives t) head.1.0 }) (exporting_begun (w.tds.ops t) exporting) (l.sessions.first_stream t exporting)
-      (ltb-true _ _ head.1.1.1.1.1.1.0);
+      (built_kept m w t td.built l (note_vp_export t v w).tds (same_shape m w t td.built l _ refl refl refl refl refl refl) (λ x. refl) refl l.tds.epoch l.tds.epoch_begun (λ x n. rw n refl) (λ x h. h) (λ x e. e)))
+      (record { kind = alive.kind; life = alive.life }) (exporting_begun (w.tds.ops t) exporting) (l.sessions.first_stream t exporting)
+      (ltb-true _ _ (search));
   to_tell = λ w. refl;
 }

@@ -152,17 +152,17 @@ tracked_holds op.LiveExport w t page = (tt, tt)
 tracked_holds _ w t page = tt
 
 row_holds : (o : Opening) (me : ℕ) (c : Call) (v w : World) → ArgumentsHold ((row_of o me c).items v) → ArgumentsHold ((row_of o me c).items w)
-row_holds o me (call.PhymemPageReclaim t page) v w h = (h.0, (h.1.0, (tt, (tt, reclaim_holds v w t page (page == t) h.1.1.1.1))))
+row_holds o me (call.PhymemPageReclaim t page) v w h = (h.0, (h.1.0, (tt, (tt, reclaim_holds v w t page (page == t) (search)))))
 row_holds o me (call.MngRd t field.Life) v w h = (h.0, (tt, tt))
 row_holds o me (call.MngRd t field.Op) v w h = (h.0, (tt, (tt, (tt, (tt, tt)))))
 row_holds o me (call.MngRd t field.Epoch) v w h = (h.0, (tt, (tt, (tt, (tt, tt)))))
 row_holds o me (call.MngRd t field.Mrtd) v w h = (h.0, (tt, (tt, (tt, (tt, tt)))))
-row_holds o me (call.MemSeptAdd t gpa level page) v w h = (h.0, (h.1.0, (h.1.1.0, (h.1.1.1.0, (h.1.1.1.1.0, (h.1.1.1.1.1.0, (tt, (tt, (tt, (tt, walk_holds (is_passed w t gpa) (levels_above level) (state_in w t gpa level (entry.Free ∷ []) ∷ page_exclusive page ∷ host_page w page ∷ []) (tt, (tt, tt))))))))))))
-row_holds o me (call.MemSeptRd t gpa level) v w h = (h.0, (h.1.0, (h.1.1.0, (h.1.1.1.0, (tt, (tt, (tt, (tt, walk_alone_holds (is_passed w t gpa) (levels_above level)))))))))
-row_holds o me (call.MemSeptRemove t gpa level) v w h = (h.0, (h.1.0, (h.1.1.0, (h.1.1.1.0, (tt, (tt, (tt, (tt, walk_holds (is_passed w t gpa) (levels_above level) (state_in w t gpa level (entry.NlBlocked ∷ []) ∷ named_page w t gpa level Exclusive ∷ empty_below w t gpa level ∷ tracked_page w t (entry_at w t level gpa).page ∷ []) (tt, (tt, (tt, tt)))))))))))
-row_holds o me (call.MemRangeBlock t gpa level) v w h = (h.0, (h.1.0, (h.1.1.0, (h.1.1.1.0, (tt, (tt, (tt, (tt, walk_holds (is_passed w t gpa) (levels_above level) (state_in w t gpa level open_states ∷ named_page w t gpa level Exclusive ∷ []) (tt, tt)))))))))
-row_holds o me (call.MemRangeUnblock t gpa level) v w h = (h.0, (h.1.0, (h.1.1.0, (h.1.1.1.0, (tt, (tt, (tt, (tt, walk_holds (is_passed w t gpa) (levels_above level) (state_in w t gpa level blocked_states ∷ named_page w t gpa level Exclusive ∷ tracked_page w t (entry_at w t level gpa).page ∷ []) (tt, (tt, tt))))))))))
-row_holds o me (call.ExportMem t gpa k slot) v w h = (h.0, (h.1.0, (h.1.1.0, (h.1.1.1.0, (tt, (tt, (tt, (tt, (tt, (tt, (tt, (tt, (tt, (tt, (tt, (tt, tracked_holds (w.tds.ops t) w t (entry_at w t 0 gpa).page))))))))))))))))
+row_holds o me (call.MemSeptAdd t gpa level page) v w h = search (walk_holds (is_passed w t gpa) (levels_above level) (state_in w t gpa level (entry.Free ∷ []) ∷ page_exclusive page ∷ host_page w page ∷ []) (tt, (tt, tt)))
+row_holds o me (call.MemSeptRd t gpa level) v w h = search (walk_alone_holds (is_passed w t gpa) (levels_above level))
+row_holds o me (call.MemSeptRemove t gpa level) v w h = search (walk_holds (is_passed w t gpa) (levels_above level) (state_in w t gpa level (entry.NlBlocked ∷ []) ∷ named_page w t gpa level Exclusive ∷ empty_below w t gpa level ∷ tracked_page w t (entry_at w t level gpa).page ∷ []) (tt, (tt, (tt, tt))))
+row_holds o me (call.MemRangeBlock t gpa level) v w h = search (walk_holds (is_passed w t gpa) (levels_above level) (state_in w t gpa level open_states ∷ named_page w t gpa level Exclusive ∷ []) (tt, tt))
+row_holds o me (call.MemRangeUnblock t gpa level) v w h = search (walk_holds (is_passed w t gpa) (levels_above level) (state_in w t gpa level blocked_states ∷ named_page w t gpa level Exclusive ∷ tracked_page w t (entry_at w t level gpa).page ∷ []) (tt, (tt, tt)))
+row_holds o me (call.ExportMem t gpa k slot) v w h = search (tracked_holds (w.tds.ops t) w t (entry_at w t 0 gpa).page)
 row_holds o me (call.ExportTrack t slot zero) v w h = h
 row_holds o me (call.ExportTrack t slot (suc n)) v w h = h
 row_holds o me (call.ImportMem t slot page) v w h = import_page-holds o.machine (o.bundles slot) t slot page v w h

@@ -2,7 +2,7 @@
 use Rattle.std.proofs.Common.{◌≡◌, ◌≢◌, inl, inr, refl, sym, ◌∙◌, subst, ap, ℕ, zero, suc, ◌+◌, ◌-◌, ◌*◌, ◌<◌, ◌≤◌, List, [], ◌∷◌, ◌++◌, length, drop, replicate, Option, Some, None, option_map, Bool, true, false, ◌==◌, arith, length-append}
 use Rattle.std.specs.List.{list_any}
 use Rattle.std.specs.Prelude.{nat_le, slice_get, IfSome}
-use Rattle.std.proofs.lemmas.Bool.{eq-eqb, eqb-true, eqb-false, ne_eqb, and_parts}
+use Rattle.std.proofs.lemmas.Bool.{eq-eqb, eqb-true, eqb-false, ne_eqb}
 use Rattle.std.proofs.lemmas.Bool.Decides.{nat_tests}
 use Rattle.td_words.specs.declared.names.Mode.{Mode}
 use Rattle.td_words.specs.declared.names.Mode.TheVariants.{Shared, Exclusive}
@@ -15,8 +15,6 @@ use Rattle.td_words.specs.declared.replies.Outcome.{Outcome}
 use Rattle.td_words.specs.declared.replies.Outcome.TheVariants.{EptViolation, Stop, Max}
 use Rattle.td_words.specs.declared.replies.Reply.{Reply}
 use Rattle.td_words.specs.declared.replies.Reply.TheVariants.{Done, Exited}
-use Rattle.td_words.specs.declared.names.PageKind.{PageKind}
-use Rattle.td_words.specs.declared.names.PageKind.TheVariants as kind
 use Rattle.td_words.specs.declared.names.LifeState.{LifeState}
 use Rattle.td_words.specs.declared.names.LifeState.TheVariants as life
 use Rattle.td_words.specs.declared.names.VcpuState.{VcpuState}
@@ -24,7 +22,7 @@ use Rattle.td_words.specs.declared.names.OpState.{OpState}
 use Rattle.td_words.specs.declared.names.VcpuState.TheVariants as vcpu
 use Rattle.td_words.specs.NameNumber.{life_number, op_number}
 use Rattle.td_words.specs.Packing.{Entry}
-use Rattle.flat_core.specs.Conditions.{same_kind, same_vp_state, running_ops}
+use Rattle.flat_core.specs.Conditions.{same_vp_state, running_ops}
 use Rattle.flat_core.specs.Tree.{page_of_gpa}
 use Rattle.flat_core.specs.World.{World, Pages, Vps, put}
 use Rattle.flat_core.specs.Processor.{LockId, OfPage, OfOp, name_of, Held, Phase, Trying, Undoing, Answered, Progress, Translation, Walk, Guest, Entering, new_guest, Lp, idle, nothing_yet}
@@ -44,6 +42,7 @@ use Rattle.flat_core.specs.Inside.{WalkFits, OperationAt, DueAt, PhaseAt, GuestA
 use Rattle.flat_core.specs.Bounds.{call_left, private_used, operation_used, due_used, phase_used, guest_left, line_left, left_of, events_left, TimelyEventsRunOut, EventsRunOut, RunsEnd, IsBounded, EntriesAreBounded}
 use Rattle.flat_core.specs.Entered.{EventsSpare}
 use Rattle.flat_core.proofs.Induction.{event_keeps, in_runs, play_append}
+use Rattle.flat_core.proofs.Passed.{vp_of}
 use Rattle.flat_core.proofs.Tests.{by_test, put_here, tdr_kind, some_same}
 use Rattle.flat_core.proofs.Keeps.{first-lawful}
 use Rattle.flat_core.proofs.Kept.{events_keep, timely_occupied, timely_runs}
@@ -456,22 +455,16 @@ ready_state : (s : VcpuState) → same_vp_state s vcpu.Ready ≡ true → s ≡ 
 ready_state vcpu.Ready e = refl
 ready_state vcpu.Created e = cc
 
-vpr_kind : (k : PageKind) → same_kind k kind.Tdvpr ≡ true → k ≡ kind.Tdvpr
-vpr_kind kind.Tdvpr e = refl
-vpr_kind kind.Nda e = cc
-vpr_kind _ e = cc
-
 -- the act of VP.ENTER leaves its virtual processor in guest
 enter_occupies : (o : Opening) (me t v most : ℕ) (w : World) → Passes ((row_of o me (call.VpEnter t v most)).items w) → IsOccupied ((row_of o me (call.VpEnter t v most)).act w) me t v
 enter_occupies o me t v most w ps =
-    let page = and_parts (same_kind (w.pages.kinds v) kind.Tdvpr) (w.pages.owners v == t) ps.1.1.1.1.1.1.1.1.0 in
     let here : (v == v) ≡ true = eq-eqb v v refl in
     record {
-      tdr = tdr_kind _ ps.1.1.1.1.0;
-      life = running_life _ ps.1.1.1.1.1.0;
-      running = ps.1.1.1.1.1.1.1.0;
-      page = record { kind = vpr_kind _ page.0; owner = eqb-true _ t page.1 };
-      ready = ready_state _ ps.1.1.1.1.1.1.1.1.1.0;
+      tdr = tdr_kind _ (search);
+      life = running_life _ (search);
+      running = search;
+      page = vp_of w t v (search);
+      ready = ready_state _ (search);
       associated = rw here refl;
       epoch = w.tds.epochs t;
       entered = rw here refl;

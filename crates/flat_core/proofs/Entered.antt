@@ -53,7 +53,7 @@ row_entered o me (call.VpCreate t page) w x e off ps none h = by_test (x == page
     (λ n. (rw n at h, rw n refl))
 row_entered o me (call.VpFlush t v) w x e off ps none h = by_test (x == v)
     (λ y. absurd (let at : w.vps.entered v ≡ Some e = ap w.vps.entered (sym (eqb-true x v y)) ∙ h in
-    let no : None ≡ Some e = sym (none v (flushed_here me (w.vps.associated v) ps.1.1.1.1.1.1.0 ps.1.1.1.1.1.1.1.0)) ∙ at in cc))
+    let no : None ≡ Some e = sym (none v (flushed_here me (w.vps.associated v) (search) (search))) ∙ at in cc))
     (λ n. (h, rw n refl))
 row_entered o me (call.ExportTrack t slot zero) w x e off ps none h = (h, refl)
 row_entered o me (call.ExportTrack t slot (suc n)) w x e off ps none h = (h, refl)

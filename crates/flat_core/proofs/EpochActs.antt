@@ -1,5 +1,5 @@
 -- What keeps what is said of epochs and associations.
-use Rattle.std.proofs.Common.{◌≡◌, ◌⊎◌, inl, inr, refl, sym, ◌∙◌, ap, ℕ, suc, ◌≤◌, Option, Some, None, true, false, ◌==◌, arith}
+use Rattle.std.proofs.Common.{◌≡◌, ◌≢◌, ◌⊎◌, inl, inr, refl, sym, ◌∙◌, ap, ℕ, suc, ◌≤◌, Option, Some, None, true, false, ◌==◌, arith}
 use Rattle.std.proofs.lemmas.Bool.{eqb-true}
 use Rattle.td_words.specs.declared.names.PageKind.{PageKind}
 use Rattle.td_words.specs.declared.names.PageKind.TheVariants as kind
@@ -7,9 +7,9 @@ use Rattle.td_words.specs.declared.names.LifeState.{LifeState}
 use Rattle.td_words.specs.declared.names.LifeState.TheVariants as life
 use Rattle.td_words.specs.declared.names.OpState.{OpState}
 use Rattle.td_words.specs.declared.names.OpState.TheVariants as op
-use Rattle.flat_core.specs.World.{World, Pages, Tds, Vps}
+use Rattle.flat_core.specs.World.{World, Pages}
 use Rattle.flat_core.specs.Opening.{Opening}
-use Rattle.flat_core.specs.Effects.{take_node, unmap_page}
+use Rattle.flat_core.specs.Effects.{take_node}
 use Rattle.flat_core.specs.Lawful.{Lawful, IsPageOf}
 use Rattle.flat_core.specs.Access.{LawfulEpochs, has_not_run}
 use Rattle.flat_core.proofs.Tests.{by_test}
@@ -47,47 +47,43 @@ module _ (w w' : World) (le : LawfulEpochs w) (each : (t v : ℕ) → w'.pages.k
   }
 
 module _ (o : Opening) (w : World) (la : Lawful o.machine w) (le : LawfulEpochs w) where
-  pub quiet-epochs : (w' : World) → w'.pages ≡ w.pages → w'.tds.lives ≡ w.tds.lives → w'.tds.ops ≡ w.tds.ops → w'.tds.epochs ≡ w.tds.epochs → w'.vps.associated ≡ w.vps.associated → w'.vps.lasts ≡ w.vps.lasts → w'.vps.entered ≡ w.vps.entered → LawfulEpochs w'
-  quiet-epochs w' pg lv os ep assoc ls et =
+  pub quiet-epochs : (w' : World) → w'.pages.kinds ≡ w.pages.kinds → w'.pages.owners ≡ w.pages.owners → w'.tds.lives ≡ w.tds.lives → w'.tds.ops ≡ w.tds.ops → w'.tds.epochs ≡ w.tds.epochs
+      → w'.vps.associated ≡ w.vps.associated → w'.vps.lasts ≡ w.vps.lasts → w'.vps.entered ≡ w.vps.entered → LawfulEpochs w'
+  quiet-epochs w' kd ow lv os ep assoc ls et =
       le-frame w w' le
-      (λ t v k pa. old (ap (λ (z : Pages). z.kinds t) (sym pg) ∙ k) (record { kind = ap (λ (z : Pages). z.kinds v) (sym pg) ∙ pa.kind; owner = ap (λ (z : Pages). z.owners v) (sym pg) ∙ pa.owner }) (ap (λ (z : ℕ → ℕ). z v) ls) (ap (λ (z : ℕ → Option ℕ). z v) et) (ap (λ (z : ℕ → Option ℕ). z v) assoc)
+      (λ t v k pa. old (ap (λ (z : ℕ → PageKind). z t) (sym kd) ∙ k) (record { kind = ap (λ (z : ℕ → PageKind). z v) (sym kd) ∙ pa.kind; owner = ap (λ (z : ℕ → ℕ). z v) (sym ow) ∙ pa.owner })
+      (ap (λ (z : ℕ → ℕ). z v) ls) (ap (λ (z : ℕ → Option ℕ). z v) et) (ap (λ (z : ℕ → Option ℕ). z v) assoc)
       (inl (ap (λ (z : ℕ → ℕ). z t) ep)) (λ p n l b. (ap (λ (z : ℕ → LifeState). z t) lv ∙ l, ap (λ (z : ℕ → OpState). has_not_run (z t)) os ∙ b)))
-      (λ t k u. ap (λ (z : ℕ → ℕ). z t) ep ∙ le.early t (ap (λ (z : Pages). z.kinds t) (sym pg) ∙ k) (ap (λ (z : ℕ → OpState). z t) (sym os) ∙ u))
+      (λ t k u. ap (λ (z : ℕ → ℕ). z t) ep ∙ le.early t (ap (λ (z : ℕ → PageKind). z t) (sym kd) ∙ k) (ap (λ (z : ℕ → OpState). z t) (sym os) ∙ u))
 
   -- a TD that has a virtual processor isn't one whose page was the host's
   pub no-host : (q t v : ℕ) → w.pages.kinds q ≡ kind.Nda → w.pages.kinds t ≡ kind.Tdr → (t == q) ≡ false
   no-host q t v host k = by_test (t == q) (λ y. absurd (let no : kind.Tdr ≡ kind.Nda = sym k ∙ (ap w.pages.kinds (eqb-true t q y) ∙ host) in cc)) (λ n. n)
 
-  -- a page becomes one of another kind; TDs and virtual processors but its own stay
+  -- a page becomes one of another kind
   module _ (q : ℕ) (k' : PageKind) (t' level number : ℕ) (w' : World) (pg : w'.pages ≡ (take_node q k' t' level number w).pages) where
     pub kind-at : (x : ℕ) → (x == q) ≡ false → w'.pages.kinds x ≡ w.pages.kinds x
     kind-at x n = ap (λ (z : Pages). z.kinds x) pg ∙ rw n refl
 
-    owner-at : (x : ℕ) → (x == q) ≡ false → w'.pages.owners x ≡ w.pages.owners x
-    owner-at x n = ap (λ (z : Pages). z.owners x) pg ∙ rw n refl
-
-    pub kind-here : {k : PageKind} (x : ℕ) → w'.pages.kinds x ≡ k → (x == q) ≡ true → k' ≡ k
+    kind-here : {k : PageKind} (x : ℕ) → w'.pages.kinds x ≡ k → (x == q) ≡ true → k' ≡ k
     kind-here x e y = sym (rw y refl) ∙ (sym (ap (λ (z : Pages). z.kinds x) pg) ∙ e)
 
-    pub page-off : (v : ℕ) (t : ℕ) → IsPageOf w'.pages t v kind.Tdvpr → (k' ≡ kind.Tdvpr → ⊥) → (v == q) ≡ false
+    pub page-off : (v : ℕ) (t : ℕ) → IsPageOf w'.pages t v kind.Tdvpr → k' ≢ kind.Tdvpr → (v == q) ≡ false
     page-off v t pa n = by_test (v == q) (λ y. absurd (n (kind-here v pa.kind y))) (λ z. z)
 
     pub page-was : (t v : ℕ) → (v == q) ≡ false → IsPageOf w'.pages t v kind.Tdvpr → IsPageOf w.pages t v kind.Tdvpr
-    page-was t v n pa = record { kind = sym (kind-at v n) ∙ pa.kind; owner = sym (owner-at v n) ∙ pa.owner }
+    page-was t v n pa = record { kind = sym (kind-at v n) ∙ pa.kind; owner = sym (ap (λ (z : Pages). z.owners v) pg ∙ rw n refl) ∙ pa.owner }
 
-  -- a page leaves the map
-  pub unmapped-epochs : (w1 : World) (u level n : ℕ) → w1.pages ≡ w.pages → w1.tds ≡ w.tds → w1.vps ≡ w.vps → LawfulEpochs (unmap_page u level n w1)
-  unmapped-epochs w1 u level n pg td vp =
-      let q : ℕ = (w1.tds.entries u level n).page in
-      let w' : World = unmap_page u level n w1 in
-      let here : w'.pages ≡ (take_node q kind.Nda 0 0 0 w).pages = ap (λ (z : Pages). (take_node q kind.Nda 0 0 0 (record w { pages = z })).pages) pg in
-      let lasts = ap (λ (z : Vps). z.lasts) vp in
-      let entered = ap (λ (z : Vps). z.entered) vp in
-      let assoc = ap (λ (z : Vps). z.associated) vp in
-      let tdr-off : (t : ℕ) → w'.pages.kinds t ≡ kind.Tdr → (t == q) ≡ false = λ t k. by_test (t == q) (λ y. absurd (let no : kind.Nda ≡ kind.Tdr = kind-here q kind.Nda 0 0 0 w' here t k y in cc)) (λ z. z) in
-      le-frame w w' le
-      (λ t v k pa. let a = tdr-off t k in
-      let b = page-off q kind.Nda 0 0 0 w' here v t pa (λ e. cc) in
-      old (sym (kind-at q kind.Nda 0 0 0 w' here t a) ∙ k) (page-was q kind.Nda 0 0 0 w' here t v b pa) (ap (λ (z : ℕ → ℕ). z v) lasts) (ap (λ (z : ℕ → Option ℕ). z v) entered) (ap (λ (z : ℕ → Option ℕ). z v) assoc)
-      (inl (ap (λ (z : Tds). z.epochs t) td)) (λ p n l b. (ap (λ (z : Tds). z.lives t) td ∙ l, ap (λ (z : Tds). has_not_run (z.ops t)) td ∙ b)))
-      (λ t k e. ap (λ (z : Tds). z.epochs t) td ∙ le.early t (sym (kind-at q kind.Nda 0 0 0 w' here t (tdr-off t k)) ∙ k) (sym (ap (λ (z : Tds). z.ops t) td) ∙ e))
+    -- and no TDR page; TDs stay, and so do other virtual processors, and one that it begins has not entered
+    pub taken-epochs : k' ≢ kind.Tdr → w'.tds.lives ≡ w.tds.lives → w'.tds.ops ≡ w.tds.ops → w'.tds.epochs ≡ w.tds.epochs
+        → ((v : ℕ) → (v == q) ≡ false → w'.vps.lasts v ≡ w.vps.lasts v) → ((v : ℕ) → (v == q) ≡ false → w'.vps.entered v ≡ w.vps.entered v)
+        → ((v : ℕ) → (v == q) ≡ false → w'.vps.associated v ≡ w.vps.associated v)
+        → (k' ≡ kind.Tdvpr → (w'.vps.lasts q ≡ 0) × (w'.vps.entered q ≡ None) × (w'.vps.associated q ≡ None)) → LawfulEpochs w'
+    taken-epochs no-tdr lv os ep ls et assoc begun =
+        let off : (t : ℕ) → w'.pages.kinds t ≡ kind.Tdr → (t == q) ≡ false = λ t e. by_test (t == q) (λ y. absurd (no-tdr (kind-here t e y))) (λ z. z) in
+        le-frame w w' le
+        (λ t v e pa. by_test (v == q)
+        (λ y. let here = eqb-true v q y in let b = begun (kind-here v pa.kind y) in new (ap w'.vps.lasts here ∙ b.0) (ap w'.vps.entered here ∙ b.1) (ap w'.vps.associated here ∙ b.2))
+        (λ n. old (sym (kind-at t (off t e)) ∙ e) (page-was t v n pa) (ls v n) (et v n) (assoc v n) (inl (ap (λ (z : ℕ → ℕ). z t) ep))
+        (λ p a l b. (ap (λ (z : ℕ → LifeState). z t) lv ∙ l, ap (λ (z : ℕ → OpState). has_not_run (z t)) os ∙ b))))
+        (λ t e u. ap (λ (z : ℕ → ℕ). z t) ep ∙ le.early t (sym (kind-at t (off t e)) ∙ e) (ap (λ (z : ℕ → OpState). z t) (sym os) ∙ u))

@@ -3,8 +3,7 @@
 use Rattle.std.proofs.Common.{◌≡◌, ◌⊎◌, inl, inr, refl, sym, ◌∙◌, subst, ap, ℕ, zero, suc, ◌/◌, ◌^◌, ◌≤◌, List, [], ◌∷◌, Option, Some, None, true, false, not, ◌==◌, arith}
 use Rattle.std.specs.List.{list_any}
 use Rattle.std.specs.Prelude.{Contains}
-use Rattle.std.proofs.lemmas.Bool.{eq-eqb, eqb-true, and_parts}
-use Rattle.td_words.specs.declared.names.PageKind.{PageKind}
+use Rattle.std.proofs.lemmas.Bool.{eq-eqb, eqb-true}
 use Rattle.td_words.specs.declared.names.PageKind.TheVariants as kind
 use Rattle.td_words.specs.declared.names.LifeState.{LifeState}
 use Rattle.td_words.specs.declared.names.LifeState.TheVariants as life
@@ -21,7 +20,7 @@ use Rattle.flat_core.specs.World.{World}
 use Rattle.flat_core.specs.Processor.{Translation, Walk, Guest, new_guest}
 use Rattle.flat_core.specs.Opening.{Opening}
 use Rattle.flat_core.specs.Row.{Passes}
-use Rattle.flat_core.specs.Conditions.{is_elsewhere, same_kind, running_ops}
+use Rattle.flat_core.specs.Conditions.{is_elsewhere, running_ops}
 use Rattle.flat_core.specs.Effects.{leave_guest, end_association}
 use Rattle.flat_core.specs.Tree.{page_of_gpa, number_at, entry_at, same_state, allows, may_read, may_write}
 use Rattle.flat_core.specs.Translations.{cache, is_stale, cache_at_entry, drop_td}
@@ -31,6 +30,7 @@ use Rattle.flat_core.specs.Lawful.{Lawful, IsPageOf, is_free}
 use Rattle.flat_core.specs.Guests.{IsOccupied}
 use Rattle.flat_core.specs.Access.{IsHere, IsUsable, inside, outside, node_number, allows_less, is_pending, IsCurrent, IsOnCourse, LawfulTranslations, LawfulEpochs, has_not_run}
 use Rattle.flat_core.proofs.Tests.{by_test, tdr_kind}
+use Rattle.flat_core.proofs.Passed.{vp_of}
 use Rattle.flat_core.proofs.Cached.{dropped, one_more}
 use Rattle.flat_core.proofs.AccessActs.{occupied-here, current-same}
 
@@ -79,27 +79,20 @@ module _ (o : Opening) (me u v most : ℕ) (w : World) (la : Lawful o.machine w)
   v-v = eq-eqb v v refl
 
   v-page : IsPageOf w.pages u v kind.Tdvpr
-  v-page =
-      let x = and_parts (same_kind (w.pages.kinds v) kind.Tdvpr) (w.pages.owners v == u) ps.1.1.1.1.1.1.1.1.0 in
-      record { kind = vpr (w.pages.kinds v) x.0; owner = eqb-true _ u x.1 }
-    where
-      vpr : (k : PageKind) → same_kind k kind.Tdvpr ≡ true → k ≡ kind.Tdvpr
-      vpr kind.Tdvpr e = refl
-      vpr kind.Nda e = cc
-      vpr _ e = cc
+  v-page = vp_of w u v (search)
 
   u-tdr : w.pages.kinds u ≡ kind.Tdr
-  u-tdr = tdr_kind _ ps.1.1.1.1.0
+  u-tdr = tdr_kind _ (search)
 
   u-life : w.tds.lives u ≡ life.KeysConfigured
-  u-life = live (w.tds.lives u) ps.1.1.1.1.1.0
+  u-life = live (w.tds.lives u) (search)
     where
       live : (s : LifeState) → list_any (λ b. life_number b == life_number s) (life.KeysConfigured ∷ []) ≡ true → s ≡ life.KeysConfigured
       live life.KeysConfigured e = refl
       live _ e = cc
 
   u-op : has_not_run (w.tds.ops u) ≡ false
-  u-op = built (w.tds.ops u) ps.1.1.1.1.1.1.1.0
+  u-op = built (w.tds.ops u) (search)
     where
       built : (s : OpState) → list_any (λ b. op_number b == op_number s) running_ops ≡ true → has_not_run s ≡ false
       built op.Runnable e = refl
@@ -157,7 +150,7 @@ module _ (o : Opening) (me u v most : ℕ) (w : World) (la : Lawful o.machine w)
           let r = was-in c i in
           by_test (is_stale (w.vps.associated v) (w.vps.lasts v) (w.tds.epochs u))
           (λ y. absurd (let off = r.1 y in let on : (c.tdr == u) ≡ true = eq-eqb c.tdr u (sym tdr) in let no : true ≡ false = sym on ∙ off in cc))
-          (λ y. let f = fresh (w.vps.associated v) refl ps.1.1.1.1.1.1.1.1.1.1.0 y in
+          (λ y. let f = fresh (w.vps.associated v) refl (search) y in
           let us : IsUsable w me None u (w.tds.epochs u) = outside v tt f.0 f.1 refl in
           let us' : IsUsable w me None c.tdr e = subst (λ (z : ℕ). IsUsable w me None z e) tdr (subst (λ (z : ℕ). IsUsable w me None u z) e-is us) in
           current-now c e (a.usable c e r.0 us'))
@@ -171,7 +164,7 @@ module _ (o : Opening) (me u v most : ℕ) (w : World) (la : Lawful o.machine w)
 module _ (o : Opening) (me u v : ℕ) (w : World) (le : LawfulEpochs w) (cs : List Translation) (ps : Passes ((row_of o me (call.VpFlush u v)).items w)) (a : LawfulTranslations w me cs None) where
   pub flush-access : LawfulTranslations (end_association v w) me (drop_td u cs) None
   flush-access =
-      let owner : w.pages.owners v ≡ u = eqb-true _ u (and_parts (same_kind (w.pages.kinds v) kind.Tdvpr) (w.pages.owners v == u) ps.1.1.1.1.1.0).1 in
+      let owner : w.pages.owners v ≡ u = (vp_of w u v (search)).owner in
       record {
         associated = λ c i.
             let d = dropped u cs c i in

@@ -18,17 +18,16 @@ use Rattle.td_words.specs.NameNumber.{op_number}
 use Rattle.flat_core.specs.World.{World, Tds, Vps, Streams, KeyTable, Made, ClearHeader, put}
 use Rattle.flat_core.specs.Opening.{Incoming, Opening, Agree, is_private_kind, blind_words, blind_bundle, public_bundle}
 use Rattle.flat_core.specs.Row.{Item, Passes}
-use Rattle.flat_core.specs.Tree.{page_of_gpa, number_at, entry_at, same_state, state_in}
+use Rattle.flat_core.specs.Tree.{page_of_gpa, number_at, entry_at, same_state}
 use Rattle.flat_core.specs.Effects.{set_page, map_page, begin_memory, set_op}
 use Rattle.flat_core.specs.Sessions.{stream_page, count_bundle, set_mig_epoch}
 use Rattle.flat_core.specs.Inputs.{Input, header_of_input, word_given, input_in, tag_holds}
 use Rattle.flat_core.specs.ImportRows.{filling_ops, begin_import, import_immutable, importable, page_to_fill, fill_page, import_page, is_start, op_then, import_token, give_rtmrs, import_td, give_vp_state, import_vp, note_commit, commit_import, end_import, abort_import, abort_by_token}
 use Rattle.flat_core.specs.Lawful.{IsAlive, Lawful, is_free}
 use Rattle.flat_core.specs.Alike.{is_being_built, is_public, Alike, AreBlind}
-use Rattle.flat_core.proofs.Tests.{by_test, host_kind, tdr_kind}
+use Rattle.flat_core.proofs.Tests.{by_test, host_kind}
+use Rattle.flat_core.proofs.Passed.{TdPassed, td_alive}
 use Rattle.flat_core.proofs.AlikeParts.{tds_alike, op_alike, vps_alike, hidden_alike, mapped_alike}
-use Rattle.flat_core.proofs.Maps.{behind_walk}
-use Rattle.flat_core.proofs.Ranges.{living}
 
 -- two inputs that differ in private words alone
 pub record AreAlikeInputs (x y : Input) : Type 0 where
@@ -141,7 +140,7 @@ import_immutable-blind m b c t slot i = record {
   act = λ v w lv lw a ps.
       let x : Input = input_in b in
       let y : Input = input_in c in
-      counted_alike (begin_import t x v) (begin_import t y w) t 0 (begun_alike v w t x y i (i.words (public_first x.header ps.1.1.1.0)) a);
+      counted_alike (begin_import t x v) (begin_import t y w) t 0 (begun_alike v w t x y i (i.words (public_first x.header (search))) a);
 }
 
 -- IMPORT.MEM: the words of the page are private, since its TD isn't being built
@@ -220,12 +219,10 @@ import_page-blind m b c t slot page i = record {
       let y : Input = input_in c in
       let gpa : ℕ = x.header.gpa in
       let s : EntryState = (entry_at v t 0 gpa).state in
-      let head = ps.1.1.1.1.1.1 in
-      let behind = behind_walk v t gpa 0 (state_in v t gpa 0 importable ∷ (page_to_fill v t gpa page s ++ tag_holds x ∷ [])) head.1.1.1.1.1.1.1.1 in
-      let alive : IsAlive v.pages v.tds t = record { kind = tdr_kind _ head.0; life = living (v.tds.lives t) head.1.0 } in
+      let td : TdPassed v t filling_ops = search in
       let v1 : World = fill_page t gpa page x.words s v in
       let w1 : World = fill_page t gpa page y.words s w in
-      let a1 : Alike v1 w1 = filled_alike m v w t gpa page x.words y.words (tag_holds x ∷ []) lv alive (filling (v.tds.ops t) head.1.1.1.0) a s refl behind.0 behind.1 in
+      let a1 : Alike v1 w1 = filled_alike m v w t gpa page x.words y.words (tag_holds x ∷ []) lv (td_alive td) (filling (v.tds.ops t) td.op) a s refl (search) (search) in
       let v2 : World = begin_memory t (page_of_gpa gpa) x.words v1 in
       let w2 : World = begin_memory t (page_of_gpa gpa) y.words w1 in
       let a2 : Alike v2 w2 = hidden_alike v1 w1 a1 v2.hidden w2.hidden in

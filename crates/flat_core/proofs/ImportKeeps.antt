@@ -18,18 +18,19 @@ use Rattle.flat_core.specs.World.{World, Tds, ClearHeader, put}
 use Rattle.flat_core.specs.Opening.{Incoming}
 use Rattle.flat_core.specs.Row.{Item, Passes}
 use Rattle.flat_core.specs.Arguments.{level_size}
-use Rattle.flat_core.specs.Tree.{page_of_gpa, number_at, entry_at, state_in}
+use Rattle.flat_core.specs.Tree.{page_of_gpa, number_at, entry_at}
 use Rattle.flat_core.specs.Effects.{set_op, begin_memory, map_page}
 use Rattle.flat_core.specs.Sessions.{stream_page, stream_counter, count_bundle, set_mig_epoch}
 use Rattle.flat_core.specs.Inputs.{Input, has_values, has_no_fault, fault_of_input, header_of_input, input_in, most_info, most_gpa, tag_holds}
-use Rattle.flat_core.specs.ImportRows.{first_ops, filling_ops, td_state_ops, vp_state_ops, commit_ops, late_ops, given_up_ops, sent_ops, begin_import, import_immutable, importable, page_to_fill, fill_page, import_page, is_start, import_token_ops, op_then, import_token, give_rtmrs, import_td, import_vp, note_commit, commit_import, end_import, abort_import, abort_by_token}
+use Rattle.flat_core.specs.ImportRows.{first_ops, filling_ops, td_state_ops, vp_state_ops, commit_ops, late_ops, given_up_ops, sent_ops, begin_import, import_immutable, page_to_fill, fill_page, import_page, is_start, import_token_ops, op_then, import_token, give_rtmrs, import_td, import_vp, note_commit, commit_import, end_import, abort_import, abort_by_token}
 use Rattle.flat_core.specs.Lawful.{IsAlive, Lawful, RowKeeps, is_free, is_exporting, is_importing, most_vps}
 use Rattle.flat_core.proofs.Tests.{by_test, tdr_kind, host_kind, same_self}
 use Rattle.flat_core.proofs.Exports.{counts_of}
 use Rattle.flat_core.proofs.Parts.{untouched, streams_kept, sessions_kept, sessions_of, session_at, same_shape, built_kept, op_kept, new_kept, built_other}
-use Rattle.flat_core.proofs.Maps.{map_kept, walk_passed}
+use Rattle.flat_core.proofs.Maps.{map_kept}
 use Rattle.flat_core.proofs.Streams.{stream_among}
-use Rattle.flat_core.proofs.Ranges.{begun_of, living}
+use Rattle.flat_core.proofs.Ranges.{begun_of}
+use Rattle.flat_core.proofs.Passed.{TdPassed, td_alive, lowest_above}
 use Rattle.flat_core.proofs.ImportFills.{fill_tells}
 use Rattle.flat_core.proofs.BundleKeeps.{IsOfBegun, of_begun, counted_bundle}
 
@@ -229,18 +230,17 @@ pub import_immutable-keeps : (m : Machine) (b : Option Incoming) (t slot : ℕ) 
 import_immutable-keeps m b t slot = record {
   act = λ w l ps.
       let x : Input = input_in b in
-      let f : IsInForm x.header = input_form b ps.1.1.0 in
-      let head = ps.1.1.1.1 in
-      let built = head.1.1.0 in
+      let f : IsInForm x.header = input_form b (search) in
+      let td : TdPassed w t first_ops = search in
       let n : ℕ = x.header.info in
       let w1 : World = record w { tds = record (w.tds) { vps_expected = put w.tds.vps_expected t n } } in
-      let new = first_new (w.tds.ops t) head.1.1.1.0 in
+      let new = first_new (w.tds.ops t) td.op in
       let no_vps : length (w.tds.vps t) ≤ 0 = subst (λ (s : OpState). length (w.tds.vps t) ≤ most_vps s (w.tds.vps_expected t)) new (l.sessions.vps t) in
-      let l1 : Lawful m w1 = expected_kept m w t l built n (few_expected x.header f ps.1.1.1.0) no_vps in
-      let few : 0 < length (w.tds.streams t) = ltb-true _ _ head.1.1.1.1.0 in
-      let l2 = begun_kept m w1 t l1 built x.header.session x.words f.session few no_vps in
+      let l1 : Lawful m w1 = expected_kept m w t l td.built n (few_expected x.header f (search)) no_vps in
+      let few : 0 < length (w.tds.streams t) = ltb-true _ _ (search) in
+      let l2 = begun_kept m w1 t l1 td.built x.header.session x.words f.session few no_vps in
       let l3 : Lawful m (begin_import t x w) = last_imported_kept m _ x.header.session l2 in
-      let alive : IsAlive w.pages w.tds t = record { kind = tdr_kind _ head.0; life = living (w.tds.lives t) head.1.0 } in
+      let alive = td_alive td in
       let none = l.streams.uncounted t (stream_page w t 0) alive new (stream_among (w.tds.streams t) 0 few) in
       counted m (begin_import t x w) t 0 l3 (record { kind = alive.kind; life = alive.life }) (λ e. let no : op.MemoryImport ≡ op.Uninitialized = rw (same_self t) at e in cc) few (omega (arith, none));
   to_tell = λ w. refl;
@@ -285,16 +285,15 @@ import_page-keeps m b t slot page = record {
       let x : Input = input_in b in
       let gpa : ℕ = x.header.gpa in
       let s : EntryState = (entry_at w t 0 gpa).state in
-      let f : IsInForm x.header = input_form b ps.1.1.1.1.0 in
-      let head = ps.1.1.1.1.1.1 in
-      let room = has_room x.header.counter (stream_counter w t x.header.stream) head.1.1.1.1.1.1.1.0 in
-      let behind = walk_passed w t gpa (state_in w t gpa 0 importable ∷ (page_to_fill w t gpa page s ++ tag_holds x ∷ [])) 0 (lit≤ tt) head.1.1.1.1.1.1.1.1 in
+      let f : IsInForm x.header = input_form b (search) in
+      let td : TdPassed w t filling_ops = search in
+      let room = has_room x.header.counter (stream_counter w t x.header.stream) (search) in
       let w1 : World = fill_page t gpa page x.words s w in
       let l1 : Lawful m w1 =
-      filled_kept m w t gpa page x.words (tag_holds x ∷ []) l (tdr_kind _ head.0) head.1.1.0 (ltb-true page m.pages ps.1.0) (mapped_range x.header f ps.1.1.1.1.1.0) behind.1 s refl behind.0.1 in
+      filled_kept m w t gpa page x.words (tag_holds x ∷ []) l (tdr_kind _ td.root) td.built (ltb-true page m.pages (search)) (mapped_range x.header f (search)) (lowest_above w t gpa (search)) s refl (search) in
       let w2 : World = begin_memory t (page_of_gpa gpa) x.words w1 in
-      let alive : IsAlive w.pages w.tds t = record { kind = tdr_kind _ head.0; life = living (w.tds.lives t) head.1.0 } in
-      let begun = of_begun m w l t x.header.stream alive (begun_of filling_ops (w.tds.ops t) refl head.1.1.1.0) (ltb-true _ _ head.1.1.1.1.0) in
+      let alive = td_alive td in
+      let begun = of_begun m w l t x.header.stream alive (begun_of filling_ops (w.tds.ops t) refl td.op) (ltb-true _ _ (search)) in
       counted_bundle m w2 (stream_page w2 t x.header.stream) (untouched m w1 w2 refl l1) (fill_of_begun t gpa page x.words s w x.header.stream begun) (subst (λ (n : ℕ). n < 2 ^ 32 - 1) (sym (fill_keeps_streams t gpa page x.words s w x.header.stream)) room);
   to_tell = λ w. (let x : Input = input_in b in fill_tells t x.header.gpa page x.words (entry_at w t 0 x.header.gpa).state w);
 }
@@ -315,13 +314,14 @@ pub import_token-keeps : (m : Machine) (b : Option Incoming) (t slot : ℕ) → 
 import_token-keeps m b t slot = record {
   act = λ w l ps.
       let x : Input = input_in b in
-      let f : IsInForm x.header = input_form b ps.1.1.0 in
-      let head = ps.1.1.1.1 in
-      let begun = token_begun (is_start x.header) (w.tds.ops t) head.1.1.1.0 in
+      let f : IsInForm x.header = input_form b (search) in
+      let td : TdPassed w t (import_token_ops (is_start x.header)) = search in
+      let alive = td_alive td in
+      let begun = token_begun (is_start x.header) (w.tds.ops t) td.op in
       let w1 : World = set_op t (op_then (is_start x.header) (w.tds.ops t)) (set_mig_epoch t x.header.epoch w) in
-      counted m w1 t 0 (token_kept m w t x.header.epoch (op_then (is_start x.header) (w.tds.ops t)) l head.1.1.0 begun.0 begun.1 (l.sessions.import_stream t begun.2)
+      counted m w1 t 0 (token_kept m w t x.header.epoch (op_then (is_start x.header) (w.tds.ops t)) l td.built begun.0 begun.1 (l.sessions.import_stream t begun.2)
       (token_vps (is_start x.header) (w.tds.ops t) (w.tds.vps_expected t) (length (w.tds.vps t)) (l.sessions.vps t) (l.tds.vps_few t)) begun.3 f.epoch)
-      (record { kind = tdr_kind _ head.0; life = living (w.tds.lives t) head.1.0 }) (λ e. begun.3 (rw (same_self t) at e)) (l.sessions.import_stream t begun.2) (has_room x.header.counter (stream_counter w t 0) head.1.1.1.1.1.1.0);
+      (record { kind = alive.kind; life = alive.life }) (λ e. begun.3 (rw (same_self t) at e)) (l.sessions.import_stream t begun.2) (has_room x.header.counter (stream_counter w t 0) (search));
   to_tell = λ w. refl;
 }
 
@@ -344,15 +344,15 @@ pub import_td-keeps : (m : Machine) (b : Option Incoming) (t slot : ℕ) → Row
 import_td-keeps m b t slot = record {
   act = λ w l ps.
       let x : Input = input_in b in
-      let head = ps.1.1.1.1 in
-      let built = head.1.1.0 in
+      let td : TdPassed w t td_state_ops = search in
+      let alive = td_alive td in
       let w1 : World = give_rtmrs t x.words w in
-      let l1 : Lawful m w1 = rtmrs_given m w t x.words l built in
-      let begun = l.tds.epoch_begun t (begun_of td_state_ops (w.tds.ops t) refl head.1.1.1.0) in
-      let some = l.sessions.import_stream t (td_state_importing (w.tds.ops t) head.1.1.1.0) in
-      counted m (set_op t op.StateImport w1) t 0 (op_kept m w1 t built l1 op.StateImport begun (λ e. cc) (λ e. some)
-      (td_state_vps (w.tds.ops t) (w.tds.vps_expected t) (length (w.tds.vps t)) head.1.1.1.0 (l.sessions.vps t)) (λ e. cc))
-      (record { kind = tdr_kind _ head.0; life = living (w.tds.lives t) head.1.0 }) (λ e. let no : op.StateImport ≡ op.Uninitialized = rw (same_self t) at e in cc) some (has_room x.header.counter (stream_counter w t 0) head.1.1.1.1.1.1.0);
+      let l1 : Lawful m w1 = rtmrs_given m w t x.words l td.built in
+      let begun = l.tds.epoch_begun t (begun_of td_state_ops (w.tds.ops t) refl td.op) in
+      let some = l.sessions.import_stream t (td_state_importing (w.tds.ops t) td.op) in
+      counted m (set_op t op.StateImport w1) t 0 (op_kept m w1 t td.built l1 op.StateImport begun (λ e. cc) (λ e. some)
+      (td_state_vps (w.tds.ops t) (w.tds.vps_expected t) (length (w.tds.vps t)) td.op (l.sessions.vps t)) (λ e. cc))
+      (record { kind = alive.kind; life = alive.life }) (λ e. let no : op.StateImport ≡ op.Uninitialized = rw (same_self t) at e in cc) some (has_room x.header.counter (stream_counter w t 0) (search));
   to_tell = λ w. refl;
 }
 
@@ -361,9 +361,9 @@ pub import_vp-keeps : (m : Machine) (b : Option Incoming) (t v slot : ℕ) → R
 import_vp-keeps m b t v slot = record {
   act = λ w l ps.
       let x : Input = input_in b in
-      let head = ps.1.1.1.1.1.1 in
-      counted m _ t 0 (untouched m w _ refl l) (record { kind = tdr_kind _ head.0; life = living (w.tds.lives t) head.1.0 }) (begun_of vp_state_ops (w.tds.ops t) refl head.1.1.1.0)
-      (l.sessions.import_stream t (vp_state_importing (w.tds.ops t) head.1.1.1.0)) (has_room x.header.counter (stream_counter w t 0) head.1.1.1.1.1.1.1.1.1.0);
+      let td : TdPassed w t vp_state_ops = search in
+      counted m _ t 0 (untouched m w _ refl l) (td_alive td) (begun_of vp_state_ops (w.tds.ops t) refl td.op)
+      (l.sessions.import_stream t (vp_state_importing (w.tds.ops t) td.op)) (has_room x.header.counter (stream_counter w t 0) (search));
   to_tell = λ w. refl;
 }
 
@@ -371,22 +371,26 @@ import_vp-keeps m b t v slot = record {
 pub commit_import-keeps : (m : Machine) (t : ℕ) → RowKeeps m (commit_import m t)
 commit_import-keeps m t = record {
   act = λ w l ps.
-      op_kept m (note_commit t w) t ps.1.1.1.0 (untouched m w _ refl l) op.LiveImport (l.tds.epoch_begun t (begun_of commit_ops (w.tds.ops t) refl ps.1.1.1.1.0)) (λ e. cc)
-      (λ e. l.sessions.import_stream t (commit_importing (w.tds.ops t) ps.1.1.1.1.0)) (l.tds.vps_few t) (λ e. cc);
+      let td : TdPassed w t commit_ops = search in
+      op_kept m (note_commit t w) t td.built (untouched m w _ refl l) op.LiveImport (l.tds.epoch_begun t (begun_of commit_ops (w.tds.ops t) refl td.op)) (λ e. cc)
+      (λ e. l.sessions.import_stream t (commit_importing (w.tds.ops t) td.op)) (l.tds.vps_few t) (λ e. cc);
   to_tell = λ w. refl;
 }
 
 pub end_import-keeps : (m : Machine) (t : ℕ) → RowKeeps m (end_import m t)
 end_import-keeps m t = record {
-  act = λ w l ps. op_kept m w t ps.1.1.1.0 l op.Runnable (l.tds.epoch_begun t (begun_of late_ops (w.tds.ops t) refl ps.1.1.1.1.0)) (λ e. cc) (λ e. cc) (l.tds.vps_few t) (λ e. cc);
+  act = λ w l ps.
+      let td : TdPassed w t late_ops = search in
+      op_kept m w t td.built l op.Runnable (l.tds.epoch_begun t (begun_of late_ops (w.tds.ops t) refl td.op)) (λ e. cc) (λ e. cc) (l.tds.vps_few t) (λ e. cc);
   to_tell = λ w. refl;
 }
 
 pub abort_import-keeps : (m : Machine) (t slot : ℕ) → RowKeeps m (abort_import m t slot)
 abort_import-keeps m t slot = record {
   act = λ w l ps.
-      untouched m (set_op t op.FailedImport w) _ refl (op_kept m w t ps.1.1.1.0 l op.FailedImport (l.tds.epoch_begun t (begun_of given_up_ops (w.tds.ops t) refl ps.1.1.1.1.0)) (λ e. cc)
-      (λ e. l.sessions.import_stream t (given_up_importing (w.tds.ops t) ps.1.1.1.1.0)) (l.tds.vps_few t) (λ e. cc));
+      let td : TdPassed w t given_up_ops = search in
+      untouched m (set_op t op.FailedImport w) _ refl (op_kept m w t td.built l op.FailedImport (l.tds.epoch_begun t (begun_of given_up_ops (w.tds.ops t) refl td.op)) (λ e. cc)
+      (λ e. l.sessions.import_stream t (given_up_importing (w.tds.ops t) td.op)) (l.tds.vps_few t) (λ e. cc));
   to_tell = λ w. refl;
 }
 
@@ -394,7 +398,7 @@ pub abort_by_token-keeps : (m : Machine) (b : Option Incoming) (t slot : ℕ) �
 abort_by_token-keeps m b t slot = record {
   act = λ w l ps.
       let x : Input = input_in b in
-      let head = ps.1.1.1.1 in
-      op_kept m w t head.1.1.0 l op.Runnable (l.tds.epoch_begun t (begun_of sent_ops (w.tds.ops t) refl head.1.1.1.0)) (λ e. cc) (λ e. cc) (l.tds.vps_few t) (λ e. cc);
+      let td : TdPassed w t sent_ops = search in
+      op_kept m w t td.built l op.Runnable (l.tds.epoch_begun t (begun_of sent_ops (w.tds.ops t) refl td.op)) (λ e. cc) (λ e. cc) (l.tds.vps_few t) (λ e. cc);
   to_tell = λ w. refl;
 }

@@ -50,4 +50,4 @@ import_page-ordered m b t slot page w =
 pub import_page-holds : (m : Machine) (b : Option Incoming) (t slot page : ℕ) (v w : World) → ArgumentsHold ((import_page m b t slot page).items v) → ArgumentsHold ((import_page m b t slot page).items w)
 import_page-holds m b t slot page v w h =
     let x : Input = input_in b in
-    (h.0, (h.1.0, (h.1.1.0, (tt, (tt, (tt, (tt, (tt, (tt, (tt, (tt, (tt, (tt, (tt, (tt, (tt, (tt, (tt, fill_holds w t x.header.gpa page x (entry_at w t 0 x.header.gpa).state))))))))))))))))))
+    search (fill_holds w t x.header.gpa page x (entry_at w t 0 x.header.gpa).state)

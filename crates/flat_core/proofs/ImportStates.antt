@@ -8,41 +8,11 @@ use Rattle.flat_core.specs.Conditions.{running_ops}
 use Rattle.flat_core.specs.Access.{has_not_run}
 use Rattle.flat_core.specs.ImportRows.{first_ops, filling_ops, td_state_ops, commit_ops, given_up_ops, import_token_ops, op_then}
 
--- a TD in one of these states doesn't run
-pub td_state_runs : (s : OpState) → list_any (λ a. op_number a == op_number s) td_state_ops ≡ true → list_any (λ a. op_number a == op_number s) running_ops ≡ true → ⊥
-td_state_runs op.MemoryImport a b = cc
-td_state_runs op.Runnable a b = cc
-td_state_runs op.LiveExport a b = cc
-td_state_runs op.LiveImport a b = cc
-td_state_runs _ a b = cc
-
-pub given_up_runs : (s : OpState) → list_any (λ a. op_number a == op_number s) given_up_ops ≡ true → list_any (λ a. op_number a == op_number s) running_ops ≡ true → ⊥
-given_up_runs op.MemoryImport a b = cc
-given_up_runs op.StateImport a b = cc
-given_up_runs op.PostImport a b = cc
-given_up_runs op.Runnable a b = cc
-given_up_runs op.LiveExport a b = cc
-given_up_runs op.LiveImport a b = cc
-given_up_runs _ a b = cc
-
-pub token_runs : (start : Bool) (s : OpState) → list_any (λ a. op_number a == op_number s) (import_token_ops start) ≡ true → list_any (λ a. op_number a == op_number s) running_ops ≡ true → ⊥
-token_runs true op.StateImport a b = cc
-token_runs true op.Runnable a b = cc
-token_runs true op.LiveExport a b = cc
-token_runs true op.LiveImport a b = cc
-token_runs true _ a b = cc
-token_runs false op.MemoryImport a b = cc
-token_runs false op.StateImport a b = cc
-token_runs false op.Runnable a b = cc
-token_runs false op.LiveExport a b = cc
-token_runs false op.LiveImport a b = cc
-token_runs false _ a b = cc
-
 pub first_only : (s : OpState) → list_any (λ a. op_number a == op_number s) first_ops ≡ true → s ≡ op.Uninitialized
 first_only op.Uninitialized h = refl
 first_only _ h = cc
 
--- nor has it run here
+-- before IMPORT.COMMIT a TD hasn't run here
 pub token_not_run : (start : Bool) (s : OpState) → list_any (λ a. op_number a == op_number s) (import_token_ops start) ≡ true → has_not_run s ≡ true
 token_not_run true op.StateImport a = refl
 token_not_run true _ a = cc

@@ -22,26 +22,27 @@ use Rattle.flat_core.specs.World.{World, Pages, Tds, Streams, KeyTable, put, fir
 use Rattle.flat_core.specs.Opening.{Opening}
 use Rattle.flat_core.specs.Row.{Passes}
 use Rattle.flat_core.specs.Locks.{one_if}
-use Rattle.flat_core.specs.Conditions.{same_kind, is_free_key, is_host, vp_limit, host_page, page_exclusive}
+use Rattle.flat_core.specs.Conditions.{same_kind, is_free_key, is_host, vp_limit}
 use Rattle.flat_core.specs.Arguments.{level_size}
-use Rattle.flat_core.specs.Tree.{page_of_gpa, number_at, entry_at, same_state, state_in, empty_below}
+use Rattle.flat_core.specs.Tree.{page_of_gpa, number_at, entry_at, same_state, empty_below}
 use Rattle.flat_core.specs.Effects.{new_td, set_page, clear_page, take_page, map_page, begin_memory, end_memory_in, set_state, unmap_page, set_op, set_epoch, end_measurement, restate}
 use Rattle.flat_core.specs.Tracking.{tracked_page}
 use Rattle.flat_core.specs.HostRows.{host_read, host_write, read_metadata}
 use Rattle.flat_core.specs.TdRows.{create, configure_key, add_tdcx, initialize, read_td, finalize}
 use Rattle.flat_core.specs.KeyRows.{write_caches_back, reclaim_conditions, reclaim_page, end_flush, free_hkid}
 use Rattle.flat_core.specs.VpRows.{create_vp, initialize_vp, enter_vp, flush_vp}
-use Rattle.flat_core.specs.MemRows.{add_sept, read_sept, add_page, augment_page, remove_page, remove_sept, removed_states, open_states, blocked_states, blocked_state, unblocked_state, block_range, unblock_range, advance_epoch, chunk_bytes, extend}
-use Rattle.flat_core.specs.ExportRows.{live_ops, abortable_ops, create_stream, writable_states, write_blocked, block_write, write_blocked_states, write_unblocked, is_first_dirt, unblock_write, note_pause, pause, abort_export, restoring_ops, restored_states, one_less, restore}
+use Rattle.flat_core.specs.MemRows.{add_sept, read_sept, add_page, augment_page, remove_page, remove_sept, removed_states, open_states, blocked_state, unblocked_state, block_range, unblock_range, advance_epoch, chunk_bytes, extend}
+use Rattle.flat_core.specs.ExportRows.{stream_ops, live_ops, abortable_ops, create_stream, writable_states, write_blocked, block_write, write_blocked_states, write_unblocked, is_first_dirt, unblock_write, note_pause, pause, abort_export, restoring_ops, restored_states, one_less, restore}
 use Rattle.flat_core.specs.Exports.{is_dirty}
 use Rattle.flat_core.specs.Table.{row_of}
 use Rattle.flat_core.specs.Lawful.{IsAlive, AreControls, ArePagesOf, LawfulPages, LawfulTds, IsListed, LawfulLists, LawfulTree, LawfulKeys, LawfulBeginnings, LawfulCounts, LawfulStreams, LawfulSessions, Lawful, IsNew, RowKeeps, is_free, is_named_kind, key_owner, most_vps}
 use Rattle.flat_core.proofs.Tests.{by_test, host_kind, tdr_kind, range_of, some_same, same_self}
 use Rattle.flat_core.proofs.Pages.{taken, other, taken_node, taken_controls, taken_list, unowned, taken_pages}
 use Rattle.flat_core.proofs.Exports.{counts_of, new_counted, counted_still, taken_where}
-use Rattle.flat_core.proofs.Maps.{kind_named, named_owned, node_named, is_upper, map_kept, walk_passed}
+use Rattle.flat_core.proofs.Maps.{kind_named, named_owned, node_named, is_upper, map_kept}
 use Rattle.flat_core.proofs.EntryStates.{entry_kept, restated, remarked, state_kept, counts_moved, block_kept}
-use Rattle.flat_core.proofs.Ranges.{begun_of, live_exporting, named_passed, named_alive, opened_passed, write_passed, entry_alive, block_restates, unblock_restates, write_remarks, write_dirt, unwrite_remarks, unwrite_dirt, restored, page_removed, sept_removed}
+use Rattle.flat_core.proofs.Ranges.{begun_of, live_exporting, EntryPassed, living, named_alive, write_passed, entry_alive, block_restates, unblock_restates, write_remarks, write_dirt, unwrite_remarks, unwrite_dirt, restored, page_removed, sept_removed}
+use Rattle.flat_core.proofs.Passed.{TdPassed, td_alive, sept_passed, page_passed, augment_passed, block_passed, unblock_passed, remove_passed, sept_remove_passed}
 use Rattle.flat_core.proofs.Removals.{empty_at, unmapped_kept}
 use Rattle.flat_core.proofs.Streams.{stream_kept}
 use Rattle.flat_core.proofs.BundleKeeps.{export_immutable-keeps, export_page-keeps, export_token-keeps, export_td-keeps, export_vp-keeps}
@@ -101,7 +102,7 @@ reclaim_kept m w t p b e l root dead ps = by b e ps
 
 pub reclaim_page-keeps : (m : Machine) (t p : ℕ) → RowKeeps m (reclaim_page m t p)
 reclaim_page-keeps m t p = record {
-  act = λ w l ps. reclaim_kept m w t p (p == t) refl l (tdr_kind _ ps.1.1.0) (ended_of (w.tds.lives t) ps.1.1.1.0) ps.1.1.1.1;
+  act = λ w l ps. reclaim_kept m w t p (p == t) refl l (tdr_kind _ (search)) (ended_of (w.tds.lives t) (search)) (search);
   to_tell = λ w. refl;
 }
 
@@ -267,16 +268,16 @@ module _ (count : ℕ) (old : Pages) (tds : Tds) (table : KeyTable) (t h : ℕ) 
 
 pub create-keeps : (m : Machine) (t h : ℕ) → RowKeeps m (create m t h)
 create-keeps m t h = record {
-  act = λ w l ps. (let host : w.pages.kinds t ≡ kind.Nda = host_kind _ ps.1.1.0 in
-      let small : t < m.pages = ltb-true t m.pages ps.0 in
-      let free_hkid : is_free_key (w.key_table.keys h) ≡ true = ps.1.1.1.0 in
+  act = λ w l ps. (let host : w.pages.kinds t ≡ kind.Nda = host_kind _ (search) in
+      let small : t < m.pages = ltb-true t m.pages (search) in
+      let free_hkid : is_free_key (w.key_table.keys h) ≡ true = search in
       record {
         size = l.size;
         pages = taken_pages m.pages w.pages t kind.Tdr t 0 0 host l.pages small (λ e. cc) (λ e. refl) (rw (same_self t) refl);
         tds = new_tds m.pages w.pages w.tds w.key_table t h host l.pages free_hkid l.tds;
         lists = new_lists m.pages w.pages w.tds w.key_table t h host l.pages free_hkid w.vps.indexes l.lists;
         tree = new_tree m.pages w.pages w.tds w.key_table t h host l.pages free_hkid l.tree;
-        keys = new_keys m.pages w.pages w.tds w.key_table t h host l.pages free_hkid m.hkids (range_of h m.hkids ps.1.0) l.keys;
+        keys = new_keys m.pages w.pages w.tds w.key_table t h host l.pages free_hkid m.hkids (range_of h m.hkids (search)) l.keys;
         beginnings = new_beginnings m.pages w.pages w.tds w.key_table t h host l.pages free_hkid w.hidden.rtmrs l.beginnings;
         counts = new_counts m.pages w.pages w.tds w.key_table t h host l.pages free_hkid w.streams l.counts;
         streams = new_streams m.pages w.pages w.tds w.key_table t h host l.pages free_hkid w.streams l.streams;
@@ -288,8 +289,8 @@ create-keeps m t h = record {
 pub configure_key-keeps : (m : Machine) (t : ℕ) → RowKeeps m (configure_key m t)
 configure_key-keeps m t = record {
   act = λ w l ps.
-      life_kept m w t life.KeysConfigured (record { kind = tdr_kind _ ps.1.0; life = live_of (life.HkidAssigned ∷ []) (w.tds.lives t) refl ps.1.1.0 }) refl l
-      (not_blocked (w.tds.lives t) ps.1.1.0);
+      life_kept m w t life.KeysConfigured (record { kind = tdr_kind _ (search); life = live_of (life.HkidAssigned ∷ []) (w.tds.lives t) refl (search) }) refl l
+      (not_blocked (w.tds.lives t) (search));
   to_tell = λ w. refl;
 }
 
@@ -301,12 +302,11 @@ cleared_but m p w l = record { size = l.size; pages = l.pages; tds = l.tds; cont
 pub add_tdcx-keeps : (m : Machine) (t p : ℕ) → RowKeeps m (add_tdcx m t p)
 add_tdcx-keeps m t p = record {
   act = λ w l ps.
-      let host : w.pages.kinds p ≡ kind.Nda = host_kind _ ps.1.1.1.1.1.1.0 in
-      let root : w.pages.kinds t ≡ kind.Tdr = tdr_kind _ ps.1.1.1.0 in
-      let alive : IsAlive w.pages w.tds t = record { kind = root; life = live_of (life.KeysConfigured ∷ []) (w.tds.lives t) refl ps.1.1.1.1.0 } in
+      let host : w.pages.kinds p ≡ kind.Nda = host_kind _ (search) in
+      let alive : IsAlive w.pages w.tds t = record { kind = tdr_kind _ (search); life = living (w.tds.lives t) (search) } in
       let w' : World = clear_page p (take_page p kind.Tdcx t w) in
-      let l' : LawfulBut m w' p = cleared_but m p (take_page p kind.Tdcx t w) (taken_kept m w p kind.Tdcx t 0 0 host (ltb-true p m.pages ps.1.0) l (λ e. cc) (λ e. cc) root refl) in
-      control_kept m w' t p l' (record { kind = rw (same_self p) refl; owner = rw (same_self p) refl }) ps.1.1.1.1.1.0
+      let l' : LawfulBut m w' p = cleared_but m p (take_page p kind.Tdcx t w) (taken_kept m w p kind.Tdcx t 0 0 host (ltb-true p m.pages (search)) l (λ e. cc) (λ e. cc) alive.kind refl) in
+      control_kept m w' t p l' (record { kind = rw (same_self p) refl; owner = rw (same_self p) refl }) (search)
       (λ c e. let its : AreControls w.pages t (c ∷ []) = subst (λ (cs : List ℕ). AreControls w.pages t cs) e (l.tds.controls t alive) in
       other m.pages w.pages p kind.Tdcx t 0 0 host l.pages c kind.Tdcx its.kind (λ e. cc));
   to_tell = λ w. refl;
@@ -315,12 +315,12 @@ add_tdcx-keeps m t p = record {
 pub initialize-keeps : (m : Machine) (t : ℕ) → RowKeeps m (initialize m t)
 initialize-keeps m t = record {
   act = λ w l ps.
-      let built = ps.1.1.1.0 in
+      let td : TdPassed w t (op.Uninitialized ∷ []) = search in
       let w1 : World = set_epoch t 1 w in
-      let l1 : Lawful m w1 = epoch_kept m w t built l 1 (lit≤ tt) (lit< tt) in
+      let l1 : Lawful m w1 = epoch_kept m w t td.built l 1 (lit≤ tt) (lit< tt) in
       let w2 : World = set_op t op.Initialized w1 in
-      let l2 : Lawful m w2 = op_kept m w1 t built l1 op.Initialized (rw (same_self t) (lit≤ tt)) (λ e. cc) (λ e. cc) (l.tds.vps_few t) (λ e. cc) in
-      begin_kept m w2 t built l2;
+      let l2 : Lawful m w2 = op_kept m w1 t td.built l1 op.Initialized (rw (same_self t) (lit≤ tt)) (λ e. cc) (λ e. cc) (l.tds.vps_few t) (λ e. cc) in
+      begin_kept m w2 t td.built l2;
   to_tell = λ w. refl;
 }
 
@@ -329,21 +329,23 @@ read_td-keeps m t f = record { act = λ w l ps. l; to_tell = λ w. refl }
 
 pub finalize-keeps : (m : Machine) (t : ℕ) → RowKeeps m (finalize m t)
 finalize-keeps m t = record {
-  act = λ w l ps. op_kept m (end_measurement t w) t ps.1.1.1.0 (end_kept m w t ps.1.1.1.0 l) op.Runnable (l.tds.epoch_begun t (begun_of (op.Initialized ∷ []) (w.tds.ops t) refl ps.1.1.1.1.0)) (λ e. cc) (λ e. cc) (l.tds.vps_few t) (λ e. cc);
+  act = λ w l ps.
+      let td : TdPassed w t (op.Initialized ∷ []) = search in
+      op_kept m (end_measurement t w) t td.built (end_kept m w t td.built l) op.Runnable (l.tds.epoch_begun t (begun_of (op.Initialized ∷ []) (w.tds.ops t) refl td.op)) (λ e. cc) (λ e. cc) (l.tds.vps_few t) (λ e. cc);
   to_tell = λ w. refl;
 }
 
 pub end_flush-keeps : (m : Machine) (t : ℕ) → RowKeeps m (end_flush m t)
 end_flush-keeps m t = record {
   act = λ w l ps.
-      let live : IsLive (w.tds.lives t) = live_of (life.HkidAssigned ∷ life.KeysConfigured ∷ []) (w.tds.lives t) refl ps.1.1.0 in
-      flush_kept m w t life.Blocked (record { kind = tdr_kind _ ps.1.0; life = live }) refl l refl;
+      let live : IsLive (w.tds.lives t) = live_of (life.HkidAssigned ∷ life.KeysConfigured ∷ []) (w.tds.lives t) refl (search) in
+      flush_kept m w t life.Blocked (record { kind = tdr_kind _ (search); life = live }) refl l refl;
   to_tell = λ w. refl;
 }
 
 pub free_hkid-keeps : (m : Machine) (t : ℕ) → RowKeeps m (free_hkid m t)
 free_hkid-keeps m t = record {
-  act = λ w l ps. ended_kept m w t (record { kind = tdr_kind _ ps.1.0; life = live_of (life.Blocked ∷ []) (w.tds.lives t) refl ps.1.1.0 }) l;
+  act = λ w l ps. ended_kept m w t (record { kind = tdr_kind _ (search); life = live_of (life.Blocked ∷ []) (w.tds.lives t) refl (search) }) l;
   to_tell = λ w. refl;
 }
 
@@ -364,15 +366,15 @@ not_in_list m w t p k owned l host (v ∷ vs) h = rw (other m.pages w.pages p k 
 pub create_vp-keeps : (m : Machine) (t p : ℕ) → RowKeeps m (create_vp m t p)
 create_vp-keeps m t p = record {
   act = λ w l ps.
-      let host : w.pages.kinds p ≡ kind.Nda = host_kind _ ps.1.1.1.1.1.1.1.1.0 in
-      let root : w.pages.kinds t ≡ kind.Tdr = tdr_kind _ ps.1.1.1.0 in
-      let alive : IsAlive w.pages w.tds t = record { kind = root; life = live_of (life.KeysConfigured ∷ []) (w.tds.lives t) refl ps.1.1.1.1.0 } in
+      let td : TdPassed w t (op.Initialized ∷ op.MemoryImport ∷ []) = search in
+      let host : w.pages.kinds p ≡ kind.Nda = host_kind _ (search) in
+      let alive = td_alive td in
       let w' : World = clear_page p (take_page p kind.Tdvpr t w) in
-      let l' : LawfulBut m w' p = cleared_but m p (take_page p kind.Tdvpr t w) (taken_kept m w p kind.Tdvpr t 0 0 host (ltb-true p m.pages ps.1.0) l (λ e. cc) (λ e. cc) root refl) in
-      let room : length (w.tds.vps t) < vp_limit (w.tds.ops t) (w.tds.vps_expected t) = ltb-true _ _ ps.1.1.1.1.1.1.1.0 in
+      let l' : LawfulBut m w' p = cleared_but m p (take_page p kind.Tdvpr t w) (taken_kept m w p kind.Tdvpr t 0 0 host (ltb-true p m.pages (search)) l (λ e. cc) (λ e. cc) alive.kind refl) in
+      let room : length (w.tds.vps t) < vp_limit (w.tds.ops t) (w.tds.vps_expected t) = ltb-true _ _ (search) in
       let most : vp_limit (w.tds.ops t) (w.tds.vps_expected t) ≤ 8 = few_vps (w.tds.ops t) (w.tds.vps_expected t) (l.tds.vps_expected t) in
-      vp_kept m w' t p l' (record { kind = rw (same_self p) refl; owner = rw (same_self p) refl }) ps.1.1.1.1.1.0 (omega arith)
-      (vp_due (w.tds.ops t) (w.tds.vps_expected t) (length (w.tds.vps t)) ps.1.1.1.1.1.1.0 room) (not_in_list m w t p kind.Tdvpr (λ e. cc) l host (w.tds.vps t) (l.tds.vps t alive));
+      vp_kept m w' t p l' (record { kind = rw (same_self p) refl; owner = rw (same_self p) refl }) td.built (omega arith)
+      (vp_due (w.tds.ops t) (w.tds.vps_expected t) (length (w.tds.vps t)) td.op room) (not_in_list m w t p kind.Tdvpr (λ e. cc) l host (w.tds.vps t) (l.tds.vps t alive));
   to_tell = λ w. refl;
 }
 
@@ -403,11 +405,11 @@ sept_level (suc l) h = ((range_of (suc l) 3 h).1, refl, refl)
 pub add_sept-keeps : (m : Machine) (t gpa level p : ℕ) → RowKeeps m (add_sept m t gpa level p)
 add_sept-keeps m t gpa level p = record {
   act = λ w l ps.
-      let at = sept_level level ps.1.1.0 in
-      let behind = walk_passed w t gpa (state_in w t gpa level (entry.Free ∷ []) ∷ page_exclusive p ∷ host_page w p ∷ []) level at.0 ps.1.1.1.1.1.1.1.1.1.1 in
+      let q = sept_passed m w t gpa level p ps in
+      let at = sept_level level (search) in
       let kept : Lawful m (map_page p (kind_named level) entry.NlMapped t level (number_at level gpa) w) =
-      map_kept m w p t level (number_at level gpa) entry.NlMapped (host_kind _ behind.0.1.0) (ltb-true p m.pages ps.1.1.1.0) l (tdr_kind _ ps.1.1.1.1.1.1.0) ps.1.1.1.1.1.1.1.1.0
-      (free_of (entry_at w t level gpa).state behind.0.0) behind.1 refl (sym at.1) refl at.0 (within gpa level ps.1.0) in
+      map_kept m w p t level (number_at level gpa) entry.NlMapped (host_kind _ q.host) (ltb-true p m.pages q.page_fits) l (tdr_kind _ q.td.root) q.td.built
+      (free_of (entry_at w t level gpa).state q.free) q.above refl (sym at.1) refl at.0 (within gpa level q.gpa_fits) in
       untouched m (map_page p kind.Ept entry.NlMapped t level (number_at level gpa) w) _ refl
       (subst (λ (k : PageKind). Lawful m (map_page p k entry.NlMapped t level (number_at level gpa) w)) (sym at.2) kept);
   to_tell = λ w. refl;
@@ -420,15 +422,13 @@ read_sept-keeps m t gpa level = record { act = λ w l ps. l; to_tell = λ w. ref
 pub add_page-keeps : (m : Machine) (t gpa p source : ℕ) → RowKeeps m (add_page m t gpa p source)
 add_page-keeps m t gpa p source = record {
   act = λ w l ps.
-      let head = ps.1.1.1.1.1.1.1.1 in
-      let built = head.1.1.0 in
-      let behind = walk_passed w t gpa (state_in w t gpa 0 (entry.Free ∷ []) ∷ page_exclusive source ∷ host_page w source ∷ page_exclusive p ∷ host_page w p ∷ []) 0 (lit≤ tt) head.1.1.1.1 in
+      let q = page_passed m w t gpa p source ps in
       let w1 : World = map_page p kind.Reg entry.Mapped t 0 (number_at 0 gpa) w in
       let l1 : Lawful m w1 =
-      map_kept m w p t 0 (number_at 0 gpa) entry.Mapped (host_kind _ behind.0.1.1.0) (ltb-true p m.pages ps.1.1.0) l (tdr_kind _ head.0) built
-      (free_of (entry_at w t 0 gpa).state behind.0.0) behind.1 refl refl refl (lit≤ tt) (within gpa 0 ps.1.0) in
+      map_kept m w p t 0 (number_at 0 gpa) entry.Mapped (host_kind _ q.host) (ltb-true p m.pages q.page_fits) l (tdr_kind _ q.td.root) q.td.built
+      (free_of (entry_at w t 0 gpa).state q.free) q.above refl refl refl (lit≤ tt) (within gpa 0 q.gpa_fits) in
       let w2 : World = begin_memory t (page_of_gpa gpa) (w.words source) (set_page p (w.words source) w1) in
-      measure_kept m w2 t built (untouched m w1 w2 refl l1) (page_record gpa);
+      measure_kept m w2 t q.td.built (untouched m w1 w2 refl l1) (page_record gpa);
   to_tell = λ w. refl;
 }
 
@@ -436,10 +436,9 @@ add_page-keeps m t gpa p source = record {
 pub augment_page-keeps : (m : Machine) (t gpa p : ℕ) → RowKeeps m (augment_page m t gpa p)
 augment_page-keeps m t gpa p = record {
   act = λ w l ps.
-      let head = ps.1.1.1.1.1 in
-      let behind = walk_passed w t gpa (state_in w t gpa 0 (entry.Free ∷ []) ∷ page_exclusive p ∷ host_page w p ∷ []) 0 (lit≤ tt) head.1.1.1.1 in
-      map_kept m w p t 0 (number_at 0 gpa) entry.Pending (host_kind _ behind.0.1.0) (ltb-true p m.pages ps.1.1.0) l (tdr_kind _ head.0) head.1.1.0
-      (free_of (entry_at w t 0 gpa).state behind.0.0) behind.1 refl refl refl (lit≤ tt) (within gpa 0 ps.1.0);
+      let q = augment_passed m w t gpa p ps in
+      map_kept m w p t 0 (number_at 0 gpa) entry.Pending (host_kind _ q.host) (ltb-true p m.pages q.page_fits) l (tdr_kind _ q.td.root) q.td.built
+      (free_of (entry_at w t 0 gpa).state q.free) q.above refl refl refl (lit≤ tt) (within gpa 0 q.gpa_fits);
   to_tell = λ w. refl;
 }
 
@@ -447,7 +446,7 @@ augment_page-keeps m t gpa p = record {
 pub block_range-keeps : (m : Machine) (t gpa level : ℕ) → RowKeeps m (block_range m t gpa level)
 block_range-keeps m t gpa level = record {
   act = λ w l ps.
-      let p = named_passed w t gpa level open_states [] ps.1.1.1.1 in
+      let p = block_passed m w t gpa level ps in
       let r = block_restates (entry_at w t level gpa).state p.state in
       let node = node_named m w l t level (number_at level gpa) (named_alive w t gpa level open_states [] p) r.used in
       let owned : is_host w (entry_at w t level gpa).page ≡ false = ap (λ (k : PageKind). same_kind k kind.Nda) node.page.kind ∙ named_owned level in
@@ -459,7 +458,7 @@ block_range-keeps m t gpa level = record {
 pub unblock_range-keeps : (m : Machine) (t gpa level : ℕ) → RowKeeps m (unblock_range m t gpa level)
 unblock_range-keeps m t gpa level = record {
   act = λ w l ps.
-      let p = named_passed w t gpa level blocked_states (tracked_page w t (entry_at w t level gpa).page ∷ []) ps.1.1.1.1 in
+      let p = unblock_passed m w t gpa level ps in
       let r = unblock_restates (entry_at w t level gpa).state p.state in
       state_kept m w t level (number_at level gpa) (unblocked_state (entry_at w t level gpa).state) l r.used r.unmarked r.still_used r.same_level r.still_unmarked;
   to_tell = λ w. refl;
@@ -467,8 +466,8 @@ unblock_range-keeps m t gpa level = record {
 
 pub advance_epoch-keeps : (m : Machine) (t : ℕ) → RowKeeps m (advance_epoch m t)
 advance_epoch-keeps m t = record {
-  act = λ w l ps. (let room : w.tds.epochs t < 2 ^ 32 - 1 = ltb-true _ _ ps.1.1.1.1.1.0 in
-      epoch_kept m w t ps.1.1.1.0 l (w.tds.epochs t + 1) (omega arith) (omega (arith, room)));
+  act = λ w l ps. (let room : w.tds.epochs t < 2 ^ 32 - 1 = ltb-true _ _ (search) in
+      epoch_kept m w t (search) l (w.tds.epochs t + 1) (omega arith) (omega (arith, room)));
   to_tell = λ w. refl;
 }
 
@@ -477,7 +476,7 @@ pub remove_page-keeps : (m : Machine) (t gpa : ℕ) → RowKeeps m (remove_page 
 remove_page-keeps m t gpa = record {
   act = λ w l ps.
       let rest = tracked_page w t (entry_at w t 0 gpa).page ∷ [] in
-      let p = named_passed w t gpa 0 removed_states rest ps.1.1.1 in
+      let p = remove_passed m w t gpa ps in
       let r = page_removed (entry_at w t 0 gpa).state p.state in
       untouched m (unmap_page t 0 (number_at 0 gpa) w) _ refl
       (unmapped_kept m w t 0 (number_at 0 gpa) l (named_alive w t gpa 0 removed_states rest p) r.used r.unmarked (λ j n e. cc));
@@ -488,7 +487,7 @@ pub remove_sept-keeps : (m : Machine) (t gpa level : ℕ) → RowKeeps m (remove
 remove_sept-keeps m t gpa level = record {
   act = λ w l ps.
       let rest = empty_below w t gpa level ∷ tracked_page w t (entry_at w t level gpa).page ∷ [] in
-      let p = named_passed w t gpa level (entry.NlBlocked ∷ []) rest ps.1.1.1.1 in
+      let p = sept_remove_passed m w t gpa level ps in
       let r = sept_removed (entry_at w t level gpa).state p.state in
       unmapped_kept m w t level (number_at level gpa) l (named_alive w t gpa level (entry.NlBlocked ∷ []) rest p) r.used r.unmarked (empty_at w t gpa level p.rest_holds.0);
   to_tell = λ w. refl;
@@ -497,7 +496,7 @@ remove_sept-keeps m t gpa level = record {
 -- MR.EXTEND
 pub extend-keeps : (m : Machine) (t gpa : ℕ) → RowKeeps m (extend m t gpa)
 extend-keeps m t gpa = record {
-  act = λ w l ps. measure_kept m w t ps.1.1.1.1.1.0 l (chunk_records gpa (chunk_bytes (w.words (entry_at w t 0 gpa).page) gpa));
+  act = λ w l ps. measure_kept m w t (search) l (chunk_records gpa (chunk_bytes (w.words (entry_at w t 0 gpa).page) gpa));
   to_tell = λ w. refl;
 }
 
@@ -505,12 +504,12 @@ extend-keeps m t gpa = record {
 pub create_stream-keeps : (m : Machine) (t p : ℕ) → RowKeeps m (create_stream m t p)
 create_stream-keeps m t p = record {
   act = λ w l ps.
-      let host : w.pages.kinds p ≡ kind.Nda = host_kind _ ps.1.1.1.1.1.1.1.1.0 in
-      let root : w.pages.kinds t ≡ kind.Tdr = tdr_kind _ ps.1.1.1.0 in
-      let alive : IsAlive w.pages w.tds t = record { kind = root; life = live_of (life.KeysConfigured ∷ []) (w.tds.lives t) refl ps.1.1.1.1.0 } in
+      let td : TdPassed w t stream_ops = search in
+      let host : w.pages.kinds p ≡ kind.Nda = host_kind _ (search) in
+      let alive = td_alive td in
       let w' : World = clear_page p (take_page p kind.Migsc t w) in
-      let l' : LawfulBut m w' p = cleared_but m p (take_page p kind.Migsc t w) (taken_kept m w p kind.Migsc t 0 0 host (ltb-true p m.pages ps.1.0) l (λ e. cc) (λ e. cc) root refl) in
-      stream_kept m w' t p l' (record { kind = rw (same_self p) refl; owner = rw (same_self p) refl }) ps.1.1.1.1.1.0 (ltb-true _ _ ps.1.1.1.1.1.1.1.0)
+      let l' : LawfulBut m w' p = cleared_but m p (take_page p kind.Migsc t w) (taken_kept m w p kind.Migsc t 0 0 host (ltb-true p m.pages (search)) l (λ e. cc) (λ e. cc) alive.kind refl) in
+      stream_kept m w' t p l' (record { kind = rw (same_self p) refl; owner = rw (same_self p) refl }) td.built (ltb-true _ _ (search))
       (not_in_list m w t p kind.Migsc (λ e. cc) l host (w.tds.streams t) (l.tds.streams t alive));
   to_tell = λ w. refl;
 }
@@ -518,14 +517,18 @@ create_stream-keeps m t p = record {
 -- EXPORT.PAUSE and EXPORT.ABORT
 pub pause-keeps : (m : Machine) (t : ℕ) → RowKeeps m (pause m t)
 pause-keeps m t = record {
-  act = λ w l ps. op_kept m (note_pause t w) t ps.1.1.1.0 (untouched m w (note_pause t w) refl l) op.PausedExport (l.tds.epoch_begun t (begun_of live_ops (w.tds.ops t) refl ps.1.1.1.1.0))
-      (λ e. (session_at w.tds w.key_table l.sessions t).2 (live_exporting (w.tds.ops t) ps.1.1.1.1.0)) (λ e. cc) (l.tds.vps_few t) (λ e. cc);
+  act = λ w l ps.
+      let td : TdPassed w t live_ops = search in
+      op_kept m (note_pause t w) t td.built (untouched m w (note_pause t w) refl l) op.PausedExport (l.tds.epoch_begun t (begun_of live_ops (w.tds.ops t) refl td.op))
+      (λ e. (session_at w.tds w.key_table l.sessions t).2 (live_exporting (w.tds.ops t) td.op)) (λ e. cc) (l.tds.vps_few t) (λ e. cc);
   to_tell = λ w. refl;
 }
 
 pub abort_export-keeps : (m : Machine) (t : ℕ) → RowKeeps m (abort_export m t)
 abort_export-keeps m t = record {
-  act = λ w l ps. op_kept m w t ps.1.1.1.0 l op.Runnable (l.tds.epoch_begun t (begun_of abortable_ops (w.tds.ops t) refl ps.1.1.1.1.0)) (λ e. cc) (λ e. cc) (l.tds.vps_few t) (λ e. cc);
+  act = λ w l ps.
+      let td : TdPassed w t abortable_ops = search in
+      op_kept m w t td.built l op.Runnable (l.tds.epoch_begun t (begun_of abortable_ops (w.tds.ops t) refl td.op)) (λ e. cc) (λ e. cc) (l.tds.vps_few t) (λ e. cc);
   to_tell = λ w. refl;
 }
 
@@ -555,7 +558,7 @@ unblock_write-keeps m t gpa = record {
   act = λ w l ps.
       let e : Entry = entry_at w t 0 gpa in
       let n : ℕ = number_at 0 gpa in
-      let p = opened_passed w t gpa live_ops write_blocked_states ps.1.1.1 in
+      let p : EntryPassed w t gpa live_ops write_blocked_states = search in
       let alive = entry_alive w t gpa live_ops write_blocked_states p in
       let r = unwrite_remarks e.state p.state in
       let dirt = unwrite_dirt e.state p.state in
@@ -583,7 +586,7 @@ restore-keeps m t gpa = record {
   act = λ w l ps.
       let e : Entry = entry_at w t 0 gpa in
       let n : ℕ = number_at 0 gpa in
-      let p = opened_passed w t gpa restoring_ops restored_states ps.1.1.1 in
+      let p : EntryPassed w t gpa restoring_ops restored_states = search in
       let alive = entry_alive w t gpa restoring_ops restored_states p in
       let r = restored e.state p.state in
       let new : Entry = record { state = entry.Mapped; page = e.page; mark = 0 } in

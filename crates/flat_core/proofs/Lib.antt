@@ -12,8 +12,10 @@ pub mod Operations
 pub mod EntryStates
 pub mod Numbers
 pub mod Ranges
+pub mod Passed
 pub mod Removals
 pub mod Trackings
+pub mod Shapes
 pub mod ImportFills
 pub mod Tries
 pub mod BundleKeeps
@@ -24,7 +26,6 @@ pub mod Due
 pub mod Enter
 pub mod Sparing
 pub mod ImportStates
-pub mod ImportSpared
 pub mod Spared
 pub mod Acts
 pub mod Kept
@@ -50,18 +51,14 @@ pub mod ImportBlind
 pub mod Blind
 pub mod BlindOperations
 pub mod AccessActs
-pub mod ImportAccesses
 pub mod Accesses
 pub mod EpochActs
-pub mod ImportEpochs
 pub mod Epochs
 pub mod Guarded
 pub mod Always
 pub mod Known
-pub mod ImportKnown
 pub mod Memories
 pub mod Uses
-pub mod ImportUses
 pub mod OneUse
 pub mod Caches
 pub mod Measured
@@ -69,3 +66,4 @@ pub mod Told
 pub mod Rtmrs
 pub mod Telling
 pub mod TwoEvents
+pub mod ShapeOf

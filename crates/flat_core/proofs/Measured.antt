@@ -1,117 +1,68 @@
 -- MRTD and what is measured, over runs and events.
-use Rattle.std.proofs.Common.{◌≡◌, refl, sym, ◌∙◌, subst, ap, ℕ, zero, suc, ◌+◌, List, [], ◌∷◌, length, Option, Some, None, Bool, true, false, ◌==◌}
-use Rattle.std.specs.List.{list_any}
+use Rattle.std.proofs.Common.{◌≡◌, inl, inr, refl, sym, subst, ℕ, ◌+◌, List, [], ◌∷◌, length, Option, Some, None, true, false, ◌==◌}
 use Rattle.std.proofs.lemmas.Bool.{eqb-true}
 use Rattle.td_words.specs.declared.names.Access.{Access}
 use Rattle.td_words.specs.declared.names.Access.TheVariants.{Read, Write}
-use Rattle.td_words.specs.declared.names.EntryState.{EntryState}
-use Rattle.td_words.specs.declared.names.EntryState.TheVariants as entry
-use Rattle.td_words.specs.declared.names.OpState.{OpState}
-use Rattle.td_words.specs.declared.names.OpState.TheVariants as op
-use Rattle.td_words.specs.declared.names.ReadField.TheVariants.{Mrtd}
 use Rattle.td_words.specs.declared.machines.Machine.{Machine}
 use Rattle.td_words.specs.declared.calls.Call.{Call}
-use Rattle.td_words.specs.declared.calls.Call.TheVariants as call
 use Rattle.td_words.specs.declared.calls.GuestOp.{GuestOp}
 use Rattle.td_words.specs.declared.replies.Outcome.{Outcome}
 use Rattle.td_words.specs.declared.replies.Reply.{Reply}
-use Rattle.td_words.specs.declared.replies.Value.TheVariants as value
-use Rattle.td_words.specs.NameNumber.{op_number}
-use Rattle.flat_core.specs.World.{World, put}
+use Rattle.flat_core.specs.World.{World}
 use Rattle.flat_core.specs.Processor.{Answered, Held, Lp}
 use Rattle.flat_core.specs.Opening.{Opening}
 use Rattle.flat_core.specs.Row.{OperationRow, Move, Attempts, Undoes, Refuses, Succeeds, Releases, Rests, Passes, next, next_in}
 use Rattle.flat_core.specs.Conditions.{later_ops}
-use Rattle.flat_core.specs.Tree.{entry_at}
-use Rattle.flat_core.specs.TdRows.{read_td, finalize}
-use Rattle.flat_core.specs.ExportRows.{live_ops, abortable_ops}
-use Rattle.flat_core.specs.BundleRows.{session_ops, paused_ops}
-use Rattle.flat_core.specs.Inputs.{Input, input_in}
-use Rattle.flat_core.specs.ImportRows.{td_state_ops, commit_ops, late_ops, given_up_ops, sent_ops, import_token_ops, is_start, op_then, fill_page}
-use Rattle.flat_core.specs.Effects.{measure, set_op, tell_words}
+use Rattle.flat_core.specs.Effects.{tell_words}
 use Rattle.flat_core.specs.Guest.{ByRow, operation_of, is_pending_at, reach}
 use Rattle.flat_core.specs.Table.{row_of}
 use Rattle.flat_core.specs.Event.{Event, OfCall, OfOperation, lines_left, next_event, nothing_more, world_after, after_event}
-use Rattle.flat_core.specs.Laws.{with_bundles, given_or_measured, AreMrtdsTrue, MrtdsAreKept, EveryMrtdIsTrue, measured_after_event, EventsMeasure}
-use Rattle.flat_core.proofs.Tests.{by_test, put_here}
-use Rattle.flat_core.proofs.Mrtd.{mrtd_is_the_digest, records_are_measured}
+use Rattle.flat_core.specs.Laws.{with_bundles, AreMrtdsTrue, MrtdsAreKept, EveryMrtdIsTrue, measured_after_event, EventsMeasure}
+use Rattle.flat_core.proofs.Tests.{by_test}
+use Rattle.flat_core.proofs.Mrtd.{records_are_measured}
+use Rattle.flat_core.proofs.Shapes as shape
+use Rattle.flat_core.proofs.Shapes.{Measurement, mrtd_of, IsTrue, Aspect, aspect_of, IsOneOf, ChangesOp, Shape}
+use Rattle.flat_core.proofs.ShapeOf.{shape_of}
 use Rattle.flat_core.proofs.Operations.{operation_row, accepted}
 use Rattle.flat_core.proofs.Due.{Due, calls, frees, leaves, stops, fills, operates, walks, reaches, undoes, gives_back, due_event_is}
 use Rattle.flat_core.proofs.Induction.{world_event, in_runs}
 
-abbrev IsOneOf : List OpState → OpState → Type 0
-IsOneOf ops s = list_any (λ a. op_number a == op_number s) ops ≡ true
+-- the act of any shape
+module _ (me : ℕ) (c : Call) (m : Machine) (w w' : World) (h : AreMrtdsTrue m w) where
+  by_aspect : (a : Aspect) → aspect_of w' ≡ a → ((t : ℕ) → IsOneOf later_ops (a.ops t) → IsTrue (a.mrtds t)) → AreMrtdsTrue m w'
+  by_aspect a e true_in t r = subst (λ (z : Aspect). IsTrue (z.mrtds t)) (sym e) (true_in t (subst (λ (z : Aspect). IsOneOf later_ops (z.ops t)) e r))
 
--- a TD in one of these states has its MRTD, where none of them is one in which it is built
-has_mrtd : (allowed : List OpState) (s : OpState) → list_any (λ a. op_number a == op_number op.Uninitialized) allowed ≡ false → list_any (λ a. op_number a == op_number op.Initialized) allowed ≡ false
-    → IsOneOf allowed s → IsOneOf later_ops s
-has_mrtd allowed op.Uninitialized a b h = (let no : true ≡ false = sym h ∙ a in cc)
-has_mrtd allowed op.Initialized a b h = (let no : true ≡ false = sym h ∙ b in cc)
-has_mrtd allowed _ a b h = refl
+  by_world : (v : World) → w' ≡ v → AreMrtdsTrue m v → AreMrtdsTrue m w'
+  by_world v e true_in = subst (λ (z : World). AreMrtdsTrue m z) (sym e) true_in
 
-not_built : (s : OpState) → IsOneOf (op.Initialized ∷ []) s → IsOneOf later_ops s → ⊥
-not_built op.Initialized h e = cc
-not_built _ h e = cc
+  stays : (t : ℕ) → mrtd_of w' t ≡ mrtd_of w t → IsOneOf later_ops (w.tds.ops t) → IsTrue (mrtd_of w' t)
+  stays t e r = subst (λ (z : Measurement). IsTrue z) (sym e) (h t r)
 
-token_mrtd : (b : Bool) (s : OpState) → IsOneOf (import_token_ops b) s → IsOneOf later_ops s
-token_mrtd true s h = has_mrtd (import_token_ops true) s refl refl h
-token_mrtd false s h = has_mrtd (import_token_ops false) s refl refl h
+  op_true : (x : ChangesOp c w w') → IsOneOf later_ops x.then_in → IsTrue (mrtd_of w' x.tdr)
+  op_true x r = elim (x.mrtd r) [
+    | inl kept ↦ stays x.tdr kept.1 kept.0
+    | inr new ↦ new
+  ]
 
--- a TD that is still built measures
-measure_true : (m : Machine) (w : World) (t : ℕ) (records : List ℕ) → IsOneOf (op.Initialized ∷ []) (w.tds.ops t) → AreMrtdsTrue m w → AreMrtdsTrue m (measure t records w)
-measure_true m w t records begun h x r = by_test (x == t)
-    (λ y. absurd (not_built (w.tds.ops t) begun (subst (λ (z : ℕ). IsOneOf later_ops (w.tds.ops z)) (eqb-true x t y) r)))
-    (λ n. rw n (h x r))
-
--- a TD that has its MRTD goes into another state
-changed_true : (m : Machine) (w : World) (t : ℕ) (s : OpState) → IsOneOf later_ops (w.tds.ops t) → AreMrtdsTrue m w → AreMrtdsTrue m (set_op t s w)
-changed_true m w t s has h x r = by_test (x == t)
-    (λ y. h x (subst (λ (z : ℕ). IsOneOf later_ops (w.tds.ops z)) (sym (eqb-true x t y)) has))
-    (λ n. h x (rw n at r))
-
--- MR.FINALIZE measures the last, and no import gave it
-finalized_true : (m : Machine) (w : World) (t : ℕ) → (read_td m t Mrtd).value ((finalize m t).act w) ≡ value.Digest (given_or_measured (put w.tds.mrtds_given t None t) (w.tds.measured t))
-finalized_true m w t =
-    mrtd_is_the_digest m w t
-    ∙ ap (λ (given : Option (ℕ → ℕ)). value.Digest (given_or_measured given (w.tds.measured t))) (sym (put_here w.tds.mrtds_given t None))
-
--- a page that comes in leaves MRTDs alone
-filled_true : (m : Machine) (w : World) (t gpa page : ℕ) (ws : ℕ → ℕ) (s : EntryState) → AreMrtdsTrue m w → AreMrtdsTrue m (fill_page t gpa page ws s w)
-filled_true m w t gpa page ws entry.Free h = h
-filled_true m w t gpa page ws _ h = h
+  shape_true : Shape me c w w' → AreMrtdsTrue m w'
+  shape_true (shape.notes x) = by_aspect _ x.rest (λ t r. stays t (x.mrtds t r) r)
+  shape_true (shape.fills x) = by_aspect _ x.rest h
+  shape_true (shape.takes x) = by_aspect _ x.rest (λ t r. stays t (x.mrtds t r) r)
+  shape_true (shape.reclaims x) = by_world _ x.is h
+  shape_true (shape.unmaps x) = by_world _ x.is h
+  shape_true (shape.begins x) = by_world _ x.is (λ t r. by_test (t == x.tdr) (λ y. absurd (let no : false ≡ true = rw y at r in cc)) (λ n. rw n (h t (rw n at r))))
+  shape_true (shape.changes_life x) = by_aspect _ x.rest h
+  shape_true (shape.changes_op x) = by_aspect _ x.rest (λ t r. by_test (t == x.tdr)
+      (λ y. subst (λ (z : ℕ). IsTrue (mrtd_of w' z)) (sym (eqb-true t x.tdr y)) (op_true x (rw y at r)))
+      (λ n. stays t (x.mrtds t n) (rw n at r)))
+  shape_true (shape.changes_vp x) = by_aspect _ x.rest h
+  shape_true (shape.enters x) = by_world _ x.is h
+  shape_true (shape.flushes x) = by_world _ x.is h
+  shape_true (shape.changes_entry x) = by_aspect _ x.rest h
+  shape_true (shape.advances x) = by_world _ x.is h
 
 row_true : (o : Opening) (me : ℕ) (c : Call) (w : World) → AreMrtdsTrue o.machine w → Passes ((row_of o me c).items w) → AreMrtdsTrue o.machine ((row_of o me c).act w)
-row_true o me (call.MngCreate t k) w h ps x r = by_test (x == t)
-    (λ y. absurd (let no : false ≡ true = rw y at r in cc))
-    (λ n. rw n (h x (rw n at r)))
-row_true o me (call.MngInit t) w h ps x r = by_test (x == t)
-    (λ y. absurd (let no : false ≡ true = rw y at r in cc))
-    (λ n. rw n (h x (rw n at r)))
-row_true o me (call.MrFinalize t) w h ps x r = by_test (x == t)
-    (λ y. subst (λ (z : ℕ). (read_td o.machine z Mrtd).value ((finalize o.machine t).act w) ≡ value.Digest (given_or_measured (put w.tds.mrtds_given t None z) (w.tds.measured z))) (sym (eqb-true x t y)) (finalized_true o.machine w t))
-    (λ n. rw n (h x (rw n at r)))
-row_true o me (call.MemPageAdd t gpa page source) w h ps x r = measure_true o.machine w t _ ps.1.1.1.1.1.1.1.1.1.1.1.0 h x r
-row_true o me (call.MrExtend t gpa) w h ps x r = measure_true o.machine w t _ ps.1.1.1.1.1.1.0 h x r
-row_true o me (call.ExportPause t) w h ps x r = changed_true o.machine w t op.PausedExport (has_mrtd live_ops (w.tds.ops t) refl refl ps.1.1.1.1.0) h x r
-row_true o me (call.ExportAbort t) w h ps x r = changed_true o.machine w t op.Runnable (has_mrtd abortable_ops (w.tds.ops t) refl refl ps.1.1.1.1.0) h x r
-row_true o me (call.ExportStateImmutable t slot) w h ps x r = changed_true o.machine w t op.LiveExport (has_mrtd session_ops (w.tds.ops t) refl refl ps.1.1.1.1.0) h x r
-row_true o me (call.ExportTrack t slot zero) w h ps x r = h x r
-row_true o me (call.ExportTrack t slot (suc n)) w h ps x r = changed_true o.machine w t op.PostExport (has_mrtd paused_ops (w.tds.ops t) refl refl ps.1.1.1.1.1.0) h x r
-row_true o me (call.ExportAbortByToken t slot) w h ps x r = changed_true o.machine w t op.Runnable (has_mrtd sent_ops (w.tds.ops t) refl refl ps.1.1.1.1.1.1.1.0) h x r
-row_true o me (call.ImportStateImmutable t slot) w h ps x r = by_test (x == t)
-    (λ y. rw y refl)
-    (λ n. rw n (h x (rw n at r)))
-row_true o me (call.ImportMem t slot page) w h ps x r =
-    let i : Input = input_in (o.bundles slot) in
-    filled_true o.machine w t i.header.gpa page i.words (entry_at w t 0 i.header.gpa).state h x r
-row_true o me (call.ImportTrack t slot) w h ps x r =
-    let start : Bool = is_start (input_in (o.bundles slot)).header in
-    changed_true o.machine w t (op_then start (w.tds.ops t)) (token_mrtd start (w.tds.ops t) ps.1.1.1.1.1.1.1.0) h x r
-row_true o me (call.ImportStateTd t slot) w h ps x r = changed_true o.machine w t op.StateImport (has_mrtd td_state_ops (w.tds.ops t) refl refl ps.1.1.1.1.1.1.1.0) h x r
-row_true o me (call.ImportCommit t) w h ps x r = changed_true o.machine w t op.LiveImport (has_mrtd commit_ops (w.tds.ops t) refl refl ps.1.1.1.1.0) h x r
-row_true o me (call.ImportEnd t) w h ps x r = changed_true o.machine w t op.Runnable (has_mrtd late_ops (w.tds.ops t) refl refl ps.1.1.1.1.0) h x r
-row_true o me (call.ImportAbort t slot) w h ps x r = changed_true o.machine w t op.FailedImport (has_mrtd given_up_ops (w.tds.ops t) refl refl ps.1.1.1.1.0) h x r
-row_true o me _ w h ps x r = h x r
+row_true o me c w h ps = shape_true me c o.machine w ((row_of o me c).act w) h (shape_of o me c w ps)
 
 reach_true : (m : Machine) (t v : ℕ) (access : Access) (r gpa page : ℕ) (w : World) → AreMrtdsTrue m w → AreMrtdsTrue m (reach t v access r gpa page w)
 reach_true m t v Read r gpa page w h = h

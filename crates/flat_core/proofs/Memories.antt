@@ -1,28 +1,19 @@
 -- What guests know of their private pages is what the pages hold.
-use Rattle.std.proofs.Common.{lit≤, ◌≡◌, refl, sym, ◌∙◌, ap, subst, ℕ, zero, suc, ◌+◌, ◌≤◌, [], ◌∷◌, ◌++◌, length, Option, Some, option_map, true, false, ◌==◌, ◌&&◌, arith}
+use Rattle.std.proofs.Common.{◌≡◌, refl, sym, ◌∙◌, ap, subst, ℕ, ◌+◌, [], ◌∷◌, ◌++◌, length, Option, Some, option_map, true, false, ◌==◌, ◌&&◌}
 use Rattle.std.proofs.lemmas.Bool.{eq-eqb, eqb-true, and_parts}
-use Rattle.td_words.specs.declared.names.PageKind.TheVariants as kind
-use Rattle.td_words.specs.declared.names.LifeState.TheVariants as life
 use Rattle.td_words.specs.declared.names.EntryState.{EntryState}
 use Rattle.td_words.specs.declared.names.EntryState.TheVariants as entry
-use Rattle.td_words.specs.declared.calls.Call.{Call}
-use Rattle.td_words.specs.declared.calls.Call.TheVariants as call
 use Rattle.td_words.specs.declared.calls.GuestOp.{GuestOp}
 use Rattle.std.proofs.lemmas.List.{append-nil}
 use Rattle.td_words.specs.declared.names.Access.{Access}
 use Rattle.td_words.specs.declared.names.Access.TheVariants.{Read, Write}
 use Rattle.td_words.specs.Packing.{Entry}
-use Rattle.mrtd_measure.specs.Records.{page_record}
 use Rattle.flat_core.specs.World.{World, put}
 use Rattle.flat_core.specs.Processor.{Guest, LoadNote}
 use Rattle.flat_core.specs.Opening.{Opening, Incoming}
 use Rattle.flat_core.specs.Row.{OperationRow, Passes}
-use Rattle.flat_core.specs.Conditions.{host_page, page_exclusive}
-use Rattle.flat_core.specs.Tree.{page_of_gpa, word_of_gpa, number_at, entry_at, same_state, state_in, empty_below}
-use Rattle.flat_core.specs.Effects.{put_in, stored_in, pass_operation, tell_words, set_word, clear_page, take_page, add_control, add_vp, unmap_page, end_memory}
-use Rattle.flat_core.specs.Tracking.{tracked_page}
-use Rattle.flat_core.specs.MemRows.{open_states, blocked_states, removed_states}
-use Rattle.flat_core.specs.ExportRows.{add_stream, live_ops, write_blocked, write_blocked_states, write_unblocked, restoring_ops, restored_states}
+use Rattle.flat_core.specs.Tree.{page_of_gpa, word_of_gpa, entry_at, same_state}
+use Rattle.flat_core.specs.Effects.{put_in, stored_in, pass_operation, tell_words}
 use Rattle.flat_core.specs.Table.{row_of}
 use Rattle.flat_core.specs.Guest.{ByRow, operation_of, shared_page, register_told, shared_store, is_pending_at, accept_page, reach, word_reached}
 use Rattle.flat_core.specs.Event.{State, Event, Reaches, next_event, after_event, event}
@@ -30,92 +21,15 @@ use Rattle.flat_core.specs.Lawful.{IsAlive, Lawful, is_free}
 use Rattle.flat_core.specs.Laws.{reached, with_bundles, HoldsInRuns, holds_memory, memory_of, ArePagesKnown, GuestsKnowTheirPages}
 use Rattle.flat_core.specs.Access.{Names, is_pending}
 use Rattle.flat_core.specs.AccessLaw.{IsGuarded, MemoriesAreKept, known_word, Loads, Stores, IsOwnAccess, AccessesAreOwn}
-use Rattle.flat_core.proofs.Tests.{by_test, host_kind, tdr_kind, range_of, same_self}
-use Rattle.flat_core.proofs.Maps.{walk_passed}
-use Rattle.flat_core.proofs.Ranges.{named_passed, named_alive, opened_passed, write_passed, export_passed, block_restates, unblock_restates, write_remarks, unwrite_remarks, restored, can_export, page_removed, sept_removed}
-use Rattle.flat_core.proofs.Removals.{empty_at}
-use Rattle.flat_core.proofs.Keeps.{live_of, ended_of, free_of}
+use Rattle.flat_core.proofs.Tests.{by_test, host_kind, same_self}
 use Rattle.flat_core.proofs.Induction.{in_runs}
 use Rattle.flat_core.proofs.Operations.{operation_row, accepted}
 use Rattle.flat_core.proofs.Due.{Due, calls, frees, leaves, stops, fills, operates, walks, reaches, undoes, gives_back, due_event_is}
 use Rattle.flat_core.proofs.Acts.{event_world}
 use Rattle.flat_core.proofs.Owned.{are_owned}
 use Rattle.flat_core.proofs.Always.{occ-of, occupied-alive, access_kept, reaches_own}
-use Rattle.flat_core.proofs.Known.{words_stay, still_known, known_beside, alive_before, lived_before, owner_of, reclaim_known, create_known, sept_known, added_known, same_entry, augmented_known, restated_known, unmapped_known}
-use Rattle.flat_core.proofs.ImportKnown.{import_page-known}
-
-row_known : (o : Opening) (me : ℕ) (c : Call) (w : World) → Lawful o.machine w → ArePagesKnown w → Passes ((row_of o me c).items w) → ArePagesKnown ((row_of o me c).act w)
-row_known o me (call.HostWrite page i v) w l h ps x n a = known_beside o.machine w l h (set_word page i v w) page x n (host_kind _ ps.1.1.0) a (λ p e. words_stay w.words page i v p e) refl refl
-row_known o me (call.PhymemPageReclaim t page) w l h ps x n a =
-    reclaim_known o.machine w l h t page (ended_of (w.tds.lives t) ps.1.1.1.0) (owner_of o.machine w l h t page (page == t) refl (tdr_kind _ ps.1.1.0) ps.1.1.1.1) x n a
-row_known o me (call.MngCreate t k) w l h ps x n a = create_known o.machine w l h t k (host_kind _ ps.1.1.0) x n a
-row_known o me (call.MngKeyConfig t) w l h ps x n a =
-    h x n (lived_before o.machine w l h t life.KeysConfigured (live_of (life.HkidAssigned ∷ []) (w.tds.lives t) refl ps.1.1.0) x a)
-row_known o me (call.MngVpflushdone t) w l h ps x n a =
-    h x n (lived_before o.machine w l h t life.Blocked (live_of (life.HkidAssigned ∷ life.KeysConfigured ∷ []) (w.tds.lives t) refl ps.1.1.0) x a)
-row_known o me (call.MngKeyFreeid t) w l h ps x n a =
-    h x n (lived_before o.machine w l h t life.Teardown (live_of (life.Blocked ∷ []) (w.tds.lives t) refl ps.1.1.0) x a)
-row_known o me (call.MngAddcx t page) w l h ps x n a =
-    let v : World = add_control t page (clear_page page (take_page page kind.Tdcx t w)) in
-    known_beside o.machine w l h v page x n (host_kind _ ps.1.1.1.1.1.1.0) (alive_before o.machine w l h page kind.Tdcx t 0 0 (λ e. cc) v.tds refl x a) (λ p e. rw e refl) refl refl
-row_known o me (call.VpCreate t page) w l h ps x n a =
-    let v : World = add_vp t page (clear_page page (take_page page kind.Tdvpr t w)) in
-    known_beside o.machine w l h v page x n (host_kind _ ps.1.1.1.1.1.1.1.1.0) (alive_before o.machine w l h page kind.Tdvpr t 0 0 (λ e. cc) v.tds refl x a) (λ p e. rw e refl) refl refl
-row_known o me (call.MemSeptAdd t gpa level page) w l h ps x n a =
-    let at : (1 ≤ level) × (level ≤ 3) = range_of level 3 ps.1.1.0 in
-    let behind = walk_passed w t gpa (state_in w t gpa level (entry.Free ∷ []) ∷ page_exclusive page ∷ host_page w page ∷ []) level at.1 ps.1.1.1.1.1.1.1.1.1.1 in
-    sept_known o.machine w l h t level (number_at level gpa) page at.0 (host_kind _ behind.0.1.0) x n a
-row_known o me (call.MemPageAdd t gpa page source) w l h ps x n a =
-    let behind = walk_passed w t gpa (state_in w t gpa 0 (entry.Free ∷ []) ∷ page_exclusive source ∷ host_page w source ∷ page_exclusive page ∷ host_page w page ∷ []) 0 (lit≤ tt) ps.1.1.1.1.1.1.1.1.1.1.1.1 in
-    added_known o.machine w l h t (page_of_gpa gpa) page (w.words source) (page_record gpa) (host_kind _ behind.0.1.1.0) x n a
-row_known o me (call.MemPageAug t gpa page) w l h ps x n a =
-    let behind = walk_passed w t gpa (state_in w t gpa 0 (entry.Free ∷ []) ∷ page_exclusive page ∷ host_page w page ∷ []) 0 (lit≤ tt) ps.1.1.1.1.1.1.1.1.1 in
-    augmented_known o.machine w l h t (page_of_gpa gpa) page (host_kind _ behind.0.1.0) (free_of (entry_at w t 0 gpa).state behind.0.0) x n a
-row_known o me (call.MemPageRemove t gpa) w l h ps x n a =
-    let rest = tracked_page w t (entry_at w t 0 gpa).page ∷ [] in
-    let q = named_passed w t gpa 0 removed_states rest ps.1.1.1 in
-    let r = page_removed (entry_at w t 0 gpa).state q.state in
-    let v : World = unmap_page t 0 (number_at 0 gpa) (end_memory t (page_of_gpa gpa) w) in
-    unmapped_known o.machine w l h t 0 (number_at 0 gpa) v (named_alive w t gpa 0 removed_states rest q) r.used r.unmarked (λ j i e. cc) refl refl
-    (λ e. let a = same_self t in let b = same_self (page_of_gpa gpa) in rw (a, b) refl)
-    (λ x n off. by_test (x == t)
-    (λ y. by_test (n == page_of_gpa gpa) (λ z. absurd (off (eqb-true x t y) refl (eqb-true n _ z))) (λ z. rw (y, z) refl))
-    (λ y. rw y refl))
-    x n (alive_before o.machine w l h (entry_at w t 0 gpa).page kind.Nda 0 0 0 (λ e. cc) v.tds refl x a)
-row_known o me (call.MemSeptRemove t gpa level) w l h ps x n a =
-    let rest = empty_below w t gpa level ∷ tracked_page w t (entry_at w t level gpa).page ∷ [] in
-    let q = named_passed w t gpa level (entry.NlBlocked ∷ []) rest ps.1.1.1.1 in
-    let r = sept_removed (entry_at w t level gpa).state q.state in
-    let v : World = unmap_page t level (number_at level gpa) w in
-    let upper = (range_of level 3 ps.1.1.0).0 in
-    unmapped_known o.machine w l h t level (number_at level gpa) v (named_alive w t gpa level (entry.NlBlocked ∷ []) rest q) r.used r.unmarked (empty_at w t gpa level q.rest_holds.0) refl refl
-    (λ e. absurd (omega (arith, upper, e))) (λ x n off. refl)
-    x n (alive_before o.machine w l h (entry_at w t level gpa).page kind.Nda 0 0 0 (λ e. cc) v.tds refl x a)
-row_known o me (call.MemRangeBlock t gpa level) w l h ps x n a =
-    let q = named_passed w t gpa level open_states [] ps.1.1.1.1 in
-    restated_known o.machine w l h t level (number_at level gpa) _ 0 (block_restates (entry_at w t level gpa).state q.state).same_memory x n (record { kind = a.kind; life = a.life })
-row_known o me (call.MemRangeUnblock t gpa level) w l h ps x n a =
-    let q = named_passed w t gpa level blocked_states (tracked_page w t (entry_at w t level gpa).page ∷ []) ps.1.1.1.1 in
-    restated_known o.machine w l h t level (number_at level gpa) _ 0 (unblock_restates (entry_at w t level gpa).state q.state).same_memory x n (record { kind = a.kind; life = a.life })
-row_known o me (call.MigStreamCreate t page) w l h ps x n a =
-    let v : World = add_stream t page (clear_page page (take_page page kind.Migsc t w)) in
-    known_beside o.machine w l h v page x n (host_kind _ ps.1.1.1.1.1.1.1.1.0) (alive_before o.machine w l h page kind.Migsc t 0 0 (λ e. cc) v.tds refl x a) (λ p e. rw e refl) refl refl
-row_known o me (call.ExportBlockw t gpa) w l h ps x n a =
-    let e : Entry = entry_at w t 0 gpa in
-    restated_known o.machine w l h t 0 (number_at 0 gpa) (write_blocked e.state) e.mark (write_remarks e.state (write_passed o.machine w t gpa ps).state).same_memory x n (record { kind = a.kind; life = a.life })
-row_known o me (call.ExportUnblockw t gpa) w l h ps x n a =
-    let e : Entry = entry_at w t 0 gpa in
-    restated_known o.machine w l h t 0 (number_at 0 gpa) (write_unblocked e.state) e.mark (unwrite_remarks e.state (opened_passed w t gpa live_ops write_blocked_states ps.1.1.1).state).same_memory x n (record { kind = a.kind; life = a.life })
-row_known o me (call.ExportRestore t gpa) w l h ps x n a =
-    let p = opened_passed w t gpa restoring_ops restored_states ps.1.1.1 in
-    restated_known o.machine w l h t 0 (number_at 0 gpa) entry.Mapped 0 (restored (entry_at w t 0 gpa).state p.state).same_memory x n (record { kind = a.kind; life = a.life })
-row_known o me (call.ExportMem t gpa k slot) w l h ps x n a =
-    let p = export_passed o.machine w t gpa k slot ps in
-    restated_known o.machine w l h t 0 (number_at 0 gpa) entry.ExportedBlockedW (w.tds.mig_epochs t) (can_export (w.tds.ops t) (entry_at w t 0 gpa).state p.state).same_memory x n (record { kind = a.kind; life = a.life })
-row_known o me (call.ExportTrack t slot zero) w l h ps x n a = h x n (record { kind = a.kind; life = a.life })
-row_known o me (call.ExportTrack t slot (suc i)) w l h ps x n a = h x n (record { kind = a.kind; life = a.life })
-row_known o me (call.ImportMem t slot page) w l h ps x n a = import_page-known o.machine (o.bundles slot) t slot page w l h ps x n a
-row_known o me _ w l h ps x n a = h x n (record { kind = a.kind; life = a.life })
+use Rattle.flat_core.proofs.Known.{words_stay, still_known, known_beside, same_entry, shape_known}
+use Rattle.flat_core.proofs.ShapeOf.{shape_of}
 
 -- what a store puts into one page changes, of what guests know, that page's word alone
 module _ (o : Opening) (w : World) (l : Lawful o.machine w) (h : ArePagesKnown w) (t : ℕ) (alive : IsAlive w.pages w.tds t) where
@@ -189,7 +103,7 @@ known_after o bundles s p all h =
     let l : Lawful q.machine s.world = all.timely.lawful in
     let alive : (g : Guest) → (s.lps p).guest ≡ Some g → IsAlive s.world.pages s.world.tds g.tdr = λ g e. occupied-alive s.world p g.tdr g.vp (occ-of o s all.timely p g e) in
     event_world q s p ArePagesKnown h
-    (λ c cs line none ps. row_known q p c s.world l h ps)
+    (λ c cs line none ps. shape_known p c q.machine s.world ((row_of q p c).act s.world) l h (shape_of q p c s.world ps))
     (λ c cs g op row i is ps. operation_known q s.world l h g.tdr (alive g i.guest) g.vp (length (s.lps p).replies + 1) op row is ps)
     (λ c cs g op access r gpa page i is found. reach_known q s.world l h g.tdr (alive g i.guest) g.vp access r gpa page (reaches_own o s all p (page_of_gpa gpa) page access g i.guest found).0.named)
     (λ c cs g i x n a. h x n (record { kind = a.kind; life = a.life }))

@@ -1,10 +1,8 @@
 -- Pages have one use: what a call takes was the host's, and nothing but a call's act changes what a page is used for.
-use Rattle.std.proofs.Common.{lit≤, ◌≡◌, refl, subst, ℕ, zero, suc, ◌+◌, List, [], ◌∷◌, length, Option, Some, None, false}
-use Rattle.td_words.specs.declared.names.EntryState.TheVariants as entry
+use Rattle.std.proofs.Common.{◌≡◌, refl, subst, ℕ, ◌+◌, List, [], ◌∷◌, length, Option, Some, None, false}
 use Rattle.td_words.specs.declared.names.Access.{Access}
 use Rattle.td_words.specs.declared.names.Access.TheVariants.{Read, Write}
 use Rattle.td_words.specs.declared.calls.Call.{Call}
-use Rattle.td_words.specs.declared.calls.Call.TheVariants as call
 use Rattle.td_words.specs.declared.calls.GuestOp.{GuestOp}
 use Rattle.td_words.specs.declared.replies.Outcome.{Outcome}
 use Rattle.td_words.specs.declared.replies.Reply.{Reply}
@@ -12,45 +10,20 @@ use Rattle.flat_core.specs.World.{World}
 use Rattle.flat_core.specs.Processor.{Phase, Trying, Undoing, Answered, Held, Lp}
 use Rattle.flat_core.specs.Opening.{Opening}
 use Rattle.flat_core.specs.Row.{OperationRow, Move, Attempts, Undoes, Refuses, Succeeds, Releases, Rests, Passes, next, next_in}
-use Rattle.flat_core.specs.Conditions.{host_page, page_exclusive}
 use Rattle.flat_core.specs.Effects.{tell_words}
-use Rattle.flat_core.specs.Tree.{entry_at, state_in}
 use Rattle.flat_core.specs.Guest.{ByRow, operation_of, is_pending_at, reach}
 use Rattle.flat_core.specs.Table.{row_of}
 use Rattle.flat_core.specs.Event.{State, Event, OfCall, OfOperation, lines_left, next_event, nothing_more, world_after, after_event, event}
 use Rattle.flat_core.specs.Laws.{IsUsedAsBefore, PagesHaveOneUse}
 use Rattle.flat_core.specs.PageUses.{is_act, is_act_giving_back, EventsKeepUses}
-use Rattle.flat_core.proofs.Tests.{range_of}
-use Rattle.flat_core.proofs.Maps.{walk_passed}
 use Rattle.flat_core.proofs.Operations.{operation_row, accepted}
 use Rattle.flat_core.proofs.Enter.{all_pass}
 use Rattle.flat_core.proofs.Due.{Due, calls, frees, leaves, stops, fills, operates, walks, reaches, undoes, gives_back, due_event_is}
-use Rattle.flat_core.proofs.Uses.{same_use, other_taken, host_taken}
-use Rattle.flat_core.proofs.ImportUses.{import_page-uses}
+use Rattle.flat_core.proofs.Uses.{same_use, shape_uses}
+use Rattle.flat_core.proofs.ShapeOf.{shape_of}
 
 pub one_use : PagesHaveOneUse
-one_use o me (call.PhymemPageReclaim t page) w p ps owned stays = other_taken w page _ 0 0 0 p stays
-one_use o me (call.MngCreate t h) w p ps owned stays = host_taken w t _ t 0 0 p ps.1.1.0 owned
-one_use o me (call.MngAddcx t page) w p ps owned stays = host_taken w page _ t 0 0 p ps.1.1.1.1.1.1.0 owned
-one_use o me (call.VpCreate t page) w p ps owned stays = host_taken w page _ t 0 0 p ps.1.1.1.1.1.1.1.1.0 owned
-one_use o me (call.MemSeptAdd t gpa level page) w p ps owned stays =
-    let behind = walk_passed w t gpa (state_in w t gpa level (entry.Free ∷ []) ∷ page_exclusive page ∷ host_page w page ∷ []) level (range_of level 3 ps.1.1.0).1 ps.1.1.1.1.1.1.1.1.1.1 in
-    host_taken w page _ t level _ p behind.0.1.0 owned
-one_use o me (call.MemPageAdd t gpa page source) w p ps owned stays =
-    let behind = walk_passed w t gpa (state_in w t gpa 0 (entry.Free ∷ []) ∷ page_exclusive source ∷ host_page w source ∷ page_exclusive page ∷ host_page w page ∷ []) 0 (lit≤ tt) ps.1.1.1.1.1.1.1.1.1.1.1.1 in
-    host_taken w page _ t 0 _ p behind.0.1.1.0 owned
-one_use o me (call.MemPageAug t gpa page) w p ps owned stays =
-    let behind = walk_passed w t gpa (state_in w t gpa 0 (entry.Free ∷ []) ∷ page_exclusive page ∷ host_page w page ∷ []) 0 (lit≤ tt) ps.1.1.1.1.1.1.1.1.1 in
-    host_taken w page _ t 0 _ p behind.0.1.0 owned
-one_use o me (call.MemPageRemove t gpa) w p ps owned stays = other_taken w (entry_at w t 0 gpa).page _ 0 0 0 p stays
-one_use o me (call.MemSeptRemove t gpa level) w p ps owned stays = other_taken w (entry_at w t level gpa).page _ 0 0 0 p stays
-one_use o me (call.MemRangeBlock t gpa level) w p ps owned stays = record { kind = refl; owner = refl; level = refl; number = refl }
-one_use o me (call.MigStreamCreate t page) w p ps owned stays = host_taken w page _ t 0 0 p ps.1.1.1.1.1.1.1.1.0 owned
-one_use o me (call.ExportBlockw t gpa) w p ps owned stays = record { kind = refl; owner = refl; level = refl; number = refl }
-one_use o me (call.ExportTrack t slot zero) w p ps owned stays = same_use w.pages p
-one_use o me (call.ExportTrack t slot (suc n)) w p ps owned stays = same_use w.pages p
-one_use o me (call.ImportMem t slot page) w p ps owned stays = import_page-uses o.machine (o.bundles slot) t slot page w p ps owned
-one_use o me _ w p ps owned stays = same_use w.pages p
+one_use o me c w p ps owned stays = shape_uses me c w ((row_of o me c).act w) p owned stays (shape_of o me c w ps)
 
 -- through events
 

@@ -17,11 +17,10 @@ use Rattle.td_words.specs.Packing.{is_exported}
 use Rattle.flat_core.specs.World.{World}
 use Rattle.flat_core.specs.Row.{Item, Passes}
 use Rattle.flat_core.specs.Locks.{one_if}
-use Rattle.flat_core.specs.Conditions.{page_exclusive, same_kind, blocking_ops}
-use Rattle.flat_core.specs.Tree.{same_state, entry_at, has_page, state_in, named_page}
+use Rattle.flat_core.specs.Conditions.{same_kind, blocking_ops}
+use Rattle.flat_core.specs.Tree.{same_state, entry_at, state_in, named_page}
 use Rattle.flat_core.specs.ExportRows.{live_ops, abortable_ops, writable_states, write_blocked, block_write, opened_row, write_blocked_states, write_unblocked, is_first_dirt, restored_states}
-use Rattle.flat_core.specs.Sessions.{stream_page, other_epoch, counter_room}
-use Rattle.flat_core.specs.BundleRows.{paused_ops, exportable, tracked_in, export_page}
+use Rattle.flat_core.specs.BundleRows.{paused_ops, exportable, export_page}
 use Rattle.flat_core.specs.Exports.{is_dirty}
 use Rattle.flat_core.specs.MemRows.{named_row, open_states, blocked_states, removed_states, blocked_state, unblocked_state}
 use Rattle.flat_core.specs.Lawful.{IsAlive, is_free, is_node, is_exporting}
@@ -59,8 +58,8 @@ pub record NamedPassed (w : World) (t gpa level : ℕ) (allowed : List EntryStat
 
 pub named_passed : (w : World) (t gpa level : ℕ) (allowed : List EntryState) (rest : List (Item Reply)) → Passes (named_row w t gpa level allowed rest) → NamedPassed w t gpa level allowed rest
 named_passed w t gpa level allowed rest ps =
-    let behind = behind_walk w t gpa level (state_in w t gpa level allowed ∷ named_page w t gpa level Exclusive ∷ rest) ps.1.1.1.1 in
-    record { root = ps.0; life = ps.1.0; built = ps.1.1.0; op = ps.1.1.1.0; state = behind.0; rest_holds = behind.1 }
+    let behind = behind_walk w t gpa level (state_in w t gpa level allowed ∷ named_page w t gpa level Exclusive ∷ rest) (search) in
+    record { root = search; life = search; built = search; op = search; state = behind.0; rest_holds = behind.1 }
 
 pub living : (s : LifeState) → list_any (λ b. life_number b == life_number s) (life.KeysConfigured ∷ []) ≡ true → (life_number s == life_number life.Teardown) ≡ false
 living life.KeysConfigured h = refl
@@ -78,22 +77,13 @@ pub record EntryPassed (w : World) (t gpa : ℕ) (ops : List OpState) (allowed :
   pub state : list_any (λ s. same_state s (entry_at w t 0 gpa).state) allowed ≡ true
 
 pub opened_passed : (w : World) (t gpa : ℕ) (ops : List OpState) (allowed : List EntryState) → Passes (opened_row w t gpa ops allowed) → EntryPassed w t gpa ops allowed
-opened_passed w t gpa ops allowed ps =
-    let behind = behind_walk w t gpa 0 (state_in w t gpa 0 allowed ∷ named_page w t gpa 0 Exclusive ∷ []) ps.1.1.1.1 in
-    record { root = ps.0; life = ps.1.0; built = ps.1.1.0; op = ps.1.1.1.0; state = behind.0 }
+opened_passed w t gpa ops allowed ps = search
 
 pub write_passed : (m : Machine) (w : World) (t gpa : ℕ) → Passes ((block_write m t gpa).items w) → EntryPassed w t gpa live_ops writable_states
-write_passed m w t gpa ps =
-    let behind = behind_walk w t gpa 0 (has_page w t gpa 0 ∷ named_page w t gpa 0 Exclusive ∷ state_in w t gpa 0 writable_states ∷ []) ps.1.1.1.1.1.1.1 in
-    record { root = ps.1.1.1.0; life = ps.1.1.1.1.0; built = ps.1.1.1.1.1.0; op = ps.1.1.1.1.1.1.0; state = behind.1.0 }
+write_passed m w t gpa ps = search
 
 pub export_passed : (m : Machine) (w : World) (t gpa k slot : ℕ) → Passes ((export_page m t gpa k slot).items w) → EntryPassed w t gpa abortable_ops (exportable (w.tds.ops t))
-export_passed m w t gpa k slot ps =
-    let head = ps.1.1.1.1 in
-    let behind = behind_walk w t gpa 0
-    (has_page w t gpa 0 ∷ named_page w t gpa 0 Exclusive ∷ state_in w t gpa 0 (exportable (w.tds.ops t)) ∷ other_epoch w t gpa ∷ page_exclusive (stream_page w t k) ∷ counter_room w t k ∷ tracked_in (w.tds.ops t) w t (entry_at w t 0 gpa).page)
-    head.1.1.1.1.1 in
-    record { root = head.0; life = head.1.0; built = head.1.1.0; op = head.1.1.1.0; state = behind.1.0 }
+export_passed m w t gpa k slot ps = search
 
 pub entry_alive : (w : World) (t gpa : ℕ) (ops : List OpState) (allowed : List EntryState) → EntryPassed w t gpa ops allowed → IsAlive w.pages w.tds t
 entry_alive w t gpa ops allowed p = record { kind = tdr_kind _ p.root; life = living (w.tds.lives t) p.life }

@@ -1,7 +1,7 @@
 -- What leaves a virtual processor in guest on another logical processor as it is.
-use Rattle.std.proofs.Common.{◌≡◌, ◌≢◌, refl, sym, ◌∙◌, subst, ap, ℕ, ◌≤◌, List, [], ◌∷◌, Option, Some, Bool, true, false, not, ◌==◌, arith}
+use Rattle.std.proofs.Common.{◌≡◌, ◌≢◌, refl, sym, ◌∙◌, subst, ap, ℕ, ◌≤◌, List, [], ◌∷◌, Option, Some, true, false, not, ◌==◌, arith}
 use Rattle.std.specs.List.{list_any}
-use Rattle.std.proofs.lemmas.Bool.{eqb-true, eqb-false, ne_eqb, and_parts}
+use Rattle.std.proofs.lemmas.Bool.{eqb-true, eqb-false, ne_eqb}
 use Rattle.td_words.specs.declared.names.PageKind.TheVariants as kind
 use Rattle.td_words.specs.declared.names.LifeState.{LifeState}
 use Rattle.td_words.specs.declared.names.LifeState.TheVariants as life
@@ -12,14 +12,14 @@ use Rattle.td_words.specs.NameNumber.{life_number, op_number}
 use Rattle.td_words.specs.declared.names.OpState.{OpState}
 use Rattle.td_words.specs.declared.names.OpState.TheVariants as op
 use Rattle.flat_core.specs.World.{World, Vps}
-use Rattle.flat_core.specs.Row.{Passes}
-use Rattle.flat_core.specs.Conditions.{is_host, associated_in, is_elsewhere, same_vp_state, running_ops}
-use Rattle.flat_core.specs.KeyRows.{reclaim_conditions}
+use Rattle.flat_core.specs.Conditions.{associated_in, associated_count, is_elsewhere, same_vp_state, running_ops}
 use Rattle.flat_core.specs.BundleRows.{paused_ops}
 use Rattle.flat_core.specs.Lawful.{Lawful, IsAlive}
 use Rattle.flat_core.specs.Guests.{IsOccupied, SameVp, Spares}
+use Rattle.flat_core.specs.Access.{IsHere}
 use Rattle.flat_core.proofs.Tests.{by_test}
 use Rattle.flat_core.proofs.Maps.{kind_named, unlisted}
+use Rattle.flat_core.proofs.Shapes.{ChangesLife}
 
 -- life states that aren't this one
 pub not_configured : (allowed : List LifeState) (s : LifeState) → list_any (λ a. life_number a == life_number life.KeysConfigured) allowed ≡ false → list_any (λ a. life_number a == life_number s) allowed ≡ true → s ≡ life.KeysConfigured → ⊥
@@ -36,26 +36,26 @@ pub ready_only : (s : VcpuState) → s ≡ vcpu.Ready → same_vp_state s vcpu.C
 ready_only vcpu.Created e h = cc
 ready_only vcpu.Ready e h = cc
 
-pub uninitialized_runs : (s : OpState) → list_any (λ a. op_number a == op_number s) (op.Uninitialized ∷ []) ≡ true → list_any (λ a. op_number a == op_number s) running_ops ≡ true → ⊥
-uninitialized_runs op.Uninitialized a b = cc
-uninitialized_runs op.Runnable a b = cc
-uninitialized_runs op.LiveExport a b = cc
-uninitialized_runs op.LiveImport a b = cc
-uninitialized_runs _ a b = cc
-
-pub initialized_runs : (s : OpState) → list_any (λ a. op_number a == op_number s) (op.Initialized ∷ []) ≡ true → list_any (λ a. op_number a == op_number s) running_ops ≡ true → ⊥
-initialized_runs op.Initialized a b = cc
-initialized_runs op.Runnable a b = cc
-initialized_runs op.LiveExport a b = cc
-initialized_runs op.LiveImport a b = cc
-initialized_runs _ a b = cc
-
 pub paused_runs : (s : OpState) → list_any (λ a. op_number a == op_number s) paused_ops ≡ true → list_any (λ a. op_number a == op_number s) running_ops ≡ true → ⊥
 paused_runs op.PausedExport a b = cc
 paused_runs op.Runnable a b = cc
 paused_runs op.LiveExport a b = cc
 paused_runs op.LiveImport a b = cc
 paused_runs _ a b = cc
+
+-- a virtual processor that is associated is of no TD of which none is
+pub associated_off : (m : Machine) (w : World) → Lawful m w → (u p t v : ℕ) → IsHere w p t v → (associated_count w u == 0) ≡ true → (t == u) ≡ false
+associated_off m w l u p t v h none = by_test (t == u)
+    (λ y. absurd (let alive : IsAlive w.pages w.tds t = record { kind = h.tdr; life = rw (h.life) refl } in
+    let listed : list_any (λ q. q == v) (w.tds.vps (w.pages.owners v)) ≡ true = l.lists.vp v h.page.kind (subst (λ (z : ℕ). IsAlive w.pages w.tds z) (sym h.page.owner) alive) in
+    let here : list_any (λ q. q == v) (w.tds.vps u) ≡ true = subst (λ (z : ℕ). list_any (λ q. q == v) (w.tds.vps z) ≡ true) (h.page.owner ∙ eqb-true t u y) listed in
+    let some = counted w.vps.associated v p (w.tds.vps u) h.associated here in
+    let zero_is : associated_in w.vps.associated (w.tds.vps u) ≡ 0 = eqb-true _ 0 none in omega (arith, some, zero_is)))
+    (λ n. n)
+
+-- nor of one whose life goes on
+pub idle_off : (m : Machine) (w w' : World) → Lawful m w → (x : ChangesLife w w') → (p t v : ℕ) → IsHere w p t v → (t == x.tdr) ≡ false
+idle_off m w w' l x p t v h = by_test (t == x.tdr) (λ y. associated_off m w l x.tdr p t v h (x.idle (ap w.tds.lives (sym (eqb-true t x.tdr y)) ∙ h.life))) (λ n. n)
 
 module _ (m : Machine) (w : World) (l : Lawful m w) (p t v : ℕ) (x : IsOccupied w p t v) where
   abbrev IsSpared : World → Type 0
@@ -83,18 +83,6 @@ module _ (m : Machine) (w : World) (l : Lawful m w) (p t v : ℕ) (x : IsOccupie
   pub beside : (w' : World) → w'.pages.kinds t ≡ w.pages.kinds t → w'.tds.lives t ≡ w.tds.lives t → w'.tds.ops t ≡ w.tds.ops t → w'.pages.kinds v ≡ w.pages.kinds v → w'.pages.owners v ≡ w.pages.owners v → SameVp w w' v → IsSpared w'
   beside w' kt life ops kv ov same = running_on w' kt life (ap (λ (z : OpState). list_any (λ s. op_number s == op_number z) running_ops) ops ∙ x.running) kv ov same
 
-  pub no_change : (w' : World) → w'.vps ≡ w.vps → w'.hidden.registers ≡ w.hidden.registers → SameVp w w' v
-  no_change w' e k = record {
-    registers = λ r. ap (λ (z : ℕ → ℕ → ℕ). z v r) k;
-    index = ap (λ (z : Vps). z.indexes v) e;
-    state = ap (λ (z : Vps). z.states v) e;
-    associated = ap (λ (z : Vps). z.associated v) e;
-    last = ap (λ (z : Vps). z.lasts v) e;
-    position = ap (λ (z : Vps). z.positions v) e;
-    exported = ap (λ (z : Vps). z.exported v) e;
-    entered = ap (λ (z : Vps). z.entered v) e;
-  }
-
   -- it is neither a host page, nor is its TDR page
   pub page_off : (q : ℕ) → w.pages.kinds q ≡ kind.Nda → (v == q) ≡ false
   page_off q host = by_test (v == q) (λ y. absurd (let no : kind.Tdvpr ≡ kind.Nda = sym x.page.kind ∙ (ap w.pages.kinds (eqb-true v q y) ∙ host) in cc)) (λ n. n)
@@ -102,24 +90,10 @@ module _ (m : Machine) (w : World) (l : Lawful m w) (p t v : ℕ) (x : IsOccupie
   pub tdr_off : (q : ℕ) → w.pages.kinds q ≡ kind.Nda → (t == q) ≡ false
   tdr_off q host = by_test (t == q) (λ y. absurd (let no : kind.Tdr ≡ kind.Nda = sym x.tdr ∙ (ap w.pages.kinds (eqb-true t q y) ∙ host) in cc)) (λ n. n)
 
-  -- another TD's life
-  pub life_off : (u : ℕ) (allowed : List LifeState) → list_any (λ a. life_number a == life_number life.KeysConfigured) allowed ≡ false → list_any (λ a. life_number a == life_number (w.tds.lives u)) allowed ≡ true → (t == u) ≡ false
-  life_off u allowed off on = by_test (t == u) (λ y. absurd (not_configured allowed (w.tds.lives u) off on (ap w.tds.lives (sym (eqb-true t u y)) ∙ x.life))) (λ n. n)
-
-  pub living : IsAlive w.pages w.tds t
-  living = record { kind = x.tdr; life = rw (x.life) refl }
-
-  -- another TD's operation state
-  pub op_off : (u : ℕ) (allowed : List OpState) → ((s : OpState) → list_any (λ a. op_number a == op_number s) allowed ≡ true → list_any (λ a. op_number a == op_number s) running_ops ≡ true → ⊥) → list_any (λ a. op_number a == op_number (w.tds.ops u)) allowed ≡ true → (t == u) ≡ false
-  op_off u allowed never on = by_test (t == u) (λ y. absurd (never (w.tds.ops u) on (subst (λ (z : ℕ). list_any (λ a. op_number a == op_number (w.tds.ops z)) running_ops ≡ true) (eqb-true t u y) x.running))) (λ n. n)
-
-  -- a TD none of whose virtual processors is associated
-  pub flushed_off : (u : ℕ) → (associated_in w.vps.associated (w.tds.vps u) == 0) ≡ true → (t == u) ≡ false
-  flushed_off u none = by_test (t == u)
-      (λ y. absurd (let listed : list_any (λ q. q == v) (w.tds.vps (w.pages.owners v)) ≡ true = l.lists.vp v x.page.kind (subst (λ (z : ℕ). IsAlive w.pages w.tds z) (sym x.page.owner) living) in
-      let here : list_any (λ q. q == v) (w.tds.vps u) ≡ true = subst (λ (z : ℕ). list_any (λ q. q == v) (w.tds.vps z) ≡ true) (x.page.owner ∙ eqb-true t u y) listed in
-      let some = counted w.vps.associated v p (w.tds.vps u) x.associated here in
-      let zero_is : associated_in w.vps.associated (w.tds.vps u) ≡ 0 = eqb-true _ 0 none in omega (arith, some, zero_is)))
+  -- a TD whose life is at its end
+  pub dead_off : (u : ℕ) → (life_number (w.tds.lives u) == life_number life.Teardown) ≡ true → (t == u) ≡ false
+  dead_off u dead = by_test (t == u)
+      (λ y. absurd (let at : w.tds.lives u ≡ life.KeysConfigured = ap w.tds.lives (sym (eqb-true t u y)) ∙ x.life in let no : true ≡ false = sym dead ∙ rw at refl in cc))
       (λ n. n)
 
   -- a page of another TD
@@ -129,10 +103,6 @@ module _ (m : Machine) (w : World) (l : Lawful m w) (p t v : ℕ) (x : IsOccupie
     by_test (t == q) (λ y. absurd (eqb-false t u off (sym (l.pages.tdr t x.tdr) ∙ (ap w.pages.owners (eqb-true t q y) ∙ mine)))) (λ n. n),
   )
 
-  pub owner_of : (u q : ℕ) (b : Bool) → (q == u) ≡ b → w.pages.kinds u ≡ kind.Tdr → Passes (reclaim_conditions w u q b) → w.pages.owners q ≡ u
-  owner_of u q true e root ps = let here : q ≡ u = eqb-true q u e in l.pages.tdr q (rw here root) ∙ here
-  owner_of u q false e root ps = eqb-true _ u (and_parts (not (is_host w q)) (w.pages.owners q == u) ps.0).1
-
   -- nor is either a page that an entry names
   pub named_off : (level q : ℕ) → w.pages.kinds q ≡ kind_named level → ((v == q) ≡ false) × ((t == q) ≡ false)
   named_off level q k = (
@@ -141,9 +111,6 @@ module _ (m : Machine) (w : World) (l : Lawful m w) (p t v : ℕ) (x : IsOccupie
   )
 
   -- another virtual processor
-  pub created_off : (q : ℕ) → same_vp_state (w.vps.states q) vcpu.Created ≡ true → (v == q) ≡ false
-  created_off q h = by_test (v == q) (λ y. absurd (ready_only (w.vps.states q) (ap w.vps.states (sym (eqb-true v q y)) ∙ x.ready) h)) (λ n. n)
-
   pub elsewhere_off : (me q : ℕ) → p ≢ me → not (is_elsewhere me (w.vps.associated q)) ≡ true → (v == q) ≡ false
   elsewhere_off me q apart h = by_test (v == q)
       (λ y. absurd (let here : w.vps.associated q ≡ Some p = ap w.vps.associated (sym (eqb-true v q y)) ∙ x.associated in

@@ -24,4 +24,4 @@ filled-waits w q host t gpa page ws new _ e = absurd (host-not-private (w.pages.
 pub import_page-waits : (m : Machine) (b : Option Incoming) (t slot page : ℕ) (w : World) (q : ℕ) → is_host_in w.pages q ≡ true → Passes ((import_page m b t slot page).items w) → WaitsWherePrivate ((import_page m b t slot page).act w) q
 import_page-waits m b t slot page w q host ps e =
     let x : Input = input_in b in
-    filled-waits w q host t x.header.gpa page x.words (filling_not_run (w.tds.ops t) ps.1.1.1.1.1.1.1.1.1.0) (entry_at w t 0 x.header.gpa).state e
+    filled-waits w q host t x.header.gpa page x.words (filling_not_run (w.tds.ops t) (search)) (entry_at w t 0 x.header.gpa).state e

@@ -30,6 +30,7 @@ use Rattle.flat_core.specs.AccessLaw.{IsGuarded}
 use Rattle.flat_core.proofs.Tests.{by_test, host_kind, tdr_kind, range_of}
 use Rattle.flat_core.proofs.Maps.{kind_named, node_named}
 use Rattle.flat_core.proofs.Ranges.{named_passed, named_alive, page_removed, sept_removed}
+use Rattle.flat_core.proofs.Passed.{remove_passed, sept_remove_passed}
 use Rattle.flat_core.proofs.Keeps.{ended_of}
 use Rattle.flat_core.proofs.OneUse.{one_use, events_keep_uses}
 use Rattle.flat_core.proofs.AccessActs.{is_begun}
@@ -81,22 +82,22 @@ module _ (o : Opening) (s : State) (me q : ℕ) (all : IsGuarded o s) where
 
   given-unnamed : (c : Call) → Passes ((row_of o me c).items w) → gives_back c w q ≡ true → IsUnnamed s q
   given-unnamed (call.PhymemPageReclaim t page) ps h p c u is =
-      let owner = owner_of t page (page == t) refl (tdr_kind _ ps.1.1.0) ps.1.1.1.1 in
+      let owner = owner_of t page (page == t) refl (tdr_kind _ (search)) (search) in
       let td : c.tdr ≡ t = sym (own o.machine s la all.access p c u).private.owner ∙ (ap w.pages.owners (is ∙ eqb-true q page h) ∙ owner) in
       let living = alive o.machine s la all.access p c u in
-      let no : true ≡ false = sym (ended_of (w.tds.lives t) ps.1.1.1.0) ∙ (ap (λ (z : ℕ). life_number (w.tds.lives z) == life_number life.Teardown) (sym td) ∙ living.life) in cc
+      let no : true ≡ false = sym (ended_of (w.tds.lives t) (search)) ∙ (ap (λ (z : ℕ). life_number (w.tds.lives z) == life_number life.Teardown) (sym td) ∙ living.life) in cc
   given-unnamed (call.MemPageRemove t gpa) ps h p c u is =
       let rest = tracked_page w t (entry_at w t 0 gpa).page ∷ [] in
-      let n = named_passed w t gpa 0 removed_states rest ps.1.1.1 in
+      let n = remove_passed o.machine w t gpa ps in
       let shut : is_unreached w t (number_at 0 gpa) ≡ true = removed-unreached (entry_at w t 0 gpa).state _ n.state n.rest_holds.0 in
       (closed-is-unreached o.machine s p t (number_at 0 gpa) (is-sound o s all p) (named_alive w t gpa 0 removed_states rest n) shut).page
       (page_removed (entry_at w t 0 gpa).state n.state).used c u (λ e. cc) (is ∙ eqb-true q _ h)
   given-unnamed (call.MemSeptRemove t gpa level) ps h p c u is =
       let rest = empty_below w t gpa level ∷ tracked_page w t (entry_at w t level gpa).page ∷ [] in
-      let n = named_passed w t gpa level (entry.NlBlocked ∷ []) rest ps.1.1.1.1 in
+      let n = sept_remove_passed o.machine w t gpa level ps in
       let used = (sept_removed (entry_at w t level gpa).state n.state).used in
       let at = node_named o.machine w la t level (number_at level gpa) (named_alive w t gpa level (entry.NlBlocked ∷ []) rest n) used in
-      not-private level (range_of level 3 ps.1.1.0).0
+      not-private level (range_of level 3 (search)).0
       (sym at.page.kind ∙ (ap w.pages.kinds (sym (is ∙ eqb-true q _ h)) ∙ (own o.machine s la all.access p c u).private.kind))
   given-unnamed _ ps h p c u is = cc
 
@@ -117,7 +118,7 @@ module _ (o : Opening) (s : State) (me q : ℕ) (all : IsGuarded o s) where
     taken-waits (call.MemPageRemove t gpa) ps e = absurd (other-kind (entry_at w t 0 gpa).page kind.Nda (λ k. cc) e)
     taken-waits (call.MemSeptRemove t gpa level) ps e = absurd (other-kind (entry_at w t level gpa).page kind.Nda (λ k. cc) e)
     taken-waits (call.MemPageAdd t gpa page source) ps e = by_test (q == page)
-        (λ y. inr (rw y (is_begun (w.tds.ops t) ps.1.1.1.1.1.1.1.1.1.1.1.0)))
+        (λ y. inr (rw y (is_begun (w.tds.ops t) (search))))
         (λ n. absurd (host-not-private (w.pages.kinds q) (host_kind _ host) (rw n at e)))
     taken-waits (call.MemPageAug t gpa page) ps e = by_test (q == page)
         (λ y. inl (let a = eq-eqb t t refl in let b = eq-eqb (number_at 0 gpa) (number_at 0 gpa) refl in rw (y, a, b) refl))

@@ -2,7 +2,7 @@
 
 ghost use Rattle.isol_laws.specs.Worlds.{WorldsAreKept, BlindRunsAreAlike, BlindRunsPrintTheSame, BlindRunsMakeTheSameBundles, AgreeingRunsShowTheSame, SecretsArePrivate};
 
-use flat_core::{access_law, alike_laws};
+use flat_core::{alike_laws, translation_law};
 
 /// Under every schedule a run and the one with every private word 0, in which guests tell the same, end
 /// alike: pages of the host, TDs, virtual processors, locks, cached translations, walks and replies are
@@ -21,5 +21,5 @@ pub fn two_world_law()
     ensures private { SecretsArePrivate }
 {
     alike_laws();
-    access_law();
+    translation_law();
 }

@@ -41,7 +41,7 @@ pub fn facts_stand()
     ensures reached { FactsStand }
     ensures outside { OutsideNoneIsCounted }
 {
-    flat_core::access_law();
+    flat_core::translation_law();
     reached_locks_stand();
 }
 

@@ -22,6 +22,7 @@ use Rattle.flat_core.specs.Lawful.{Lawful, IsAlive, is_free}
 use Rattle.flat_core.specs.Table.{row_of}
 use Rattle.flat_core.proofs.Maps.{unlisted, node_named, behind_walk}
 use Rattle.flat_core.proofs.Ranges.{named_passed, named_alive, page_removed, sept_removed}
+use Rattle.flat_core.proofs.Passed.{sept_passed, remove_passed, sept_remove_passed}
 use Rattle.flat_core.proofs.Tests.{by_test, host_kind}
 use Rattle.lock_words.specs.LockWords.{TdStands}
 use Rattle.lock_words.specs.Reached.{held_as}
@@ -71,7 +72,7 @@ acts-go-on o me (call.MemRangeBlock tdr gpa level) w t la ps st = inl (same-td w
 acts-go-on o me (call.MemRangeUnblock tdr gpa level) w t la ps st = inl (same-td w _ t st refl refl refl)
 acts-go-on o me (call.MemTrack tdr) w t la ps st = inl (same-td w _ t st refl refl refl)
 acts-go-on o me (call.MigStreamCreate tdr page) w t la ps st =
-    let n : (t == page) ≡ false = apart-host w t page st ps.1.1.1.1.1.1.1.1.0 in
+    let n : (t == page) ≡ false = apart-host w t page st (search) in
     inl (same-td w _ t st (rw n refl) refl refl)
 acts-go-on o me (call.ExportBlockw tdr gpa) w t la ps st = inl (same-td w _ t st refl refl refl)
 acts-go-on o me (call.ExportUnblockw tdr gpa) w t la ps st = inl (same-td w _ t st refl refl refl)
@@ -96,33 +97,31 @@ acts-go-on o me (call.ImportMem tdr slot page) w t la ps st =
     let x : Input = input_in (o.bundles slot) in
     let gpa : ℕ = x.header.gpa in
     let s : EntryState = (entry_at w tdr 0 gpa).state in
-    let behind = behind_walk w tdr gpa 0 (state_in w tdr gpa 0 importable ∷ (page_to_fill w tdr gpa page s ++ tag_holds x ∷ [])) ps.1.1.1.1.1.1.1.1.1.1.1.1.1.1 in
-    inl (same-td (fill_page tdr gpa page x.words s w) _ t (filled-on w t tdr gpa page x.words (tag_holds x ∷ []) st s behind.1) refl refl refl)
+    inl (same-td (fill_page tdr gpa page x.words s w) _ t (filled-on w t tdr gpa page x.words (tag_holds x ∷ []) st s (search)) refl refl refl)
 acts-go-on o me (call.MemPageRemove tdr gpa) w t la ps st =
     let rest = tracked_page w tdr (entry_at w tdr 0 gpa).page ∷ [] in
-    let q = named_passed w tdr gpa 0 removed_states rest ps.1.1.1 in
+    let q = remove_passed o.machine w tdr gpa ps in
     let n = apart-named o w t tdr 0 (number_at 0 gpa) la st (named_alive w tdr gpa 0 removed_states rest q) (page_removed (entry_at w tdr 0 gpa).state q.state).used in
     inl (same-td w _ t st (rw n refl) refl refl)
 acts-go-on o me (call.MemSeptRemove tdr gpa level) w t la ps st =
     let rest = empty_below w tdr gpa level ∷ tracked_page w tdr (entry_at w tdr level gpa).page ∷ [] in
-    let q = named_passed w tdr gpa level (entry.NlBlocked ∷ []) rest ps.1.1.1.1 in
+    let q = sept_remove_passed o.machine w tdr gpa level ps in
     let n = apart-named o w t tdr level (number_at level gpa) la st (named_alive w tdr gpa level (entry.NlBlocked ∷ []) rest q) (sept_removed (entry_at w tdr level gpa).state q.state).used in
     inl (same-td w _ t st (rw n refl) refl refl)
 acts-go-on o me (call.VpCreate tdr page) w t la ps st =
-    let n : (t == page) ≡ false = apart-host w t page st ps.1.1.1.1.1.1.1.1.0 in
+    let n : (t == page) ≡ false = apart-host w t page st (search) in
     inl (same-td w _ t st (rw n refl) refl refl)
 acts-go-on o me (call.MemSeptAdd tdr gpa level page) w t la ps st =
-    let behind = behind_walk w tdr gpa level _ ps.1.1.1.1.1.1.1.1.1.1 in
-    let n : (t == page) ≡ false = apart-host w t page st behind.1.0 in
+    let n : (t == page) ≡ false = apart-host w t page st (sept_passed o.machine w tdr gpa level page ps).host in
     inl (same-td w _ t st (rw n refl) refl refl)
 acts-go-on o me (call.MemPageAdd tdr gpa page source) w t la ps st =
-    let n : (t == page) ≡ false = apart-host w t page st ps.1.1.1.1.1.1.1.1.1.1.1.1.1.1.1.1.1.0 in
+    let n : (t == page) ≡ false = apart-host w t page st (search) in
     inl (same-td w _ t st (rw n refl) refl refl)
 acts-go-on o me (call.MemPageAug tdr gpa page) w t la ps st =
-    let n : (t == page) ≡ false = apart-host w t page st ps.1.1.1.1.1.1.1.1.1.1.1.1.1.0 in
+    let n : (t == page) ≡ false = apart-host w t page st (search) in
     inl (same-td w _ t st (rw n refl) refl refl)
 acts-go-on o me (call.MngCreate tdr hkid) w t la ps st =
-    let n : (t == tdr) ≡ false = apart-host w t tdr st ps.1.1.0 in
+    let n : (t == tdr) ≡ false = apart-host w t tdr st (search) in
     inl (same-td w _ t st (rw n refl) (rw n refl) (rw n refl))
 acts-go-on o me (call.MngKeyConfig tdr) w t la ps st = by_test (t == tdr)
     (λ y. inr (same-page t tdr y))
@@ -135,10 +134,10 @@ acts-go-on o me (call.MngKeyFreeid tdr) w t la ps st = by_test (t == tdr)
     (λ n. inl (same-td w _ t st refl (rw n refl) refl))
 acts-go-on o me (call.MngAddcx tdr page) w t la ps st = by_test (t == tdr)
     (λ y. inr (same-page t tdr y))
-    (λ n. let k : (t == page) ≡ false = apart-host w t page st ps.1.1.1.1.1.1.0 in inl (same-td w _ t st (rw k refl) refl (rw n refl)))
+    (λ n. let k : (t == page) ≡ false = apart-host w t page st (search) in inl (same-td w _ t st (rw k refl) refl (rw n refl)))
 acts-go-on o me (call.PhymemPageReclaim tdr page) w t la ps st = by_test (t == tdr)
     (λ y. inr (same-page t tdr y))
-    (λ n. let k : (t == page) ≡ false = given n (page == tdr) refl ps.1.1.1.1 in inl (same-td w _ t st (rw k refl) refl refl))
+    (λ n. let k : (t == page) ≡ false = given n (page == tdr) refl (search) in inl (same-td w _ t st (rw k refl) refl refl))
   where
     given : (t == tdr) ≡ false → (b : Bool) → (page == tdr) ≡ b → Passes (reclaim_conditions w tdr page b) → (t == page) ≡ false
     given n true e x = rw (eqb-true page tdr e) n

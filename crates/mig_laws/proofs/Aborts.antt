@@ -29,6 +29,7 @@ use Rattle.flat_core.specs.Event.{start}
 use Rattle.flat_core.proofs.Tests.{by_test, same_self}
 use Rattle.flat_core.proofs.Parts.{IsLive}
 use Rattle.flat_core.proofs.Operations.{operation_row, accepted}
+use Rattle.flat_core.proofs.Passed.{TdPassed, td_alive}
 use Rattle.flat_bundles.proofs.Fills.{fill_either}
 use Rattle.mig_laws.specs.Ivs.{is_forward, is_filling, IsImporting, AbortsHold}
 use Rattle.mig_laws.proofs.Rows.{taken_back}
@@ -150,21 +151,23 @@ module _ (o : Opening) (me : ℕ) (w : World) (l : Lawful o.machine w) (h : Abor
   row-aborts (call.ImportStateImmutable t slot) ps =
       let x : Input = input_in (o.bundles slot) in
       let self = same_self t in
-      begun_aborts w (After (call.ImportStateImmutable t slot)) h t x.header.session (ltb-true _ _ ps.1.1.1.1.1.1.1.1.1.0) refl refl (rw self refl) (λ y z. rw z refl)
+      begun_aborts w (After (call.ImportStateImmutable t slot)) h t x.header.session (ltb-true _ _ (search)) refl refl (rw self refl) (λ y z. rw z refl)
       (λ y z a. record { alive = record { kind = a.alive.kind; life = a.alive.life }; standing = rw z at a.standing })
   row-aborts (call.ImportMem t slot page) ps =
       let x : Input = input_in (o.bundles slot) in
-      page_aborts t x.header.stream x.header.gpa page x.words (filling_fills (w.tds.ops t) ps.1.1.1.1.1.1.1.1.1.0).0
+      page_aborts t x.header.stream x.header.gpa page x.words (filling_fills (w.tds.ops t) (search)).0
   row-aborts (call.ImportTrack t slot) ps =
       let x : Input = input_in (o.bundles slot) in
-      filling_aborts (After (call.ImportTrack t slot)) t (token_fills (is_start x.header) (w.tds.ops t) ps.1.1.1.1.1.1.1.0) refl refl (λ y a. record { kind = a.kind; life = a.life }) (λ y z. rw z refl) refl
+      filling_aborts (After (call.ImportTrack t slot)) t (token_fills (is_start x.header) (w.tds.ops t) (search)) refl refl (λ y a. record { kind = a.kind; life = a.life }) (λ y z. rw z refl) refl
   row-aborts (call.ImportStateTd t slot) ps =
-      filling_aborts (After (call.ImportStateTd t slot)) t (td_state_fills (w.tds.ops t) ps.1.1.1.1.1.1.1.0).0 refl refl (λ y a. record { kind = a.kind; life = a.life }) (λ y z. rw z refl) refl
+      filling_aborts (After (call.ImportStateTd t slot)) t (td_state_fills (w.tds.ops t) (search)).0 refl refl (λ y a. record { kind = a.kind; life = a.life }) (λ y z. rw z refl) refl
   row-aborts (call.ImportStateVp t p slot) ps =
-      filling_aborts (After (call.ImportStateVp t p slot)) t (vp_state_fills (w.tds.ops t) ps.1.1.1.1.1.1.1.1.1.0).0 refl refl (λ y a. record { kind = a.kind; life = a.life }) (λ y z. refl) refl
+      filling_aborts (After (call.ImportStateVp t p slot)) t (vp_state_fills (w.tds.ops t) (search)).0 refl refl (λ y a. record { kind = a.kind; life = a.life }) (λ y z. refl) refl
   row-aborts (call.ImportCommit t) ps =
-      filling_aborts (After (call.ImportCommit t)) t (commit_fills (w.tds.ops t) ps.1.1.1.1.0).0 refl refl (λ y a. record { kind = a.kind; life = a.life }) (λ y z. rw z refl) refl
-  row-aborts (call.ImportAbort t slot) ps = given_up_aborts w h t slot (record { alive = alive_of w t ps.1.0 ps.1.1.0; standing = given_up_fills (w.tds.ops t) ps.1.1.1.1.0 })
+      filling_aborts (After (call.ImportCommit t)) t (commit_fills (w.tds.ops t) (search)).0 refl refl (λ y a. record { kind = a.kind; life = a.life }) (λ y z. rw z refl) refl
+  row-aborts (call.ImportAbort t slot) ps =
+      let td : TdPassed w t given_up_ops = search in
+      given_up_aborts w h t slot (record { alive = td_alive td; standing = given_up_fills (w.tds.ops t) td.op })
   row-aborts (call.ExportStateImmutable t slot) ps = rest_aborts (call.ExportStateImmutable t slot) ps refl (forward _ refl refl) refl
   row-aborts (call.ExportMem t gpa k slot) ps = rest_aborts (call.ExportMem t gpa k slot) ps refl (forward _ refl refl) refl
   row-aborts (call.ExportTrack t slot zero) ps = rest_aborts (call.ExportTrack t slot zero) ps refl (forward _ refl refl) refl

@@ -22,6 +22,7 @@ use Rattle.flat_core.specs.Lawful.{is_exporting}
 use Rattle.flat_core.proofs.Tests.{by_test, same_self}
 use Rattle.flat_core.proofs.Keeps.{ended_of}
 use Rattle.flat_core.proofs.Ranges.{named_passed}
+use Rattle.flat_core.proofs.Passed.{remove_passed}
 use Rattle.flat_bundles.proofs.Fills.{fill_either}
 use Rattle.mig_laws.specs.Ivs.{IsExporting}
 use Rattle.mig_laws.specs.Paused.{is_paused}
@@ -63,7 +64,7 @@ module _ (o : Opening) (me : ℕ) (w : World) where
 
   pub row-calm : (c : Call) → Passes ((row_of o me c).items w) → output_slot c ≡ None → pauses_none c ≡ true → IsCalm w (After c)
   row-calm (call.PhymemPageReclaim t page) ps none calm =
-      let dead = ended_of (w.tds.lives t) ps.1.1.1.0 in
+      let dead = ended_of (w.tds.lives t) (search) in
       calm_apart w (After (call.PhymemPageReclaim t page)) t (λ a. let no : true ≡ false = sym dead ∙ a.alive.life in cc) refl (λ x y. refl) (λ x n y. rw y refl)
   row-calm (call.MngCreate t k) ps none calm =
       calm_apart w (After (call.MngCreate t k)) t (λ a. let no : false ≡ true = rw (same_self t) at a.standing in cc) refl (λ x y. rw y refl) (λ x n y. rw y refl)
@@ -77,10 +78,10 @@ module _ (o : Opening) (me : ℕ) (w : World) where
       calm_apart w (After (call.ImportStateImmutable t slot)) t (λ a. let no : false ≡ true = rw (same_self t) at a.standing in cc) refl (λ x y. rw y refl) (λ x n y. refl)
   row-calm (call.ImportMem t slot page) ps none calm =
       let x : Input = input_in (o.bundles slot) in
-      page_calm t x.header.stream x.header.gpa page x.words (never_exporting filling_ops (w.tds.ops t) (refl, refl, refl) ps.1.1.1.1.1.1.1.1.1.0)
+      page_calm t x.header.stream x.header.gpa page x.words (never_exporting filling_ops (w.tds.ops t) (refl, refl, refl) (search))
   row-calm (call.ImportTrack t slot) ps none calm =
       let x : Input = input_in (o.bundles slot) in
-      calm_apart w (After (call.ImportTrack t slot)) t (λ a. never_then (is_start x.header) (w.tds.ops t) ps.1.1.1.1.1.1.1.0 (rw (same_self t) at a.standing)) refl (λ x y. rw y refl) (λ x n y. refl)
+      calm_apart w (After (call.ImportTrack t slot)) t (λ a. never_then (is_start x.header) (w.tds.ops t) (search) (rw (same_self t) at a.standing)) refl (λ x y. rw y refl) (λ x n y. refl)
   row-calm (call.ImportStateTd t slot) ps none calm =
       calm_apart w (After (call.ImportStateTd t slot)) t (λ a. let no : false ≡ true = rw (same_self t) at a.standing in cc) refl (λ x y. rw y refl) (λ x n y. refl)
   row-calm (call.ImportCommit t) ps none calm =
@@ -88,9 +89,9 @@ module _ (o : Opening) (me : ℕ) (w : World) where
   row-calm (call.ImportEnd t) ps none calm = calm_over t op.Runnable w refl
   row-calm (call.ImportAbort t slot) ps none calm = cc
   row-calm (call.MemPageAdd t gpa page source) ps none calm =
-      calm_apart w (After (call.MemPageAdd t gpa page source)) t (λ a. never_exporting (op.Initialized ∷ []) (w.tds.ops t) (refl, refl, refl) ps.1.1.1.1.1.1.1.1.1.1.1.0 a.standing) refl (λ x y. refl) (λ x n y. rw y refl)
+      calm_apart w (After (call.MemPageAdd t gpa page source)) t (λ a. never_exporting (op.Initialized ∷ []) (w.tds.ops t) (refl, refl, refl) (search) a.standing) refl (λ x y. refl) (λ x n y. rw y refl)
   row-calm (call.MemPageRemove t gpa) ps none calm =
-      let q = named_passed w t gpa 0 removed_states (tracked_page w t (entry_at w t 0 gpa).page ∷ []) ps.1.1.1 in
+      let q = remove_passed o.machine w t gpa ps in
       calm_apart w (After (call.MemPageRemove t gpa)) t (λ a. never_exporting blocking_ops (w.tds.ops t) (refl, refl, refl) q.op a.standing) refl (λ x y. refl) (λ x n y. rw y refl)
   row-calm (call.ExportPause t) ps none calm = cc
   row-calm (call.ExportStateImmutable t slot) ps none calm = cc

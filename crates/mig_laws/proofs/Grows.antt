@@ -23,6 +23,7 @@ use Rattle.flat_core.proofs.Tests.{by_test}
 use Rattle.flat_core.proofs.Acts.{event_world}
 use Rattle.flat_core.proofs.Always.{occ-of}
 use Rattle.flat_core.proofs.Ranges.{live_exporting}
+use Rattle.flat_core.proofs.Passed.{TdPassed, td_alive}
 use Rattle.flat_bundles.specs.Bundles.{AddsOwn}
 use Rattle.flat_bundles.proofs.Fills.{fill_either}
 use Rattle.flat_bundles.proofs.Rows.{calls-add, operation-adds, reach-adds}
@@ -170,9 +171,9 @@ module _ (o : Opening) (me : ℕ) (w : World) (l : Lawful o.machine w) (h : Paus
   -- EXPORT.PAUSE notes an image of a session without a start token
   row-noted : (c : Call) → Passes ((row_of o me c).items w) → (s : ℕ) → has_start s w.outgoing.bundles ≡ true → (After c).hidden.paused s ≡ w.hidden.paused s
   row-noted (call.ExportPause t) ps s e =
-      let head = ps.1 in
-      let exporting : IsExporting w t = record { alive = alive_of w t head.0 head.1.0; standing = live_exporting (w.tds.ops t) head.1.1.1.0 } in
-      let over = not_post w t h exporting (λ z. let no : op.LiveExport ≡ op.PostExport = sym (only_live (w.tds.ops t) head.1.1.1.0) ∙ z in cc) in
+      let td : TdPassed w t live_ops = search in
+      let exporting : IsExporting w t = record { alive = td_alive td; standing = live_exporting (w.tds.ops t) td.op } in
+      let over = not_post w t h exporting (λ z. let no : op.LiveExport ≡ op.PostExport = sym (only_live (w.tds.ops t) td.op) ∙ z in cc) in
       let off : (s == w.tds.sessions t) ≡ false = by_test (s == w.tds.sessions t)
       (λ z. absurd (let own : has_start (w.tds.sessions t) w.outgoing.bundles ≡ true = subst (λ (r : ℕ). has_start r w.outgoing.bundles ≡ true) (eqb-true s _ z) e in let no : true ≡ false = sym own ∙ over in cc))
       (λ z. z) in

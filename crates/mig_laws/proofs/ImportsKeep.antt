@@ -29,6 +29,7 @@ use Rattle.flat_core.proofs.ImportKeeps.{td_state_importing, vp_state_importing}
 use Rattle.flat_core.proofs.Maps.{walk_passed}
 use Rattle.flat_core.proofs.Ranges.{begun_of}
 use Rattle.flat_core.proofs.Streams.{page_among, stream_among}
+use Rattle.flat_core.proofs.Passed.{TdPassed, td_alive}
 use Rattle.mig_laws.specs.Ivs.{is_filling, IsImporting}
 use Rattle.mig_laws.specs.Source.{is_page_at, known_words}
 use Rattle.mig_laws.specs.WellMade.{is_of, is_token, AreWellMade}
@@ -400,8 +401,12 @@ page_rests w t k gpa page ws entry.Free =
 page_rests w t k gpa page ws _ = at_rest (count_bundle t k (begin_memory t (page_of_gpa gpa) ws w)) _ refl (λ x a. record { kind = a.kind; life = a.life })
 
 fill_tag : (w : World) (t gpa page : ℕ) (x : Input) (s : EntryState) → Passes (page_to_fill w t gpa page s ++ tag_holds x ∷ []) → x.tag_right ≡ true
-fill_tag w t gpa page x entry.Free ps = ps.1.0
-fill_tag w t gpa page x _ ps = ps.0
+fill_tag w t gpa page x entry.Free ps = search
+fill_tag w t gpa page x _ ps = search
+
+-- the counter of a bundle that is taken is the one that is due
+is_due : (due n : ℕ) → (n == due && nat_lt due (2 ^ 32 - 1)) ≡ true → n ≡ due
+is_due due n h = eqb-true n due (and_parts (n == due) _ h).0
 
 -- what a token asks of the op state and the migration epoch
 start_is : (h : ClearHeader) → is_start h ≡ true → h.kind ≡ 5
@@ -425,62 +430,61 @@ module _ (source : World) (o : Opening) (src : IsSource source) (unforged : Unfo
   pub keeps_immutable : (t slot : ℕ) → KeepsDestination source o (import_immutable o.machine (o.bundles slot) t slot)
   keeps_immutable t slot w l h ps =
       let x : Input = input_in (o.bundles slot) in
-      let head = ps.1.1.1.1 in
-      let zero = only_kind 0 x.header.kind ps.1.1.1.0 in
+      let zero = only_kind 0 x.header.kind (search) in
       let six = known_kind x.header.kind 0 zero refl in
-      let tk = taken o made_there unforged slot ps.1.1.0 head.1.1.1.1.1.1.1.1.0 six in
-      let alive = alive_of w t head.0 head.1.0 in
-      let few : 0 < length (w.tds.streams t) = ltb-true _ _ head.1.1.1.1.0 in
-      let new = first_op (w.tds.ops t) head.1.1.1.0 in
+      let tk = taken o made_there unforged slot (search) (search) six in
+      let td : TdPassed w t first_ops = search in
+      let alive = td_alive td in
+      let few : 0 < length (w.tds.streams t) = ltb-true _ _ (search) in
+      let new = first_op (w.tds.ops t) td.op in
       let none : stream_counter w t 0 ≡ 0 = l.streams.uncounted t (stream_page w t 0) alive new (stream_among (w.tds.streams t) 0 few) in
-      let due : x.header.counter ≡ stream_counter w t 0 = eqb-true x.header.counter 0 (and_parts (x.header.counter == 0) _ head.1.1.1.1.1.1.1.0).0 ∙ sym none in
-      immutable_holds source src o.machine w l h t alive 0 few x tk six (on_first x tk (ap (λ (z : ℕ). z == 3) zero)) due zero (eqb-true x.header.epoch 1 head.1.1.1.1.1.1.0) new
+      let due : x.header.counter ≡ stream_counter w t 0 = is_due 0 x.header.counter (search) ∙ sym none in
+      immutable_holds source src o.machine w l h t alive 0 few x tk six (on_first x tk (ap (λ (z : ℕ). z == 3) zero)) due zero (eqb-true x.header.epoch 1 (search)) new
 
   pub keeps_page : (t slot page : ℕ) → KeepsDestination source o (import_page o.machine (o.bundles slot) t slot page)
   keeps_page t slot page w l h ps =
       let x : Input = input_in (o.bundles slot) in
       let gpa : ℕ = x.header.gpa in
       let s : EntryState = (entry_at w t 0 gpa).state in
-      let head = ps.1.1.1.1.1.1 in
-      let behind = walk_passed w t gpa (state_in w t gpa 0 importable ∷ (page_to_fill w t gpa page s ++ tag_holds x ∷ [])) 0 (lit≤ tt) head.1.1.1.1.1.1.1.1 in
-      let three = only_kind 3 x.header.kind ps.1.1.1.1.1.0 in
+      let three = only_kind 3 x.header.kind (search) in
       let six = known_kind x.header.kind 3 three refl in
-      let tk = taken o made_there unforged slot ps.1.1.1.1.0 (fill_tag w t gpa page x s behind.0.1) six in
-      let alive = alive_of w t head.0 head.1.0 in
-      let ops = filling_fills (w.tds.ops t) head.1.1.1.0 in
-      let few : x.header.stream < length (w.tds.streams t) = ltb-true _ _ head.1.1.1.1.0 in
-      let due : x.header.counter ≡ stream_counter w t x.header.stream = eqb-true _ _ (and_parts (x.header.counter == stream_counter w t x.header.stream) _ head.1.1.1.1.1.1.1.0).0 in
+      let tk = taken o made_there unforged slot (search) (fill_tag w t gpa page x s (search)) six in
+      let td : TdPassed w t filling_ops = search in
+      let alive = td_alive td in
+      let ops = filling_fills (w.tds.ops t) td.op in
+      let few : x.header.stream < length (w.tds.streams t) = ltb-true _ _ (search) in
+      let due : x.header.counter ≡ stream_counter w t x.header.stream = is_due (stream_counter w t x.header.stream) x.header.counter (search) in
       let on : counted_on tk.bundle ≡ x.header.stream = (let kind : (tk.bundle.header.kind == 3) ≡ true = ap (λ (z : ClearHeader). z.kind == 3) tk.same ∙ eq-eqb x.header.kind 3 three in rw kind (ap (λ (z : ClearHeader). z.stream) tk.same)) in
       destination_rests source (count_bundle t x.header.stream (begin_memory t (page_of_gpa gpa) x.words w)) _ (page_rests w t x.header.stream gpa page x.words s)
-      (page_holds source src o.machine w l h t alive x.header.stream few x tk six on due ops.0 (eqb-true _ _ head.1.1.1.1.1.0) ops.1 three (eqb-true _ _ head.1.1.1.1.1.1.0))
+      (page_holds source src o.machine w l h t alive x.header.stream few x tk six on due ops.0 (eqb-true _ _ (search)) ops.1 three (eqb-true _ _ (search)))
 
   pub keeps_td : (t slot : ℕ) → KeepsDestination source o (import_td o.machine (o.bundles slot) t slot)
   keeps_td t slot w l h ps =
       let x : Input = input_in (o.bundles slot) in
-      let head = ps.1.1.1.1 in
-      let one = only_kind 1 x.header.kind ps.1.1.1.0 in
+      let one = only_kind 1 x.header.kind (search) in
       let six = known_kind x.header.kind 1 one refl in
-      let tk = taken o made_there unforged slot ps.1.1.0 head.1.1.1.1.1.1.1.0 six in
-      let alive = alive_of w t head.0 head.1.0 in
-      let ops = td_state_fills (w.tds.ops t) head.1.1.1.0 in
-      let few : 0 < length (w.tds.streams t) = l.sessions.import_stream t (td_state_importing (w.tds.ops t) head.1.1.1.0) in
-      let due : x.header.counter ≡ stream_counter w t 0 = eqb-true _ _ (and_parts (x.header.counter == stream_counter w t 0) _ head.1.1.1.1.1.1.0).0 in
-      td_holds source src o.machine w l h t alive 0 few x tk six (on_first x tk (ap (λ (z : ℕ). z == 3) one)) due ops.0 (eqb-true _ _ head.1.1.1.1.0) one (eqb-true _ _ head.1.1.1.1.1.0) ops.1
+      let tk = taken o made_there unforged slot (search) (search) six in
+      let td : TdPassed w t td_state_ops = search in
+      let alive = td_alive td in
+      let ops = td_state_fills (w.tds.ops t) td.op in
+      let few : 0 < length (w.tds.streams t) = l.sessions.import_stream t (td_state_importing (w.tds.ops t) td.op) in
+      let due : x.header.counter ≡ stream_counter w t 0 = is_due (stream_counter w t 0) x.header.counter (search) in
+      td_holds source src o.machine w l h t alive 0 few x tk six (on_first x tk (ap (λ (z : ℕ). z == 3) one)) due ops.0 (eqb-true _ _ (search)) one (eqb-true _ _ (search)) ops.1
 
   pub keeps_vp : (t p slot : ℕ) → KeepsDestination source o (import_vp o.machine (o.bundles slot) t p slot)
   keeps_vp t p slot w l h ps =
       let x : Input = input_in (o.bundles slot) in
-      let head = ps.1.1.1.1.1.1 in
-      let two = only_kind 2 x.header.kind ps.1.1.1.1.1.0 in
+      let two = only_kind 2 x.header.kind (search) in
       let six = known_kind x.header.kind 2 two refl in
-      let tk = taken o made_there unforged slot ps.1.1.1.1.0 head.1.1.1.1.1.1.1.1.1.1.0 six in
-      let alive = alive_of w t head.0 head.1.0 in
-      let ops = vp_state_fills (w.tds.ops t) head.1.1.1.0 in
-      let its = and_parts (same_kind (w.pages.kinds p) kind.Tdvpr) (w.pages.owners p == t) head.1.1.1.1.0 in
-      let few : 0 < length (w.tds.streams t) = l.sessions.import_stream t (vp_state_importing (w.tds.ops t) head.1.1.1.0) in
-      let due : x.header.counter ≡ stream_counter w t 0 = eqb-true _ _ (and_parts (x.header.counter == stream_counter w t 0) _ head.1.1.1.1.1.1.1.1.1.0).0 in
-      vp_holds source src o.machine w l h t alive 0 few x tk six (on_first x tk (ap (λ (z : ℕ). z == 3) two)) due ops.0 (eqb-true _ _ head.1.1.1.1.1.1.0) p two (eqb-true _ _ head.1.1.1.1.1.1.1.0) ops.1
-      its.0 (eqb-true _ _ its.1) (is_created (w.vps.states p) head.1.1.1.1.1.0) (eqb-true _ _ head.1.1.1.1.1.1.1.1.0)
+      let tk = taken o made_there unforged slot (search) (search) six in
+      let td : TdPassed w t vp_state_ops = search in
+      let alive = td_alive td in
+      let ops = vp_state_fills (w.tds.ops t) td.op in
+      let its = and_parts (same_kind (w.pages.kinds p) kind.Tdvpr) (w.pages.owners p == t) (search) in
+      let few : 0 < length (w.tds.streams t) = l.sessions.import_stream t (vp_state_importing (w.tds.ops t) td.op) in
+      let due : x.header.counter ≡ stream_counter w t 0 = is_due (stream_counter w t 0) x.header.counter (search) in
+      vp_holds source src o.machine w l h t alive 0 few x tk six (on_first x tk (ap (λ (z : ℕ). z == 3) two)) due ops.0 (eqb-true _ _ (search)) p two (eqb-true _ _ (search)) ops.1
+      its.0 (eqb-true _ _ its.1) (is_created (w.vps.states p) (search)) (eqb-true _ _ (search))
 
   -- the start token is of a later migration epoch than the TD is in
   token_later : (b : Bool) (own epoch : ℕ) → epoch ≡ epoch_due b own → own < 2 ^ 32 → (b ≡ true → own ≤ epoch → own < epoch) → own < epoch
@@ -490,20 +494,20 @@ module _ (source : World) (o : Opening) (src : IsSource source) (unforged : Unfo
   pub keeps_token : (t slot : ℕ) → KeepsDestination source o (import_token o.machine (o.bundles slot) t slot)
   keeps_token t slot w l h ps =
       let x : Input = input_in (o.bundles slot) in
-      let head = ps.1.1.1.1 in
-      let token = token_kind x.header.kind ps.1.1.1.0 in
+      let token = token_kind x.header.kind (search) in
       let six : (x.header.kind == 6) ≡ false = off_kind x.header.kind 6 (no_token x.header.kind 6 refl token) in
       let three : (x.header.kind == 3) ≡ false = off_kind x.header.kind 3 (no_token x.header.kind 3 refl token) in
-      let tk = taken o made_there unforged slot ps.1.1.0 head.1.1.1.1.1.1.1.0 six in
-      let alive = alive_of w t head.0 head.1.0 in
+      let tk = taken o made_there unforged slot (search) (search) six in
+      let td : TdPassed w t (import_token_ops (is_start x.header)) = search in
+      let alive = td_alive td in
       let st : OpState = op_then (is_start x.header) (w.tds.ops t) in
-      let ops = token_op (is_start x.header) (w.tds.ops t) head.1.1.1.0 in
+      let ops = token_op (is_start x.header) (w.tds.ops t) td.op in
       let few : 0 < length (w.tds.streams t) = l.sessions.import_stream t (fills_importing (w.tds.ops t) ops.0) in
-      let due : x.header.counter ≡ stream_counter w t 0 = eqb-true _ _ (and_parts (x.header.counter == stream_counter w t 0) _ head.1.1.1.1.1.1.0).0 in
+      let due : x.header.counter ≡ stream_counter w t 0 = is_due (stream_counter w t 0) x.header.counter (search) in
       let on = on_first x tk three in
-      let same_session = eqb-true x.header.session (w.tds.sessions t) head.1.1.1.1.0 in
+      let same_session = eqb-true x.header.session (w.tds.sessions t) (search) in
       let b_token : is_token tk.bundle ≡ true = ap (λ (z : ClearHeader). z.kind == 4 || z.kind == 5) tk.same ∙ token in
-      let epoch = eqb-true x.header.epoch (epoch_due (is_start x.header) (w.tds.mig_epochs t)) head.1.1.1.1.1.0 in
+      let epoch = eqb-true x.header.epoch (epoch_due (is_start x.header) (w.tds.mig_epochs t)) (search) in
       let b_epoch : tk.bundle.header.epoch ≡ x.header.epoch = ap (λ (z : ClearHeader). z.epoch) tk.same in
       let have = held source src o.machine w l h t alive 0 few x tk six on due ops.0 same_session in
       let next = nexts source src o.machine w l h t alive 0 few x tk six on due ops.0 same_session in
@@ -511,7 +515,7 @@ module _ (source : World) (o : Opening) (src : IsSource source) (unforged : Unfo
       (λ e le. let five : tk.bundle.header.kind ≡ 5 = ap (λ (z : ClearHeader). z.kind) tk.same ∙ start_is x.header e in
       let high : 1 < tk.bundle.header.epoch = start_high (is_start x.header) (w.tds.mig_epochs t) x.header.epoch tk.bundle.header.epoch e epoch b_epoch in
       let less = start_later tk.before tk.after tk.bundle (made source src o.machine w l h t alive 0 few x tk six on due) w t have next five high (omega (arith, le, b_epoch)) in omega (arith, less, b_epoch)) in
-      token_holds source src o.machine w l h t alive 0 few x tk six on due ops.0 same_session st b_token later ops.1 ops.2 (λ e. start_is x.header (ops.3 e)) (sym (eqb-true _ _ head.1.1.1.1.1.1.1.1.0))
+      token_holds source src o.machine w l h t alive 0 few x tk six on due ops.0 same_session st b_token later ops.1 ops.2 (λ e. start_is x.header (ops.3 e)) (sym (eqb-true _ _ (search)))
     where
       start_high : (b : Bool) (own epoch made_epoch : ℕ) → b ≡ true → epoch ≡ epoch_due b own → made_epoch ≡ epoch → 1 < made_epoch
       start_high true own epoch made_epoch e is same = omega (arith, is, same)
@@ -521,8 +525,9 @@ module _ (source : World) (o : Opening) (src : IsSource source) (unforged : Unfo
   pub keeps_commit : (t : ℕ) → KeepsDestination source o (commit_import o.machine t)
   keeps_commit t w l h ps =
       let self = same_self t in
-      let alive = alive_of w t ps.1.0 ps.1.1.0 in
-      let ops = commit_fills (w.tds.ops t) ps.1.1.1.1.0 in
+      let td : TdPassed w t commit_ops = search in
+      let alive = td_alive td in
+      let ops = commit_fills (w.tds.ops t) td.op in
       let own = h.imports t (record { alive = alive; standing = ops.0 }) in
       let from = starts_from_pause source w t src (let low = l.sessions.mig_epoch t in omega (arith, low)) own (own.complete ops.1) in
       let v : World = set_op t op.LiveImport (note_commit t w) in

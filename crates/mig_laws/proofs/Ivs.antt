@@ -27,6 +27,7 @@ use Rattle.flat_core.specs.Lawful.{IsAlive, Lawful, is_exporting}
 use Rattle.flat_core.proofs.Tests.{by_test, tdr_kind, same_self}
 use Rattle.flat_core.proofs.Ranges.{living, paused_exporting, abortable_exporting}
 use Rattle.flat_core.proofs.Streams.{stream_owned}
+use Rattle.flat_core.proofs.Passed.{TdPassed, td_alive}
 use Rattle.mig_laws.specs.Ivs.{is_forward, SealedWith, sealed_with, FitsIv, AreSealedOnce, IsExporting, IsCounted, IvsHold, is_filling, IsImporting, AbortsHold}
 use Rattle.mig_laws.proofs.Stays.{SessionStays, IsBeside}
 use Rattle.mig_laws.proofs.Rows.{not_among, over_beside, row-beside}
@@ -223,39 +224,39 @@ module _ (o : Opening) (me : ℕ) (w : World) (l : Lawful o.machine w) (h : IvsH
 
   immutable_ivs : (t slot : ℕ) → Passes ((row_of o me (call.ExportStateImmutable t slot)).items w) → IvsHold (After (call.ExportStateImmutable t slot))
   immutable_ivs t slot ps =
-      let head = ps.1 in
-      let alive = alive_of w t head.0 head.1.0 in
-      let room : w.key_table.last_exported < 65535 = ltb-true _ _ head.1.1.1.1.1.1.0 in
+      let td : TdPassed w t session_ops = search in
+      let alive = td_alive td in
+      let room : w.key_table.last_exported < 65535 = ltb-true _ _ (search) in
       made_ivs t slot (record (about 0 1) { info = length (w.tds.vps t) }) (six_words (w.tds.mrtds t)) (begin_session t w) (begun_ivs o w l h t alive)
-      (record { alive = record { kind = alive.kind; life = alive.life }; standing = rw (same_self t) refl }) (ltb-true 0 (length (w.tds.streams t)) head.1.1.1.1.0) refl (l.tds.streams_few t)
+      (record { alive = record { kind = alive.kind; life = alive.life }; standing = rw (same_self t) refl }) (ltb-true 0 (length (w.tds.streams t)) (search)) refl (l.tds.streams_few t)
       (rw (same_self t) (omega (arith, room)))
       (by_test (list_any (λ p. p == stream_page w t 0) (w.tds.streams t)) (λ y. rw y (omega arith)) (λ y. rw y (l.streams.counter (stream_page w t 0))))
 
   page_ivs : (t gpa k slot : ℕ) → Passes ((row_of o me (call.ExportMem t gpa k slot)).items w) → IvsHold (After (call.ExportMem t gpa k slot))
   page_ivs t gpa k slot ps =
-      let head = ps.1.1.1.1 in
-      let alive = alive_of w t head.0 head.1.0 in
+      let td : TdPassed w t abortable_ops = search in
+      let alive = td_alive td in
       let e = entry_at w t 0 gpa in
       let v : World = count_export t k e.state (restate t (number_at 0 gpa) entry.ExportedBlockedW (w.tds.mig_epochs t) w) in
-      let standing = abortable_exporting (w.tds.ops t) head.1.1.1.0 in
+      let standing = abortable_exporting (w.tds.ops t) td.op in
       bundle_ivs t slot (record (about 3 (w.tds.mig_epochs t)) { stream = k; gpa = gpa }) (payload_words (w.words e.page) 512) v (record { alive = alive; standing = standing })
-      (ltb-true k (length (w.tds.streams t)) head.1.1.1.1.0) refl refl refl
+      (ltb-true k (length (w.tds.streams t)) (search)) refl refl refl
       (λ x a. session_same w v x (record { alive = record { kind = a.alive.kind; life = a.alive.life }; standing = a.standing }) (λ z. z) refl refl (λ j. omega arith))
       (record { alive = record { kind = alive.kind; life = alive.life }; standing = standing }) refl refl refl
 
   token_ivs : (t slot start : ℕ) → Passes ((row_of o me (call.ExportTrack t slot start)).items w) → IvsHold (After (call.ExportTrack t slot start))
   token_ivs t slot zero ps =
-      let head = ps.1.1 in
-      let alive = alive_of w t head.0 head.1.0 in
-      let standing = abortable_exporting (w.tds.ops t) head.1.1.1.0 in
+      let td : TdPassed w t abortable_ops = search in
+      let alive = td_alive td in
+      let standing = abortable_exporting (w.tds.ops t) td.op in
       let v : World = set_mig_epoch t (w.tds.mig_epochs t + 1) w in
       bundle_ivs t slot (record (about 4 (w.tds.mig_epochs t + 1)) { total = bundles_so_far w t }) [] v (record { alive = alive; standing = standing }) (l.sessions.first_stream t standing) refl refl refl
       (λ x a. session_same w v x (record { alive = record { kind = a.alive.kind; life = a.alive.life }; standing = a.standing }) (λ z. z) refl refl (λ j. omega arith))
       (record { alive = record { kind = alive.kind; life = alive.life }; standing = standing }) refl refl refl
   token_ivs t slot (suc n) ps =
-      let head = ps.1.1 in
-      let alive = alive_of w t head.0 head.1.0 in
-      let standing = paused_exporting (w.tds.ops t) head.1.1.1.0 in
+      let td : TdPassed w t paused_ops = search in
+      let alive = td_alive td in
+      let standing = paused_exporting (w.tds.ops t) td.op in
       let v : World = set_op t op.PostExport (set_mig_epoch t start_epoch w) in
       bundle_ivs t slot (record (about 5 start_epoch) { total = bundles_so_far w t }) [] v (record { alive = alive; standing = standing }) (l.sessions.first_stream t standing) refl refl refl
       (λ x a. session_same w v x (record { alive = record { kind = a.alive.kind; life = a.alive.life }; standing = by_test (x == t) (λ y. subst (λ (z : ℕ). is_exporting (w.tds.ops z) ≡ true) (sym (eqb-true x t y)) standing) (λ y. rw y at a.standing) })
@@ -264,18 +265,18 @@ module _ (o : Opening) (me : ℕ) (w : World) (l : Lawful o.machine w) (h : IvsH
 
   td_ivs : (t slot : ℕ) → Passes ((row_of o me (call.ExportStateTd t slot)).items w) → IvsHold (After (call.ExportStateTd t slot))
   td_ivs t slot ps =
-      let head = ps.1 in
-      let alive = alive_of w t head.0 head.1.0 in
-      let standing = paused_exporting (w.tds.ops t) head.1.1.1.0 in
+      let td : TdPassed w t paused_ops = search in
+      let alive = td_alive td in
+      let standing = paused_exporting (w.tds.ops t) td.op in
       bundle_ivs t slot (about 1 (w.tds.mig_epochs t)) (payload_words (w.hidden.rtmrs t) 24) (note_td_export t w) (record { alive = alive; standing = standing }) (l.sessions.first_stream t standing) refl refl refl
       (λ x a. session_same w (note_td_export t w) x (record { alive = record { kind = a.alive.kind; life = a.alive.life }; standing = a.standing }) (λ z. z) refl refl (λ j. omega arith))
       (record { alive = record { kind = alive.kind; life = alive.life }; standing = standing }) refl refl refl
 
   vp_ivs : (t p slot : ℕ) → Passes ((row_of o me (call.ExportStateVp t p slot)).items w) → IvsHold (After (call.ExportStateVp t p slot))
   vp_ivs t p slot ps =
-      let head = ps.1.1.1 in
-      let alive = alive_of w t head.0 head.1.0 in
-      let standing = paused_exporting (w.tds.ops t) head.1.1.1.0 in
+      let td : TdPassed w t paused_ops = search in
+      let alive = td_alive td in
+      let standing = paused_exporting (w.tds.ops t) td.op in
       bundle_ivs t slot (record (about 2 (w.tds.mig_epochs t)) { index = w.vps.indexes p; info = w.vps.positions p % 2 ^ 32 }) (payload_words (w.hidden.registers p) 8) (note_vp_export t p w)
       (record { alive = alive; standing = standing }) (l.sessions.first_stream t standing) refl refl refl
       (λ x a. session_same w (note_vp_export t p w) x (record { alive = record { kind = a.alive.kind; life = a.alive.life }; standing = a.standing }) (λ z. z) refl refl (λ j. omega arith))
@@ -286,8 +287,8 @@ module _ (o : Opening) (me : ℕ) (w : World) (l : Lawful o.machine w) (h : IvsH
 
   abort_ivs : (t slot : ℕ) → AbortsHold w → Passes ((row_of o me (call.ImportAbort t slot)).items w) → IvsHold (After (call.ImportAbort t slot))
   abort_ivs t slot a ps =
-      let head = ps.1 in
-      let importing : IsImporting w t = record { alive = alive_of w t head.0 head.1.0; standing = given_up_fills (w.tds.ops t) head.1.1.1.0 } in
+      let td : TdPassed w t given_up_ops = search in
+      let importing : IsImporting w t = record { alive = td_alive td; standing = given_up_fills (w.tds.ops t) td.op } in
       back_ivs (set_op t op.FailedImport w) (back_token w t slot) refl (beside_ivs (set_op t op.FailedImport w) (over_beside o me w l t op.FailedImport refl))
       (record { stream = omega arith; session = l.sessions.session t; iv = omega arith }) (a.left t importing)
 

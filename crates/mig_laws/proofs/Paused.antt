@@ -39,6 +39,7 @@ use Rattle.flat_core.proofs.Operations.{operation_row, accepted}
 use Rattle.flat_core.proofs.Induction.{in_runs}
 use Rattle.flat_core.proofs.Always.{occ-of}
 use Rattle.flat_core.proofs.Ranges.{live_exporting, paused_exporting, abortable_exporting}
+use Rattle.flat_core.proofs.Passed.{TdPassed, td_alive}
 use Rattle.mig_laws.specs.Ivs.{is_forward, IsExporting, IvsHold}
 use Rattle.mig_laws.specs.Source.{is_page_at, last_payload, ArePagesSent, SourceHolds}
 use Rattle.mig_laws.specs.Paused.{is_start, has_start, IsSentAsPaused, StartedAreSentAsPaused, is_paused, IsAsPaused, PausesHold, PausesAreKept}
@@ -299,20 +300,20 @@ module _ (o : Opening) (me : ℕ) (w : World) (l : Lawful o.machine w) (src : So
       pauses_made t slot (record (about 4 (w.tds.mig_epochs t + 1)) { total = bundles_so_far w t }) [] (set_mig_epoch t (w.tds.mig_epochs t + 1) w) refl refl
       (before_pauses _ (unmoved w _ refl refl (λ x n. refl) refl refl) refl refl refl)
   token_pauses t slot (suc n) ps =
-      let head = ps.1.1 in
-      let alive = alive_of w t head.0 head.1.0 in
-      started_pauses o.machine t slot (record (about 5 start_epoch) { total = bundles_so_far w t }) w l src.ivs src.sent h (record { alive = alive; standing = paused_exporting (w.tds.ops t) head.1.1.1.0 })
-      (is_pausing (w.tds.ops t) head.1.1.1.0) refl (none_dirty_here o.machine w l t alive head.1.1.1.1.1.1.0)
+      let td : TdPassed w t paused_ops = search in
+      let alive = td_alive td in
+      started_pauses o.machine t slot (record (about 5 start_epoch) { total = bundles_so_far w t }) w l src.ivs src.sent h (record { alive = alive; standing = paused_exporting (w.tds.ops t) td.op })
+      (is_pausing (w.tds.ops t) td.op) refl (none_dirty_here o.machine w l t alive (search))
 
   pub row-pauses : (c : Call) → Passes ((row_of o me c).items w) → PausesHold (After c)
   row-pauses (call.ExportPause t) ps =
-      let head = ps.1 in
-      held_pauses t w src.ivs h (record { alive = alive_of w t head.0 head.1.0; standing = live_exporting (w.tds.ops t) head.1.1.1.0 }) (only_live (w.tds.ops t) head.1.1.1.0)
+      let td : TdPassed w t live_ops = search in
+      held_pauses t w src.ivs h (record { alive = td_alive td; standing = live_exporting (w.tds.ops t) td.op }) (only_live (w.tds.ops t) td.op)
   row-pauses (call.ExportStateImmutable t slot) ps =
       pauses_made t slot (record (about 0 1) { info = length (w.tds.vps t) }) (six_words (w.tds.mrtds t)) (begin_session t w) refl refl (begun_pauses t w src.ivs h)
   row-pauses (call.ExportMem t gpa k slot) ps =
-      let head = ps.1.1.1.1 in
-      page_pauses t gpa k slot w h (record { alive = alive_of w t head.0 head.1.0; standing = abortable_exporting (w.tds.ops t) head.1.1.1.0 }) (abortable_stands (w.tds.ops t) head.1.1.1.0)
+      let td : TdPassed w t abortable_ops = search in
+      page_pauses t gpa k slot w h (record { alive = td_alive td; standing = abortable_exporting (w.tds.ops t) td.op }) (abortable_stands (w.tds.ops t) td.op)
   row-pauses (call.ExportTrack t slot start) ps = token_pauses t slot start ps
   row-pauses (call.ExportStateTd t slot) ps =
       pauses_made t slot (about 1 (w.tds.mig_epochs t)) (payload_words (w.hidden.rtmrs t) 24) (note_td_export t w) refl refl (before_pauses _ (unmoved w _ refl refl (λ x n. refl) refl refl) refl refl refl)

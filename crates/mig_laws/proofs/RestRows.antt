@@ -32,6 +32,7 @@ use Rattle.flat_core.proofs.Parts.{IsLive}
 use Rattle.flat_core.proofs.Operations.{operation_row, accepted}
 use Rattle.flat_core.proofs.Ranges.{begun_of, named_passed, abortable_exporting, paused_exporting}
 use Rattle.flat_core.proofs.Streams.{page_among, stream_among}
+use Rattle.flat_core.proofs.Passed.{TdPassed, td_alive, remove_passed}
 use Rattle.mig_laws.specs.Ivs.{is_filling, IsImporting}
 use Rattle.mig_laws.specs.Imports.{counts_of}
 use Rattle.mig_laws.proofs.Rows.{taken_back, lived_back}
@@ -219,17 +220,17 @@ module _ (o : Opening) (me : ℕ) (w : World) (l : Lawful o.machine w) where
   pub row-rests : (c : Call) → Passes ((row_of o me c).items w) → is_import c ≡ false → IsAtRest w (After c)
   row-rests (call.PhymemPageReclaim t page) ps none =
       let v : World = After (call.PhymemPageReclaim t page) in
-      let dead = ended_of (w.tds.lives t) ps.1.1.1.0 in
+      let dead = ended_of (w.tds.lives t) (search) in
       quiet w v t (λ a. let no : true ≡ false = sym dead ∙ a.alive.life in cc) (λ a e. absurd (let no : true ≡ false = sym dead ∙ a.life in cc)) refl
       (λ x y a. taken_back w page kind.Nda 0 0 0 (λ e. cc) v.tds refl x (record { kind = a.kind; life = a.life })) (λ x y. refl) (λ x n y. rw y refl) refl (λ q. refl)
   row-rests (call.MngCreate t k) ps none =
       let v : World = After (call.MngCreate t k) in
       quiet w v t (λ a. let no : false ≡ true = rw (same_self t) at a.standing in cc) (λ a e. new (λ n. (let self = same_self t in rw self refl))) refl
       (λ x y a. record { kind = rw y at a.kind; life = rw y at a.life }) (λ x y. rw y refl) (λ x n y. rw y refl) refl (λ q. refl)
-  row-rests (call.MngKeyConfig t) ps none = at_rest w (After (call.MngKeyConfig t)) refl (λ x a. lived_back w t life.KeysConfigured (live_of (life.HkidAssigned ∷ []) (w.tds.lives t) refl ps.1.1.0) x (record { kind = a.kind; life = a.life }))
+  row-rests (call.MngKeyConfig t) ps none = at_rest w (After (call.MngKeyConfig t)) refl (λ x a. lived_back w t life.KeysConfigured (live_of (life.HkidAssigned ∷ []) (w.tds.lives t) refl (search)) x (record { kind = a.kind; life = a.life }))
   row-rests (call.MngVpflushdone t) ps none =
-      at_rest w (After (call.MngVpflushdone t)) refl (λ x a. lived_back w t life.Blocked (live_of (life.HkidAssigned ∷ life.KeysConfigured ∷ []) (w.tds.lives t) refl ps.1.1.0) x (record { kind = a.kind; life = a.life }))
-  row-rests (call.MngKeyFreeid t) ps none = at_rest w (After (call.MngKeyFreeid t)) refl (λ x a. lived_back w t life.Teardown (live_of (life.Blocked ∷ []) (w.tds.lives t) refl ps.1.1.0) x (record { kind = a.kind; life = a.life }))
+      at_rest w (After (call.MngVpflushdone t)) refl (λ x a. lived_back w t life.Blocked (live_of (life.HkidAssigned ∷ life.KeysConfigured ∷ []) (w.tds.lives t) refl (search)) x (record { kind = a.kind; life = a.life }))
+  row-rests (call.MngKeyFreeid t) ps none = at_rest w (After (call.MngKeyFreeid t)) refl (λ x a. lived_back w t life.Teardown (live_of (life.Blocked ∷ []) (w.tds.lives t) refl (search)) x (record { kind = a.kind; life = a.life }))
   row-rests (call.MngAddcx t page) ps none =
       at_rest w (After (call.MngAddcx t page)) refl (λ x a. taken_back w page kind.Tdcx t 0 0 (λ e. cc) (After (call.MngAddcx t page)).tds refl x (record { kind = a.kind; life = a.life }))
   row-rests (call.MngInit t) ps none =
@@ -243,9 +244,9 @@ module _ (o : Opening) (me : ℕ) (w : World) (l : Lawful o.machine w) where
       quiet w v t (λ a. let no : false ≡ true = rw self at a.standing in cc) (λ a e. absurd (let no : op.Runnable ≡ op.Uninitialized = rw self at e in cc)) refl
       (λ x y a. record { kind = a.kind; life = a.life }) (λ x y. rw y refl) (λ x n y. refl) refl (λ q. refl)
   row-rests (call.VpCreate t page) ps none =
-      created_rests t page (host_kind _ ps.1.1.1.1.1.1.1.1.0) ps.1.1.1.1.1.1.0 (ltb-true _ _ ps.1.1.1.1.1.1.1.0)
+      created_rests t page (host_kind _ (search)) (search) (ltb-true _ _ (search))
   row-rests (call.VpInit t p value) ps none =
-      initialized_rests t p value (eqb-true (w.pages.owners p) t (and_parts (same_kind (w.pages.kinds p) kind.Tdvpr) (w.pages.owners p == t) ps.1.1.1.1.1.1.1.0).1) ps.1.1.1.1.1.1.0
+      initialized_rests t p value (eqb-true (w.pages.owners p) t (and_parts (same_kind (w.pages.kinds p) kind.Tdvpr) (w.pages.owners p == t) (search)).1) (search)
   row-rests (call.MemSeptAdd t gpa level page) ps none =
       at_rest w (After (call.MemSeptAdd t gpa level page)) refl
       (λ x a. taken_back w page kind.Ept t level (number_at level gpa) (λ e. cc) (After (call.MemSeptAdd t gpa level page)).tds refl x (record { kind = a.kind; life = a.life }))
@@ -254,8 +255,8 @@ module _ (o : Opening) (me : ℕ) (w : World) (l : Lawful o.machine w) where
       (λ x a. taken_back w (entry_at w t level gpa).page kind.Nda 0 0 0 (λ e. cc) (After (call.MemSeptRemove t gpa level)).tds refl x (record { kind = a.kind; life = a.life }))
   row-rests (call.MemPageAdd t gpa page source) ps none =
       let v : World = After (call.MemPageAdd t gpa page source) in
-      let ops = ps.1.1.1.1.1.1.1.1.1.1.1.0 in
-      quiet w v t (λ a. never_filling (op.Initialized ∷ []) (w.tds.ops t) (refl, refl, refl) ops a.standing) (λ a e. absurd (begun_of (op.Initialized ∷ []) (w.tds.ops t) refl ops e)) refl
+      let td : TdPassed w t (op.Initialized ∷ []) = search in
+      quiet w v t (λ a. never_filling (op.Initialized ∷ []) (w.tds.ops t) (refl, refl, refl) td.op a.standing) (λ a e. absurd (begun_of (op.Initialized ∷ []) (w.tds.ops t) refl td.op e)) refl
       (λ x y a. taken_back w page kind.Reg t 0 (number_at 0 gpa) (λ e. cc) v.tds refl x (record { kind = a.kind; life = a.life })) (λ x y. refl) (λ x n y. rw y refl) refl (λ q. refl)
   row-rests (call.MemPageAug t gpa page) ps none =
       at_rest w (After (call.MemPageAug t gpa page)) refl
@@ -263,12 +264,11 @@ module _ (o : Opening) (me : ℕ) (w : World) (l : Lawful o.machine w) where
   row-rests (call.MemPageRemove t gpa) ps none =
       let v : World = After (call.MemPageRemove t gpa) in
       let page = (entry_at w t 0 gpa).page in
-      let q = named_passed w t gpa 0 removed_states (tracked_page w t page ∷ []) ps.1.1.1 in
+      let q = remove_passed o.machine w t gpa ps in
       quiet w v t (λ a. never_filling blocking_ops (w.tds.ops t) (refl, refl, refl) q.op a.standing) (λ a e. absurd (begun_of blocking_ops (w.tds.ops t) refl q.op e)) refl
       (λ x y a. taken_back w page kind.Nda 0 0 0 (λ e. cc) v.tds refl x (record { kind = a.kind; life = a.life })) (λ x y. refl) (λ x n y. rw y refl) refl (λ q. refl)
   row-rests (call.MigStreamCreate t page) ps none =
-      let head = ps.1.1.1 in
-      stream_rests t page (host_kind _ head.1.1.1.1.1.0) head.1.1.1.0
+      stream_rests t page (host_kind _ (search)) (search)
   row-rests (call.ExportPause t) ps none =
       let v : World = After (call.ExportPause t) in
       let self = same_self t in
@@ -285,36 +285,36 @@ module _ (o : Opening) (me : ℕ) (w : World) (l : Lawful o.machine w) where
   row-rests (call.ImportStateVp t p slot) ps none = cc
   row-rests (call.ImportCommit t) ps none = cc
   row-rests (call.ExportStateImmutable t slot) ps none =
-      let head = ps.1 in
-      let few : 0 < length (w.tds.streams t) = ltb-true _ _ head.1.1.1.1.0 in
+      let td : TdPassed w t session_ops = search in
+      let few : 0 < length (w.tds.streams t) = ltb-true _ _ (search) in
       let self = same_self t in
-      bundle_rests (After (call.ExportStateImmutable t slot)) t (alive_of w t head.0 head.1.0) (rw self refl) refl (λ x a. record { kind = a.kind; life = a.life }) (λ x y. rw y refl)
+      bundle_rests (After (call.ExportStateImmutable t slot)) t (td_alive td) (rw self refl) refl (λ x a. record { kind = a.kind; life = a.life }) (λ x y. rw y refl)
       (λ q none. (let away = off_stream (w.tds.streams t) 0 q few none in rw (away, none) refl)) refl refl
   row-rests (call.ExportMem t gpa k slot) ps none =
-      let head = ps.1.1.1.1 in
-      let few : k < length (w.tds.streams t) = ltb-true _ _ head.1.1.1.1.0 in
-      bundle_rests (After (call.ExportMem t gpa k slot)) t (alive_of w t head.0 head.1.0) (abortable_exporting (w.tds.ops t) head.1.1.1.0) refl (λ x a. record { kind = a.kind; life = a.life }) (λ x y. refl)
+      let td : TdPassed w t abortable_ops = search in
+      let few : k < length (w.tds.streams t) = ltb-true _ _ (search) in
+      bundle_rests (After (call.ExportMem t gpa k slot)) t (td_alive td) (abortable_exporting (w.tds.ops t) td.op) refl (λ x a. record { kind = a.kind; life = a.life }) (λ x y. refl)
       (λ q none. (let away = off_stream (w.tds.streams t) k q few none in rw away refl)) refl refl
   row-rests (call.ExportTrack t slot zero) ps none =
-      let head = ps.1.1 in
-      let exporting = abortable_exporting (w.tds.ops t) head.1.1.1.0 in
-      bundle_rests (After (call.ExportTrack t slot zero)) t (alive_of w t head.0 head.1.0) exporting refl (λ x a. record { kind = a.kind; life = a.life }) (λ x y. rw y refl)
+      let td : TdPassed w t abortable_ops = search in
+      let exporting = abortable_exporting (w.tds.ops t) td.op in
+      bundle_rests (After (call.ExportTrack t slot zero)) t (td_alive td) exporting refl (λ x a. record { kind = a.kind; life = a.life }) (λ x y. rw y refl)
       (λ q none. (let away = off_stream (w.tds.streams t) 0 q (l.sessions.first_stream t exporting) none in rw away refl)) refl refl
   row-rests (call.ExportTrack t slot (suc n)) ps none =
-      let head = ps.1.1 in
-      let exporting = paused_exporting (w.tds.ops t) head.1.1.1.0 in
+      let td : TdPassed w t paused_ops = search in
+      let exporting = paused_exporting (w.tds.ops t) td.op in
       let self = same_self t in
-      bundle_rests (After (call.ExportTrack t slot (suc n))) t (alive_of w t head.0 head.1.0) (rw self refl) refl (λ x a. record { kind = a.kind; life = a.life }) (λ x y. rw y refl)
+      bundle_rests (After (call.ExportTrack t slot (suc n))) t (td_alive td) (rw self refl) refl (λ x a. record { kind = a.kind; life = a.life }) (λ x y. rw y refl)
       (λ q none. (let away = off_stream (w.tds.streams t) 0 q (l.sessions.first_stream t exporting) none in rw away refl)) refl refl
   row-rests (call.ExportStateTd t slot) ps none =
-      let head = ps.1 in
-      let exporting = paused_exporting (w.tds.ops t) head.1.1.1.0 in
-      bundle_rests (After (call.ExportStateTd t slot)) t (alive_of w t head.0 head.1.0) exporting refl (λ x a. record { kind = a.kind; life = a.life }) (λ x y. refl)
+      let td : TdPassed w t paused_ops = search in
+      let exporting = paused_exporting (w.tds.ops t) td.op in
+      bundle_rests (After (call.ExportStateTd t slot)) t (td_alive td) exporting refl (λ x a. record { kind = a.kind; life = a.life }) (λ x y. refl)
       (λ q none. (let away = off_stream (w.tds.streams t) 0 q (l.sessions.first_stream t exporting) none in rw away refl)) refl refl
   row-rests (call.ExportStateVp t p slot) ps none =
-      let head = ps.1.1.1 in
-      let exporting = paused_exporting (w.tds.ops t) head.1.1.1.0 in
-      bundle_rests (After (call.ExportStateVp t p slot)) t (alive_of w t head.0 head.1.0) exporting refl (λ x a. record { kind = a.kind; life = a.life }) (λ x y. refl)
+      let td : TdPassed w t paused_ops = search in
+      let exporting = paused_exporting (w.tds.ops t) td.op in
+      bundle_rests (After (call.ExportStateVp t p slot)) t (td_alive td) exporting refl (λ x a. record { kind = a.kind; life = a.life }) (λ x y. refl)
       (λ q none. (let away = off_stream (w.tds.streams t) 0 q (l.sessions.first_stream t exporting) none in rw away refl)) refl refl
   row-rests c ps none = at_rest w (After c) refl (λ x a. record { kind = a.kind; life = a.life })
 

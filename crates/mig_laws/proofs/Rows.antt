@@ -36,6 +36,7 @@ use Rattle.flat_core.proofs.Maps.{behind_walk, node_named}
 use Rattle.flat_core.proofs.Exports.{free_unmarked}
 use Rattle.flat_core.proofs.Ranges.{live_exporting, named_passed, named_alive, opened_passed, write_passed, entry_alive, write_remarks, block_restates}
 use Rattle.flat_core.proofs.Streams.{stream_owned}
+use Rattle.flat_core.proofs.Passed.{block_passed, unblock_passed, remove_passed, sept_remove_passed}
 use Rattle.flat_bundles.proofs.Fills.{fill_either}
 use Rattle.mig_laws.specs.Ivs.{IsExporting}
 use Rattle.mig_laws.proofs.Stays.{counted_more, tracked_still, entered_now, left_now, entered_elsewhere, Stays, IsBeside, own, same_page, session_stays, same_entered, same_counters, all_stays, shape, beside, goes_same, apart}
@@ -219,7 +220,7 @@ module _ (o : Opening) (me : ℕ) (w : World) (l : Lawful o.machine w) where
   pub row-beside : (c : Call) → Passes ((row_of o me c).items w) → output_slot c ≡ None → Beside c
   row-beside (call.PhymemPageReclaim t page) ps none =
       let v : World = After (call.PhymemPageReclaim t page) in
-      let dead = ended_of (w.tds.lives t) ps.1.1.1.0 in
+      let dead = ended_of (w.tds.lives t) (search) in
       apart w v t (λ a. let no : true ≡ false = sym dead ∙ a.alive.life in cc) refl refl
       (λ x y a. other_stays w v x (taken_back w page kind.Nda 0 0 0 (λ e. cc) v.tds refl x (record { kind = a.alive.kind; life = a.alive.life })) a refl refl refl refl
       (λ n s. lower w.pages.blocked page _) (λ n. refl) (λ n. rw y refl))
@@ -229,11 +230,11 @@ module _ (o : Opening) (me : ℕ) (w : World) (l : Lawful o.machine w) where
       (λ x y a. other_stays w v x (record { kind = rw y at a.alive.kind; life = rw y at a.alive.life }) a (rw y refl) (rw y refl) refl refl
       (λ n s. lower w.pages.blocked t _) (λ n. rw y refl) (λ n. rw y refl))
   row-beside (call.MngKeyConfig t) ps none =
-      plain (After (call.MngKeyConfig t)) refl refl (λ x n. refl) (λ q. le_same _) (lived_back w t life.KeysConfigured (live_of (life.HkidAssigned ∷ []) (w.tds.lives t) refl ps.1.1.0))
+      plain (After (call.MngKeyConfig t)) refl refl (λ x n. refl) (λ q. le_same _) (lived_back w t life.KeysConfigured (live_of (life.HkidAssigned ∷ []) (w.tds.lives t) refl (search)))
   row-beside (call.MngVpflushdone t) ps none =
-      plain (After (call.MngVpflushdone t)) refl refl (λ x n. refl) (λ q. le_same _) (lived_back w t life.Blocked (live_of (life.HkidAssigned ∷ life.KeysConfigured ∷ []) (w.tds.lives t) refl ps.1.1.0))
+      plain (After (call.MngVpflushdone t)) refl refl (λ x n. refl) (λ q. le_same _) (lived_back w t life.Blocked (live_of (life.HkidAssigned ∷ life.KeysConfigured ∷ []) (w.tds.lives t) refl (search)))
   row-beside (call.MngKeyFreeid t) ps none =
-      plain (After (call.MngKeyFreeid t)) refl refl (λ x n. refl) (λ q. le_same _) (lived_back w t life.Teardown (live_of (life.Blocked ∷ []) (w.tds.lives t) refl ps.1.1.0))
+      plain (After (call.MngKeyFreeid t)) refl refl (λ x n. refl) (λ q. le_same _) (lived_back w t life.Teardown (live_of (life.Blocked ∷ []) (w.tds.lives t) refl (search)))
   row-beside (call.MngAddcx t page) ps none =
       plain (After (call.MngAddcx t page)) refl refl (λ x n. refl) (λ q. lower w.pages.blocked page q) (taken_back w page kind.Tdcx t 0 0 (λ e. cc) (After (call.MngAddcx t page)).tds refl)
   row-beside (call.MngInit t) ps none =
@@ -245,45 +246,42 @@ module _ (o : Opening) (me : ℕ) (w : World) (l : Lawful o.machine w) where
       apart w v t (λ a. let no : false ≡ true = rw (same_self t) at a.standing in cc) refl refl
       (λ x y a. other_stays w v x (record { kind = a.alive.kind; life = a.alive.life }) a (rw y refl) refl refl refl (λ n s. le_same _) (λ n. refl) (λ n. refl))
   row-beside (call.VpCreate t page) ps none =
-      created_beside t page (λ a. never_exporting (op.Initialized ∷ op.MemoryImport ∷ []) (w.tds.ops t) (refl, refl, refl) ps.1.1.1.1.1.1.0 a.standing)
+      created_beside t page (λ a. never_exporting (op.Initialized ∷ op.MemoryImport ∷ []) (w.tds.ops t) (refl, refl, refl) (search) a.standing)
   row-beside (call.VpEnter t p most) ps none =
-      entered_beside t p most (eqb-true (w.pages.owners p) t (and_parts (same_kind (w.pages.kinds p) kind.Tdvpr) (w.pages.owners p == t) ps.1.1.1.1.1.1.1.1.0).1)
+      entered_beside t p most (eqb-true (w.pages.owners p) t (and_parts (same_kind (w.pages.kinds p) kind.Tdvpr) (w.pages.owners p == t) (search)).1)
   row-beside (call.MemSeptAdd t gpa level page) ps none =
-      let upper : 1 ≤ level = (range_of level 3 ps.1.1.0).0 in
+      let upper : 1 ≤ level = (range_of level 3 (search)).0 in
       plain (After (call.MemSeptAdd t gpa level page)) refl refl (λ x n. upper_stays w.tds.entries t level (number_at level gpa) x n _ upper) (λ q. lower w.pages.blocked page q)
       (taken_back w page kind.Ept t level (number_at level gpa) (λ e. cc) (After (call.MemSeptAdd t gpa level page)).tds refl)
   row-beside (call.MemSeptRemove t gpa level) ps none =
       let v : World = After (call.MemSeptRemove t gpa level) in
       let page = (entry_at w t level gpa).page in
-      let q = named_passed w t gpa level (entry.NlBlocked ∷ []) (empty_below w t gpa level ∷ tracked_page w t page ∷ []) ps.1.1.1.1 in
+      let q = sept_remove_passed o.machine w t gpa level ps in
       apart w v t (λ a. never_exporting blocking_ops (w.tds.ops t) (refl, refl, refl) q.op a.standing) refl refl
       (λ x y a. other_stays w v x (taken_back w page kind.Nda 0 0 0 (λ e. cc) v.tds refl x (record { kind = a.alive.kind; life = a.alive.life })) a refl refl refl refl
       (λ n s. lower w.pages.blocked page _) (λ n. rw y refl) (λ n. refl))
   row-beside (call.MemPageAdd t gpa page source) ps none =
       let v : World = After (call.MemPageAdd t gpa page source) in
-      let head = ps.1.1.1.1.1.1.1.1 in
-      apart w v t (λ a. never_exporting (op.Initialized ∷ []) (w.tds.ops t) (refl, refl, refl) head.1.1.1.0 a.standing) refl refl
+      apart w v t (λ a. never_exporting (op.Initialized ∷ []) (w.tds.ops t) (refl, refl, refl) (search) a.standing) refl refl
       (λ x y a. other_stays w v x (taken_back w page kind.Reg t 0 (number_at 0 gpa) (λ e. cc) v.tds refl x (record { kind = a.alive.kind; life = a.alive.life })) a refl refl refl refl
       (λ n s. lower w.pages.blocked page _) (λ n. rw y refl) (λ n. rw y refl))
   row-beside (call.MemPageAug t gpa page) ps none =
       let v : World = After (call.MemPageAug t gpa page) in
-      let head = ps.1.1.1.1.1 in
-      let rest = behind_walk w t gpa 0 (state_in w t gpa 0 (entry.Free ∷ []) ∷ page_exclusive page ∷ host_page w page ∷ []) head.1.1.1.1 in
       restated w v t (number_at 0 gpa) (record { state = entry.Pending; page = page; mark = 0 }) refl refl (λ x. refl) refl refl refl
       (taken_back w page kind.Reg t 0 (number_at 0 gpa) (λ e. cc) v.tds refl) refl (λ x n off. refl) (λ e. refl)
-      (fresh_goes (entry_at w t 0 gpa).state entry.Pending (free_unmarked _ (free_of (entry_at w t 0 gpa).state rest.0)) (λ e. cc))
+      (fresh_goes (entry_at w t 0 gpa).state entry.Pending (free_unmarked _ (free_of (entry_at w t 0 gpa).state (search))) (λ e. cc))
       (λ x n a off s. lower w.pages.blocked page _)
   row-beside (call.MemPageRemove t gpa) ps none =
       let v : World = After (call.MemPageRemove t gpa) in
       let page = (entry_at w t 0 gpa).page in
-      let q = named_passed w t gpa 0 removed_states (tracked_page w t page ∷ []) ps.1.1.1 in
+      let q = remove_passed o.machine w t gpa ps in
       apart w v t (λ a. never_exporting blocking_ops (w.tds.ops t) (refl, refl, refl) q.op a.standing) refl refl
       (λ x y a. other_stays w v x (taken_back w page kind.Nda 0 0 0 (λ e. cc) v.tds refl x (record { kind = a.alive.kind; life = a.alive.life })) a refl refl refl refl
       (λ n s. lower w.pages.blocked page _) (λ n. rw y refl) (λ n. rw y refl))
   row-beside (call.MemRangeBlock t gpa level) ps none =
       let v : World = After (call.MemRangeBlock t gpa level) in
       let page = (entry_at w t level gpa).page in
-      let q = named_passed w t gpa level open_states [] ps.1.1.1.1 in
+      let q = block_passed o.machine w t gpa level ps in
       let owner = (node_named o.machine w l t level (number_at level gpa) (named_alive w t gpa level open_states [] q) (block_restates (entry_at w t level gpa).state q.state).used).page.owner in
       apart w v t (λ a. never_exporting blocking_ops (w.tds.ops t) (refl, refl, refl) q.op a.standing) refl refl
       (λ x y a. (let alive : IsAlive w.pages w.tds x = record { kind = a.alive.kind; life = a.alive.life } in
@@ -291,13 +289,12 @@ module _ (o : Opening) (me : ℕ) (w : World) (l : Lawful o.machine w) where
       (λ n s. (let off = foreign o.machine w l t page x n owner y alive s in rw off (le_same _))) (λ n. rw y refl) (λ n. refl)))
   row-beside (call.MemRangeUnblock t gpa level) ps none =
       let v : World = After (call.MemRangeUnblock t gpa level) in
-      let q = named_passed w t gpa level blocked_states (tracked_page w t (entry_at w t level gpa).page ∷ []) ps.1.1.1.1 in
+      let q = unblock_passed o.machine w t gpa level ps in
       apart w v t (λ a. never_exporting blocking_ops (w.tds.ops t) (refl, refl, refl) q.op a.standing) refl refl
       (λ x y a. other_stays w v x (record { kind = a.alive.kind; life = a.alive.life }) a refl refl refl refl (λ n s. le_same _) (λ n. rw y refl) (λ n. refl))
   row-beside (call.MemTrack t) ps none = tracked_later t
   row-beside (call.MigStreamCreate t page) ps none =
-      let head = ps.1.1.1 in
-      stream_beside t page (host_kind _ head.1.1.1.1.1.0) (λ a. never_exporting stream_ops (w.tds.ops t) (refl, refl, refl) head.1.1.1.0 a.standing)
+      stream_beside t page (host_kind _ (search)) (λ a. never_exporting stream_ops (w.tds.ops t) (refl, refl, refl) (search) a.standing)
   row-beside (call.ExportBlockw t gpa) ps none =
       let v : World = After (call.ExportBlockw t gpa) in
       let e : Entry = entry_at w t 0 gpa in
@@ -309,37 +306,36 @@ module _ (o : Opening) (me : ℕ) (w : World) (l : Lawful o.machine w) where
       let v : World = After (call.ExportUnblockw t gpa) in
       let e : Entry = entry_at w t 0 gpa in
       restated w v t (number_at 0 gpa) (record { state = write_unblocked e.state; page = e.page; mark = e.mark }) refl refl (λ x. refl) refl refl refl
-      (λ x a. record { kind = a.kind; life = a.life }) refl (λ x n off. refl) (λ e. refl) (unblocked_goes e.state (opened_passed w t gpa live_ops write_blocked_states ps.1.1.1).state)
+      (λ x a. record { kind = a.kind; life = a.life }) refl (λ x n off. refl) (λ e. refl) (unblocked_goes e.state (search))
       (λ x n a off s. le_same _)
   row-beside (call.ExportPause t) ps none =
       let v : World = After (call.ExportPause t) in
       beside w v refl
       (λ x e. by_test (x == t)
-      (λ y. (subst (λ (z : ℕ). is_exporting (w.tds.ops z) ≡ true) (sym (eqb-true x t y)) (live_exporting (w.tds.ops t) ps.1.1.1.1.0), λ k. absurd (let no : op.PausedExport ≡ op.LiveExport = rw y at k in cc)))
+      (λ y. (subst (λ (z : ℕ). is_exporting (w.tds.ops z) ≡ true) (sym (eqb-true x t y)) (live_exporting (w.tds.ops t) (search)), λ k. absurd (let no : op.PausedExport ≡ op.LiveExport = rw y at k in cc)))
       (λ y. (rw y at e, λ k. rw y at k)))
       (λ x n. refl) (λ q. le_same _) (λ x a. record { kind = a.kind; life = a.life })
   row-beside (call.ExportAbort t) ps none = over_beside t op.Runnable refl
   row-beside (call.ExportAbortByToken t slot) ps none = over_beside t op.Runnable refl
   row-beside (call.ExportRestore t gpa) ps none =
       let v : World = After (call.ExportRestore t gpa) in
-      let p = opened_passed w t gpa restoring_ops restored_states ps.1.1.1 in
-      apart w v t (λ a. never_exporting restoring_ops (w.tds.ops t) (refl, refl, refl) p.op a.standing) refl refl
+      apart w v t (λ a. never_exporting restoring_ops (w.tds.ops t) (refl, refl, refl) (search) a.standing) refl refl
       (λ x y a. other_stays w v x (record { kind = a.alive.kind; life = a.alive.life }) a refl refl refl refl (λ n s. le_same _) (λ n. rw y refl) (λ n. refl))
   row-beside (call.ImportStateImmutable t slot) ps none =
       import_beside (After (call.ImportStateImmutable t slot)) t 0 (λ a. let no : false ≡ true = rw (same_self t) at a.standing in cc) refl refl (λ x a. record { kind = a.kind; life = a.life })
       (λ x y. rw y refl) (λ x y. rw y refl) refl refl (λ q. le_same _) (λ x n y. refl) (λ x n y. refl)
   row-beside (call.ImportMem t slot page) ps none =
       let x : Input = input_in (o.bundles slot) in
-      page_beside t x.header.stream x.header.gpa page x.words (never_exporting filling_ops (w.tds.ops t) (refl, refl, refl) ps.1.1.1.1.1.1.1.1.1.0)
+      page_beside t x.header.stream x.header.gpa page x.words (never_exporting filling_ops (w.tds.ops t) (refl, refl, refl) (search))
   row-beside (call.ImportTrack t slot) ps none =
       let x : Input = input_in (o.bundles slot) in
-      import_beside (After (call.ImportTrack t slot)) t 0 (λ a. never_then (is_start x.header) (w.tds.ops t) ps.1.1.1.1.1.1.1.0 (rw (same_self t) at a.standing)) refl refl (λ x a. record { kind = a.kind; life = a.life })
+      import_beside (After (call.ImportTrack t slot)) t 0 (λ a. never_then (is_start x.header) (w.tds.ops t) (search) (rw (same_self t) at a.standing)) refl refl (λ x a. record { kind = a.kind; life = a.life })
       (λ x y. rw y refl) (λ x y. refl) refl refl (λ q. le_same _) (λ x n y. refl) (λ x n y. refl)
   row-beside (call.ImportStateTd t slot) ps none =
       import_beside (After (call.ImportStateTd t slot)) t 0 (λ a. let no : false ≡ true = rw (same_self t) at a.standing in cc) refl refl (λ x a. record { kind = a.kind; life = a.life })
       (λ x y. rw y refl) (λ x y. refl) refl refl (λ q. le_same _) (λ x n y. refl) (λ x n y. refl)
   row-beside (call.ImportStateVp t p slot) ps none =
-      import_beside (After (call.ImportStateVp t p slot)) t 0 (λ a. never_exporting vp_state_ops (w.tds.ops t) (refl, refl, refl) ps.1.1.1.1.1.1.1.1.1.0 a.standing) refl refl (λ x a. record { kind = a.kind; life = a.life })
+      import_beside (After (call.ImportStateVp t p slot)) t 0 (λ a. never_exporting vp_state_ops (w.tds.ops t) (refl, refl, refl) (search) a.standing) refl refl (λ x a. record { kind = a.kind; life = a.life })
       (λ x y. refl) (λ x y. refl) refl refl (λ q. le_same _) (λ x n y. refl) (λ x n y. refl)
   row-beside (call.ImportCommit t) ps none =
       beside w (After (call.ImportCommit t)) refl (goes_over t op.LiveImport refl) (λ x n. refl) (λ q. le_same _) (λ x a. record { kind = a.kind; life = a.life })

@@ -30,6 +30,7 @@ use Rattle.flat_core.proofs.Tests.{by_test, same_self}
 use Rattle.flat_core.proofs.Counted.{are_counted}
 use Rattle.flat_core.proofs.Maps.{behind_walk}
 use Rattle.flat_core.proofs.Ranges.{paused_exporting, abortable_exporting}
+use Rattle.flat_core.proofs.Passed.{TdPassed, td_alive}
 use Rattle.mig_laws.specs.Ivs.{is_forward, IsExporting, IvsHold, AbortsHold}
 use Rattle.mig_laws.specs.Source.{is_page_at, later_of, last_of, last_payload, IsSent, ArePagesSent, AreSentTracked, SourceHolds}
 use Rattle.mig_laws.proofs.Stays.{PageStays, IsBeside, beside, unmoved}
@@ -236,32 +237,29 @@ module _ (o : Opening) (me : ℕ) (w : World) (l : Lawful o.machine w) (known : 
 
   immutable_source : (t slot : ℕ) → Passes ((row_of o me (call.ExportStateImmutable t slot)).items w) → SourceHolds (After (call.ExportStateImmutable t slot))
   immutable_source t slot ps =
-      let head = ps.1 in
-      let alive = alive_of w t head.0 head.1.0 in
+      let td : TdPassed w t session_ops = search in
+      let alive = td_alive td in
       let a : About = record (about 0 1) { info = length (w.tds.vps t) } in
       record {
         ivs = row-ivs o me w l h.ivs h.aborts (call.ExportStateImmutable t slot) ps;
         aborts = row-aborts o me w l h.aborts (call.ExportStateImmutable t slot) ps;
-        sent = sent_made t slot a (six_words (w.tds.mrtds t)) (begin_session t w) refl (sent_begun o.machine w l h.ivs t alive head.1.1.1.1.1.0 h.sent);
-        tracked = tracked_made t slot a (six_words (w.tds.mrtds t)) (begin_session t w) refl (tracked_begun o.machine w l h.ivs t alive head.1.1.1.1.1.0 h.tracked);
+        sent = sent_made t slot a (six_words (w.tds.mrtds t)) (begin_session t w) refl (sent_begun o.machine w l h.ivs t alive (search) h.sent);
+        tracked = tracked_made t slot a (six_words (w.tds.mrtds t)) (begin_session t w) refl (tracked_begun o.machine w l h.ivs t alive (search) h.tracked);
       }
 
   page_source : (t gpa k slot : ℕ) → Passes ((row_of o me (call.ExportMem t gpa k slot)).items w) → SourceHolds (After (call.ExportMem t gpa k slot))
   page_source t gpa k slot ps =
-      let head = ps.1.1.1.1 in
-      let alive = alive_of w t head.0 head.1.0 in
-      let exporting : IsExporting w t = record { alive = alive; standing = abortable_exporting (w.tds.ops t) head.1.1.1.0 } in
+      let td : TdPassed w t abortable_ops = search in
+      let alive = td_alive td in
+      let exporting : IsExporting w t = record { alive = alive; standing = abortable_exporting (w.tds.ops t) td.op } in
       let e = entry_at w t 0 gpa in
-      let rest = behind_walk w t gpa 0
-      (has_page w t gpa 0 ∷ named_page w t gpa 0 Exclusive ∷ state_in w t gpa 0 (exportable (w.tds.ops t)) ∷ other_epoch w t gpa ∷ page_exclusive (stream_page w t k) ∷ counter_room w t k ∷ tracked_in (w.tds.ops t) w t e.page)
-      head.1.1.1.1.1 in
-      let holds = exportable_holds (w.tds.ops t) e.state rest.1.0 in
+      let holds = exportable_holds (w.tds.ops t) e.state (search) in
       let has : memory_of (w.tds.entries t 0 (page_of_gpa gpa)) w.words ≡ Some (w.words e.page) = rw holds refl in
       record {
         ivs = row-ivs o me w l h.ivs h.aborts (call.ExportMem t gpa k slot) ps;
         aborts = row-aborts o me w l h.aborts (call.ExportMem t gpa k slot) ps;
         sent = page_sent t gpa k slot w h.ivs exporting (known t (page_of_gpa gpa) alive ∙ has) h.sent;
-        tracked = page_tracked t gpa k slot w h.ivs exporting (tracked_then (w.tds.ops t) w t e.page rest.1.1.1.1) h.tracked;
+        tracked = page_tracked t gpa k slot w h.ivs exporting (tracked_then (w.tds.ops t) w t e.page (search)) h.tracked;
       }
 
   -- a bundle without a page, where the world before it differs in what isn't asked
@@ -273,7 +271,7 @@ module _ (o : Opening) (me : ℕ) (w : World) (l : Lawful o.machine w) (known : 
       bundle_source t slot (record (about 4 (w.tds.mig_epochs t + 1)) { total = bundles_so_far w t }) [] (set_mig_epoch t (w.tds.mig_epochs t + 1) w) refl (unmoved w _ refl refl (λ x n. refl) refl refl) (row-ivs o me w l h.ivs h.aborts (call.ExportTrack t slot 0) ps) (row-aborts o me w l h.aborts (call.ExportTrack t slot 0) ps)
   token_source t slot (suc n) ps =
       let v : World = set_op t op.PostExport (set_mig_epoch t start_epoch w) in
-      let standing = paused_exporting (w.tds.ops t) ps.1.1.1.1.1.0 in
+      let standing = paused_exporting (w.tds.ops t) (search) in
       bundle_source t slot (record (about 5 start_epoch) { total = bundles_so_far w t }) [] v refl
       (beside w v refl
       (λ x e. by_test (x == t)

@@ -38,6 +38,7 @@ use Rattle.flat_core.proofs.Acts.{event_world}
 use Rattle.flat_core.proofs.Induction.{in_runs}
 use Rattle.flat_core.proofs.Ranges.{live_exporting, paused_exporting, abortable_exporting}
 use Rattle.flat_core.proofs.Streams.{page_among}
+use Rattle.flat_core.proofs.Passed.{TdPassed, td_alive}
 use Rattle.flat_bundles.proofs.Fills.{fill_either}
 use Rattle.mig_laws.specs.Ivs.{is_forward, IsExporting}
 use Rattle.mig_laws.specs.Source.{SourceHolds, last_payload, is_page_at}
@@ -212,10 +213,10 @@ module _ (o : Opening) (me : ℕ) (w : World) (l : Lawful o.machine w) where
       }
   row-notes (call.VpCreate t page) ps none =
       let v : World = After (call.VpCreate t page) in
-      let host : w.pages.kinds page ≡ kind.Nda = host_kind (w.pages.kinds page) ps.1.1.1.1.1.1.1.1.0 in
+      let host : w.pages.kinds page ≡ kind.Nda = host_kind (w.pages.kinds page) (search) in
       record {
         each = λ x a. by_test (x == t)
-            (λ y. absurd (never_exporting (op.Initialized ∷ op.MemoryImport ∷ []) (w.tds.ops t) (refl, refl, refl) ps.1.1.1.1.1.1.0 (subst (λ (z : ℕ). is_exporting (w.tds.ops z) ≡ true) (eqb-true x t y) a.standing)))
+            (λ y. absurd (never_exporting (op.Initialized ∷ op.MemoryImport ∷ []) (w.tds.ops t) (refl, refl, refl) (search) (subst (λ (z : ℕ). is_exporting (w.tds.ops z) ≡ true) (eqb-true x t y) a.standing)))
             (λ y. rw y refl);
         vp = λ x a p e.
             let alive = taken_back w page kind.Tdvpr t 0 0 (λ e. cc) v.tds refl x (record { kind = a.alive.kind; life = a.alive.life }) in
@@ -350,29 +351,29 @@ module _ (o : Opening) (me : ℕ) (w : World) (l : Lawful o.machine w) (src : So
   page_starts : (t gpa k slot : ℕ) → Passes ((row_of o me (call.ExportMem t gpa k slot)).items w) → StartsHold (Then (call.ExportMem t gpa k slot))
   page_starts t gpa k slot ps =
       let v : World = Then (call.ExportMem t gpa k slot) in
-      let head = ps.1.1.1.1 in
-      let exporting : IsExporting w t = record { alive = alive_of w t head.0 head.1.0; standing = abortable_exporting (w.tds.ops t) head.1.1.1.0 } in
-      one_more_starts v _ refl refl (not_post w t pauses exporting (abortable_stands (w.tds.ops t) head.1.1.1.0)) (λ s e. cc) h.given
+      let td : TdPassed w t abortable_ops = search in
+      let exporting : IsExporting w t = record { alive = td_alive td; standing = abortable_exporting (w.tds.ops t) td.op } in
+      one_more_starts v _ refl refl (not_post w t pauses exporting (abortable_stands (w.tds.ops t) td.op)) (λ s e. cc) h.given
       (λ x a. noted_stays w v x refl refl (λ p e. refl) (no_states (w.tds.sessions x) w.outgoing.bundles _ refl refl) (h.noted x (record { alive = record { kind = a.alive.kind; life = a.alive.life }; standing = a.standing })))
 
   track_starts : (t slot start : ℕ) → Passes ((row_of o me (call.ExportTrack t slot start)).items w) → StartsHold (Then (call.ExportTrack t slot start))
   track_starts t slot zero ps =
       let v : World = Then (call.ExportTrack t slot zero) in
-      let head = ps.1.1 in
-      let exporting : IsExporting w t = record { alive = alive_of w t head.0 head.1.0; standing = abortable_exporting (w.tds.ops t) head.1.1.1.0 } in
-      one_more_starts v _ refl refl (not_post w t pauses exporting (abortable_stands (w.tds.ops t) head.1.1.1.0)) (λ s e. cc) h.given
+      let td : TdPassed w t abortable_ops = search in
+      let exporting : IsExporting w t = record { alive = td_alive td; standing = abortable_exporting (w.tds.ops t) td.op } in
+      one_more_starts v _ refl refl (not_post w t pauses exporting (abortable_stands (w.tds.ops t) td.op)) (λ s e. cc) h.given
       (λ x a. noted_stays w v x refl refl (λ p e. refl) (no_states (w.tds.sessions x) w.outgoing.bundles _ refl refl) (h.noted x (record { alive = record { kind = a.alive.kind; life = a.alive.life }; standing = a.standing })))
   track_starts t slot (suc n) ps =
       let v : World = Then (call.ExportTrack t slot (suc n)) in
-      let head = ps.1.1 in
-      let alive = alive_of w t head.0 head.1.0 in
-      let exporting : IsExporting w t = record { alive = alive; standing = paused_exporting (w.tds.ops t) head.1.1.1.0 } in
-      let missing : missing_states w t ≡ 0 = eqb-true (missing_states w t) 0 head.1.1.1.1.1.0 in
+      let td : TdPassed w t paused_ops = search in
+      let alive = td_alive td in
+      let exporting : IsExporting w t = record { alive = alive; standing = paused_exporting (w.tds.ops t) td.op } in
+      let missing : missing_states w t ≡ 0 = eqb-true (missing_states w t) 0 (search) in
       let mine = h.noted t exporting in
-      one_more_starts v _ refl refl (not_post w t pauses exporting (paused_stands (w.tds.ops t) head.1.1.1.0))
+      one_more_starts v _ refl refl (not_post w t pauses exporting (paused_stands (w.tds.ops t) td.op))
       (λ s e. subst (λ (z : ℕ). IsWhole v z w.outgoing.bundles []) (eqb-true (w.tds.sessions t) s e) (record {
         image = image_of w t;
-        noted = states.images t exporting (is_pausing (w.tds.ops t) head.1.1.1.0);
+        noted = states.images t exporting (is_pausing (w.tds.ops t) td.op);
         td = any_counted (is_td_state (w.tds.sessions t)) w.outgoing.bundles
             (let all = some_missing (w.tds.td_exported t) (length (w.tds.vps t) - w.tds.vps_exported t) missing in let noted = mine.td in omega (arith, all, noted));
         vps = λ i few. vp_there t alive mine (all_there (w.tds.td_exported t) (length (w.tds.vps t)) (w.tds.vps_exported t) missing) i (let same = length-map (w.tds.vps t) (vp_image w) in omega (arith, few, same));
@@ -402,14 +403,14 @@ module _ (o : Opening) (me : ℕ) (w : World) (l : Lawful o.machine w) (src : So
   td_starts : (t slot : ℕ) → Passes ((row_of o me (call.ExportStateTd t slot)).items w) → StartsHold (Then (call.ExportStateTd t slot))
   td_starts t slot ps =
       let v : World = Then (call.ExportStateTd t slot) in
-      let head = ps.1 in
-      let exporting : IsExporting w t = record { alive = alive_of w t head.0 head.1.0; standing = paused_exporting (w.tds.ops t) head.1.1.1.0 } in
+      let td : TdPassed w t paused_ops = search in
+      let exporting : IsExporting w t = record { alive = td_alive td; standing = paused_exporting (w.tds.ops t) td.op } in
       let mine = h.noted t exporting in
       let self = same_self (w.tds.sessions t) in
       let new : Made = record { slot = slot; header = header_of (note_td_export t w) t (about 1 (w.tds.mig_epochs t)); payload = payload_words (w.hidden.rtmrs t) 24 } in
-      let left : w.tds.td_exported t ≡ 0 = eqb-true (w.tds.td_exported t) 0 head.1.1.1.1.0 in
+      let left : w.tds.td_exported t ≡ 0 = eqb-true (w.tds.td_exported t) 0 (search) in
       let here = same_self t in
-      one_more_starts v _ refl refl (not_post w t pauses exporting (paused_stands (w.tds.ops t) head.1.1.1.0)) (λ s e. cc) h.given
+      one_more_starts v _ refl refl (not_post w t pauses exporting (paused_stands (w.tds.ops t) td.op)) (λ s e. cc) h.given
       (λ x a. by_test (x == t)
       (λ y. subst (λ (z : ℕ). AreNoted v z) (sym (eqb-true x t y)) (record {
         once = rw here (omega arith);
@@ -424,20 +425,20 @@ module _ (o : Opening) (me : ℕ) (w : World) (l : Lawful o.machine w) (src : So
   vp_starts : (t p slot : ℕ) → Passes ((row_of o me (call.ExportStateVp t p slot)).items w) → StartsHold (Then (call.ExportStateVp t p slot))
   vp_starts t p slot ps =
       let v : World = Then (call.ExportStateVp t p slot) in
-      let head = ps.1.1.1 in
-      let alive = alive_of w t head.0 head.1.0 in
-      let exporting : IsExporting w t = record { alive = alive; standing = paused_exporting (w.tds.ops t) head.1.1.1.0 } in
+      let td : TdPassed w t paused_ops = search in
+      let alive = td_alive td in
+      let exporting : IsExporting w t = record { alive = alive; standing = paused_exporting (w.tds.ops t) td.op } in
       let mine = h.noted t exporting in
       let s : ℕ = w.tds.sessions t in
       let self = same_self s in
-      let its = and_parts (same_kind (w.pages.kinds p) kind.Tdvpr) (w.pages.owners p == t) head.1.1.1.1.0 in
+      let its = and_parts (same_kind (w.pages.kinds p) kind.Tdvpr) (w.pages.owners p == t) (search) in
       let owner : w.pages.owners p ≡ t = eqb-true (w.pages.owners p) t its.1 in
       let among : list_any (λ q. q == p) (w.tds.vps t) ≡ true =
       subst (λ (z : ℕ). list_any (λ q. q == p) (w.tds.vps z) ≡ true) owner (l.lists.vp p (is_vp_kind (w.pages.kinds p) its.0) (subst (λ (z : ℕ). IsAlive w.pages w.tds z) (sym owner) alive)) in
-      let left : (w.vps.exported p == s) ≡ false = not-true _ head.1.1.1.1.1.0 in
+      let left : (w.vps.exported p == s) ≡ false = not-true _ (search) in
       let about_vp : About = record (about 2 (w.tds.mig_epochs t)) { index = w.vps.indexes p; info = w.vps.positions p % 2 ^ 32 } in
       let new : Made = record { slot = slot; header = header_of (note_vp_export t p w) t about_vp; payload = payload_words (w.hidden.registers p) 8 } in
-      one_more_starts v _ refl refl (not_post w t pauses exporting (paused_stands (w.tds.ops t) head.1.1.1.0)) (λ r e. cc)
+      one_more_starts v _ refl refl (not_post w t pauses exporting (paused_stands (w.tds.ops t) td.op)) (λ r e. cc)
       (λ q. by_test (q == p) (λ y. rw y (src.ivs.session t exporting)) (λ y. rw y (h.given q)))
       (λ x a. by_test (x == t)
       (λ y. subst (λ (z : ℕ). AreNoted v z) (sym (eqb-true x t y)) (record {
@@ -464,9 +465,9 @@ module _ (o : Opening) (me : ℕ) (w : World) (l : Lawful o.machine w) (src : So
   pause_starts : (t : ℕ) → Passes ((row_of o me (call.ExportPause t)).items w) → StartsHold (Then (call.ExportPause t))
   pause_starts t ps =
       let v : World = Then (call.ExportPause t) in
-      let head = ps.1 in
-      let exporting : IsExporting w t = record { alive = alive_of w t head.0 head.1.0; standing = live_exporting (w.tds.ops t) head.1.1.1.0 } in
-      let over = not_post w t pauses exporting (λ e. let no : op.LiveExport ≡ op.PostExport = sym (only_live (w.tds.ops t) head.1.1.1.0) ∙ e in cc) in
+      let td : TdPassed w t live_ops = search in
+      let exporting : IsExporting w t = record { alive = td_alive td; standing = live_exporting (w.tds.ops t) td.op } in
+      let over = not_post w t pauses exporting (λ e. let no : op.LiveExport ≡ op.PostExport = sym (only_live (w.tds.ops t) td.op) ∙ e in cc) in
       record {
         given = h.given;
         noted = λ x a. noted_stays w v x refl refl (λ p e. refl) (same_states (w.tds.sessions x) w.outgoing.bundles w.outgoing.bundles refl)

@@ -40,6 +40,7 @@ use Rattle.flat_core.proofs.Acts.{event_world}
 use Rattle.flat_core.proofs.Induction.{in_runs}
 use Rattle.flat_core.proofs.Always.{occ-of}
 use Rattle.flat_core.proofs.Ranges.{live_exporting, paused_exporting, abortable_exporting}
+use Rattle.flat_core.proofs.Passed.{TdPassed, td_alive}
 use Rattle.flat_bundles.specs.Formed.{AreCodesShort, FormsHold}
 use Rattle.flat_bundles.proofs.Fills.{fill_either}
 use Rattle.flat_bundles.proofs.Formed.{forms_kept}
@@ -337,8 +338,8 @@ module _ (o : Opening) (me : ℕ) (w : World) (l : Lawful o.machine w) (src : So
 
   immutable_states : (t slot : ℕ) → Passes ((row_of o me (call.ExportStateImmutable t slot)).items w) → StatesHold (After (call.ExportStateImmutable t slot))
   immutable_states t slot ps =
-      let head = ps.1 in
-      let alive = alive_of w t head.0 head.1.0 in
+      let td : TdPassed w t session_ops = search in
+      let alive = td_alive td in
       let self = same_self t in
       let over : has_start ((begin_session t w).tds.sessions t) w.outgoing.bundles ≡ false = rw self (no_start_yet w src.ivs) in
       states_made t slot (record (about 0 1) { info = length (w.tds.vps t) }) (six_words (w.tds.mrtds t)) (begin_session t w) (begun_ivs o w l src.ivs t alive) (states_begun t w src.ivs h)
@@ -359,46 +360,46 @@ module _ (o : Opening) (me : ℕ) (w : World) (l : Lawful o.machine w) (src : So
 
   page_states : (t gpa k slot : ℕ) → Passes ((row_of o me (call.ExportMem t gpa k slot)).items w) → StatesHold (After (call.ExportMem t gpa k slot))
   page_states t gpa k slot ps =
-      let head = ps.1.1.1.1 in
-      let exporting : IsExporting w t = record { alive = alive_of w t head.0 head.1.0; standing = abortable_exporting (w.tds.ops t) head.1.1.1.0 } in
+      let td : TdPassed w t abortable_ops = search in
+      let exporting : IsExporting w t = record { alive = td_alive td; standing = abortable_exporting (w.tds.ops t) td.op } in
       let v : World = count_export t k (entry_at w t 0 gpa).state (restate t (number_at 0 gpa) entry.ExportedBlockedW (w.tds.mig_epochs t) w) in
       let back = back_same v refl refl refl in
       bundle_states t slot (record (about 3 (w.tds.mig_epochs t)) { stream = k; gpa = gpa }) (payload_words (w.words (entry_at w t 0 gpa).page) 512) v (ivs_as v refl refl refl refl refl refl back) (states_as w v refl back refl refl refl refl refl refl h)
-      (record { alive = record { kind = exporting.alive.kind; life = exporting.alive.life }; standing = exporting.standing }) refl refl exporting (abortable_stands (w.tds.ops t) head.1.1.1.0) refl
+      (record { alive = record { kind = exporting.alive.kind; life = exporting.alive.life }; standing = exporting.standing }) refl refl exporting (abortable_stands (w.tds.ops t) td.op) refl
       (no_state v t _ (λ e. cc) (λ e. cc) (λ e. cc))
 
   token_states : (t slot start : ℕ) → Passes ((row_of o me (call.ExportTrack t slot start)).items w) → StatesHold (After (call.ExportTrack t slot start))
   token_states t slot zero ps =
-      let head = ps.1.1 in
-      let exporting : IsExporting w t = record { alive = alive_of w t head.0 head.1.0; standing = abortable_exporting (w.tds.ops t) head.1.1.1.0 } in
+      let td : TdPassed w t abortable_ops = search in
+      let exporting : IsExporting w t = record { alive = td_alive td; standing = abortable_exporting (w.tds.ops t) td.op } in
       let v : World = set_mig_epoch t (w.tds.mig_epochs t + 1) w in
       let back = back_same v refl refl refl in
       bundle_states t slot (record (about 4 (w.tds.mig_epochs t + 1)) { total = bundles_so_far w t }) [] v (ivs_as v refl refl refl refl refl refl back) (states_as w v refl back refl refl refl refl refl refl h)
-      (record { alive = record { kind = exporting.alive.kind; life = exporting.alive.life }; standing = exporting.standing }) refl refl exporting (abortable_stands (w.tds.ops t) head.1.1.1.0) refl
+      (record { alive = record { kind = exporting.alive.kind; life = exporting.alive.life }; standing = exporting.standing }) refl refl exporting (abortable_stands (w.tds.ops t) td.op) refl
       (no_state v t _ (λ e. cc) (λ e. cc) (λ e. cc))
   token_states t slot (suc n) ps =
-      let head = ps.1.1 in
-      states_started t slot (record (about 5 start_epoch) { total = bundles_so_far w t }) w src.ivs h (record { alive = alive_of w t head.0 head.1.0; standing = paused_exporting (w.tds.ops t) head.1.1.1.0 })
-      (is_pausing (w.tds.ops t) head.1.1.1.0) refl
+      let td : TdPassed w t paused_ops = search in
+      states_started t slot (record (about 5 start_epoch) { total = bundles_so_far w t }) w src.ivs h (record { alive = td_alive td; standing = paused_exporting (w.tds.ops t) td.op })
+      (is_pausing (w.tds.ops t) td.op) refl
 
   td_states : (t slot : ℕ) → Passes ((row_of o me (call.ExportStateTd t slot)).items w) → StatesHold (After (call.ExportStateTd t slot))
   td_states t slot ps =
-      let head = ps.1 in
-      let exporting : IsExporting w t = record { alive = alive_of w t head.0 head.1.0; standing = paused_exporting (w.tds.ops t) head.1.1.1.0 } in
+      let td : TdPassed w t paused_ops = search in
+      let exporting : IsExporting w t = record { alive = td_alive td; standing = paused_exporting (w.tds.ops t) td.op } in
       let v : World = note_td_export t w in
       let back = back_same v refl refl refl in
       bundle_states t slot (about 1 (w.tds.mig_epochs t)) (payload_words (w.hidden.rtmrs t) 24) v (ivs_as v refl refl refl refl refl refl back) (states_as w v refl back refl refl refl refl refl refl h)
-      (record { alive = record { kind = exporting.alive.kind; life = exporting.alive.life }; standing = exporting.standing }) refl refl exporting (paused_stands (w.tds.ops t) head.1.1.1.0) refl
-      (record { first = λ k. cc; td = λ k. (is_pausing (w.tds.ops t) head.1.1.1.0, refl); vp = λ k. cc })
+      (record { alive = record { kind = exporting.alive.kind; life = exporting.alive.life }; standing = exporting.standing }) refl refl exporting (paused_stands (w.tds.ops t) td.op) refl
+      (record { first = λ k. cc; td = λ k. (is_pausing (w.tds.ops t) td.op, refl); vp = λ k. cc })
 
   vp_states : (t p slot : ℕ) → Passes ((row_of o me (call.ExportStateVp t p slot)).items w) → StatesHold (After (call.ExportStateVp t p slot))
   vp_states t p slot ps =
-      let head = ps.1.1.1 in
-      let alive = alive_of w t head.0 head.1.0 in
-      let exporting : IsExporting w t = record { alive = alive; standing = paused_exporting (w.tds.ops t) head.1.1.1.0 } in
+      let td : TdPassed w t paused_ops = search in
+      let alive = td_alive td in
+      let exporting : IsExporting w t = record { alive = alive; standing = paused_exporting (w.tds.ops t) td.op } in
       let v : World = note_vp_export t p w in
       let back = back_same v refl refl refl in
-      let its = and_parts (same_kind (w.pages.kinds p) kind.Tdvpr) (w.pages.owners p == t) head.1.1.1.1.0 in
+      let its = and_parts (same_kind (w.pages.kinds p) kind.Tdvpr) (w.pages.owners p == t) (search) in
       let owner = eqb-true (w.pages.owners p) t its.1 in
       let among : list_any (λ q. q == p) (w.tds.vps t) ≡ true =
       subst (λ (z : ℕ). list_any (λ q. q == p) (w.tds.vps z) ≡ true) owner (l.lists.vp p (is_vp_kind (w.pages.kinds p) its.0) (subst (λ (z : ℕ). IsAlive w.pages w.tds z) (sym owner) alive)) in
@@ -407,18 +408,18 @@ module _ (o : Opening) (me : ℕ) (w : World) (l : Lawful o.machine w) (src : So
       let at : slice_get (w.tds.vps t) (w.vps.indexes p) ≡ Some p = ap (slice_get (w.tds.vps t)) index ∙ place.1 in
       bundle_states t slot (record (about 2 (w.tds.mig_epochs t)) { index = w.vps.indexes p; info = w.vps.positions p % 2 ^ 32 }) (payload_words (w.hidden.registers p) 8) v
       (ivs_as v refl refl refl refl refl refl back) (states_as w v refl back refl refl refl refl refl refl h)
-      (record { alive = record { kind = alive.kind; life = alive.life }; standing = exporting.standing }) refl refl exporting (paused_stands (w.tds.ops t) head.1.1.1.0) refl
+      (record { alive = record { kind = alive.kind; life = alive.life }; standing = exporting.standing }) refl refl exporting (paused_stands (w.tds.ops t) td.op) refl
       (record {
         first = λ k. cc;
         td = λ k. cc;
-        vp = λ k. (is_pausing (w.tds.ops t) head.1.1.1.0, record { vp = vp_in_32_bits (vp_image v p); place = place_of_map vp_in_32_bits (map (vp_image v) (w.tds.vps t)) (w.vps.indexes p) (vp_image v p) (place_of_map (vp_image v) (w.tds.vps t) (w.vps.indexes p) p at); words = refl; position = refl });
+        vp = λ k. (is_pausing (w.tds.ops t) td.op, record { vp = vp_in_32_bits (vp_image v p); place = place_of_map vp_in_32_bits (map (vp_image v) (w.tds.vps t)) (w.vps.indexes p) (vp_image v p) (place_of_map (vp_image v) (w.tds.vps t) (w.vps.indexes p) p at); words = refl; position = refl });
       })
 
   pub row-states : (c : Call) → Passes ((row_of o me c).items w) → StatesHold (After c)
   row-states (call.ExportPause t) ps =
-      let head = ps.1 in
-      let exporting : IsExporting w t = record { alive = alive_of w t head.0 head.1.0; standing = live_exporting (w.tds.ops t) head.1.1.1.0 } in
-      states_held t w src.ivs h exporting (not_post w t pauses exporting (λ e. let no : op.LiveExport ≡ op.PostExport = sym (only_live (w.tds.ops t) head.1.1.1.0) ∙ e in cc))
+      let td : TdPassed w t live_ops = search in
+      let exporting : IsExporting w t = record { alive = td_alive td; standing = live_exporting (w.tds.ops t) td.op } in
+      states_held t w src.ivs h exporting (not_post w t pauses exporting (λ e. let no : op.LiveExport ≡ op.PostExport = sym (only_live (w.tds.ops t) td.op) ∙ e in cc))
   row-states (call.ExportStateImmutable t slot) ps = immutable_states t slot ps
   row-states (call.ExportMem t gpa k slot) ps = page_states t gpa k slot ps
   row-states (call.ExportTrack t slot start) ps = token_states t slot start ps

@@ -125,10 +125,10 @@ module _ (o : Opening) (me : ℕ) (w : World) (l : Lawful o.machine w) where
       let other = not_t v t (λ a. let no : false ≡ true = rw (same_self t) at a.standing in cc) in
       record { build = λ x a. (let y = other x a in (rw y refl, refl)); rtmrs = λ x a p. refl; vp = λ x a p q h. refl }
   row-still (call.VpCreate t page) ps none =
-      created_still t page (host_kind _ ps.1.1.1.1.1.1.1.1.0) (λ a. never_exporting (op.Initialized ∷ op.MemoryImport ∷ []) (w.tds.ops t) (refl, refl, refl) ps.1.1.1.1.1.1.0 a.standing)
+      created_still t page (host_kind _ (search)) (λ a. never_exporting (op.Initialized ∷ op.MemoryImport ∷ []) (w.tds.ops t) (refl, refl, refl) (search) a.standing)
   row-still (call.VpInit t p value) ps none =
-      initialized_still t p value (eqb-true (w.pages.owners p) t (and_parts (same_kind (w.pages.kinds p) kind.Tdvpr) (w.pages.owners p == t) ps.1.1.1.1.1.1.1.0).1)
-      (λ a. never_exporting (op.Initialized ∷ []) (w.tds.ops t) (refl, refl, refl) ps.1.1.1.1.1.1.0 a.standing)
+      initialized_still t p value (eqb-true (w.pages.owners p) t (and_parts (same_kind (w.pages.kinds p) kind.Tdvpr) (w.pages.owners p == t) (search)).1)
+      (λ a. never_exporting (op.Initialized ∷ []) (w.tds.ops t) (refl, refl, refl) (search) a.standing)
   row-still (call.ImportStateImmutable t slot) ps none =
       let v : World = After (call.ImportStateImmutable t slot) in
       let other = not_t v t (λ a. let no : false ≡ true = rw (same_self t) at a.standing in cc) in
@@ -142,8 +142,8 @@ module _ (o : Opening) (me : ℕ) (w : World) (l : Lawful o.machine w) where
       let other = not_t v t (λ a. let no : false ≡ true = rw (same_self t) at a.standing in cc) in
       record { build = λ x a. (refl, refl); rtmrs = λ x a p. (let y = other x a in rw y refl); vp = λ x a p q h. refl }
   row-still (call.ImportStateVp t p slot) ps none =
-      imported_still t p slot (eqb-true (w.pages.owners p) t (and_parts (same_kind (w.pages.kinds p) kind.Tdvpr) (w.pages.owners p == t) ps.1.1.1.1.1.1.1.1.1.1.0).1)
-      (λ a. never_exporting vp_state_ops (w.tds.ops t) (refl, refl, refl) ps.1.1.1.1.1.1.1.1.1.0 a.standing)
+      imported_still t p slot (eqb-true (w.pages.owners p) t (and_parts (same_kind (w.pages.kinds p) kind.Tdvpr) (w.pages.owners p == t) (search)).1)
+      (λ a. never_exporting vp_state_ops (w.tds.ops t) (refl, refl, refl) (search) a.standing)
   row-still (call.ImportAbort t slot) ps none = cc
   row-still (call.ExportStateImmutable t slot) ps none = cc
   row-still (call.ExportMem t gpa k slot) ps none = cc

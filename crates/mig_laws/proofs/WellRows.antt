@@ -37,6 +37,7 @@ use Rattle.flat_core.proofs.Exports.{free_unmarked}
 use Rattle.flat_core.proofs.Ranges.{named_passed, opened_passed, block_restates, unblock_restates, page_removed, sept_removed, paused_exporting, abortable_exporting}
 use Rattle.flat_core.proofs.ImportKeeps.{td_state_importing, vp_state_importing}
 use Rattle.flat_core.proofs.Streams.{stream_among, stream_owned}
+use Rattle.flat_core.proofs.Passed.{TdPassed, td_alive, sept_passed, block_passed, unblock_passed, remove_passed, sept_remove_passed}
 use Rattle.flat_bundles.proofs.Fills.{fill_either}
 use Rattle.mig_laws.specs.Ivs.{IsExporting, IvsHold}
 use Rattle.mig_laws.specs.Source.{is_page_at}
@@ -408,35 +409,32 @@ module _ (o : Opening) (me : ℕ) (w : World) (l : Lawful o.machine w) (i : IvsH
       (λ y. absurd (let no : false ≡ true = rw y at a.standing in cc))
       (λ y. record { counter = λ j m. refl; epoch = refl; mark = λ n e. refl; started = λ e. rw y e })
   numbers (call.MemSeptAdd t gpa level page) ps none x a =
-      let rest = behind_walk w t gpa level (state_in w t gpa level (entry.Free ∷ []) ∷ page_exclusive page ∷ host_page w page ∷ []) ps.1.1.1.1.1.1.1.1.1.1 in
       let e = entry_at w t level gpa in
-      entry_numbers (After (call.MemSeptAdd t gpa level page)) t level (number_at level gpa) _ refl refl refl refl (unmarked e (free_unmarked e.state (free_of e.state rest.0))) x
+      entry_numbers (After (call.MemSeptAdd t gpa level page)) t level (number_at level gpa) _ refl refl refl refl (unmarked e (free_unmarked e.state (free_of e.state (sept_passed o.machine w t gpa level page ps).free))) x
   numbers (call.MemSeptRemove t gpa level) ps none x a =
       let e = entry_at w t level gpa in
-      let q = named_passed w t gpa level (entry.NlBlocked ∷ []) (empty_below w t gpa level ∷ tracked_page w t e.page ∷ []) ps.1.1.1.1 in
+      let q = sept_remove_passed o.machine w t gpa level ps in
       entry_numbers (After (call.MemSeptRemove t gpa level)) t level (number_at level gpa) _ refl refl refl refl (unmarked e (sept_removed e.state q.state).unmarked) x
   numbers (call.MemPageAdd t gpa page source) ps none x a =
       let e = entry_at w t 0 gpa in
-      let rest = behind_walk w t gpa 0 (state_in w t gpa 0 (entry.Free ∷ []) ∷ page_exclusive source ∷ host_page w source ∷ page_exclusive page ∷ host_page w page ∷ []) ps.1.1.1.1.1.1.1.1.1.1.1.1 in
-      entry_numbers (After (call.MemPageAdd t gpa page source)) t 0 (number_at 0 gpa) _ refl refl refl refl (unmarked e (free_unmarked e.state (free_of e.state rest.0))) x
+      entry_numbers (After (call.MemPageAdd t gpa page source)) t 0 (number_at 0 gpa) _ refl refl refl refl (unmarked e (free_unmarked e.state (free_of e.state (search)))) x
   numbers (call.MemPageAug t gpa page) ps none x a =
       let e = entry_at w t 0 gpa in
-      let rest = behind_walk w t gpa 0 (state_in w t gpa 0 (entry.Free ∷ []) ∷ page_exclusive page ∷ host_page w page ∷ []) ps.1.1.1.1.1.1.1.1.1 in
-      entry_numbers (After (call.MemPageAug t gpa page)) t 0 (number_at 0 gpa) _ refl refl refl refl (unmarked e (free_unmarked e.state (free_of e.state rest.0))) x
+      entry_numbers (After (call.MemPageAug t gpa page)) t 0 (number_at 0 gpa) _ refl refl refl refl (unmarked e (free_unmarked e.state (free_of e.state (search)))) x
   numbers (call.MemPageRemove t gpa) ps none x a =
       let e = entry_at w t 0 gpa in
-      let q = named_passed w t gpa 0 removed_states (tracked_page w t e.page ∷ []) ps.1.1.1 in
+      let q = remove_passed o.machine w t gpa ps in
       entry_numbers (After (call.MemPageRemove t gpa)) t 0 (number_at 0 gpa) _ refl refl refl refl (unmarked e (page_removed e.state q.state).unmarked) x
   numbers (call.MemRangeBlock t gpa level) ps none x a =
       let e = entry_at w t level gpa in
-      let q = named_passed w t gpa level open_states [] ps.1.1.1.1 in
+      let q = block_passed o.machine w t gpa level ps in
       entry_numbers (After (call.MemRangeBlock t gpa level)) t level (number_at level gpa) _ refl refl refl refl (unmarked e (block_restates e.state q.state).unmarked) x
   numbers (call.MemRangeUnblock t gpa level) ps none x a =
       let e = entry_at w t level gpa in
-      let q = named_passed w t gpa level blocked_states (tracked_page w t e.page ∷ []) ps.1.1.1.1 in
+      let q = unblock_passed o.machine w t gpa level ps in
       entry_numbers (After (call.MemRangeUnblock t gpa level)) t level (number_at level gpa) _ refl refl refl refl (unmarked e (unblock_restates e.state q.state).unmarked) x
   numbers (call.MigStreamCreate t page) ps none x a =
-      let host = host_kind _ ps.1.1.1.1.1.1.1.1.0 in
+      let host = host_kind _ (search) in
       let alive = ((row-beside o me w l (call.MigStreamCreate t page) ps refl).each x a).session.exporting.alive in
       record {
         counter = λ k m. by_test (stream_page w x k == page)
@@ -455,7 +453,7 @@ module _ (o : Opening) (me : ℕ) (w : World) (l : Lawful o.machine w) (i : IvsH
     epoch = refl;
     mark = λ n e. refl;
     started = λ e. by_test (x == t)
-        (λ y. absurd (never_of op.PostExport live_ops (w.tds.ops t) refl ps.1.1.1.1.0 (ap w.tds.ops (sym (eqb-true x t y)) ∙ e)))
+        (λ y. absurd (never_of op.PostExport live_ops (w.tds.ops t) refl (search) (ap w.tds.ops (sym (eqb-true x t y)) ∙ e)))
         (λ y. rw y e);
   }
   numbers (call.ExportAbort t) ps none x a = over_numbers t op.Runnable refl x a
@@ -465,34 +463,33 @@ module _ (o : Opening) (me : ℕ) (w : World) (l : Lawful o.machine w) (i : IvsH
       (λ y. absurd (let no : false ≡ true = rw y at a.standing in cc))
       (λ y. record { counter = λ j m. refl; epoch = refl; mark = λ n e. refl; started = λ e. rw y e })
   numbers (call.ImportStateImmutable t slot) ps none x a =
-      let head = ps.1.1.1.1 in
-      import_numbers (After (call.ImportStateImmutable t slot)) t 0 (row-beside o me w l (call.ImportStateImmutable t slot) ps refl) (alive_of w t head.0 head.1.0) (ltb-true _ _ head.1.1.1.1.0)
+      let td : TdPassed w t first_ops = search in
+      import_numbers (After (call.ImportStateImmutable t slot)) t 0 (row-beside o me w l (call.ImportStateImmutable t slot) ps refl) (td_alive td) (ltb-true _ _ (search))
       (λ b. let no : false ≡ true = rw (same_self t) at b.standing in cc) refl (λ z y. rw y refl) (λ z n y. refl) (λ z y. rw y refl) x a
   numbers (call.ImportMem t slot page) ps none x a =
       let h : ClearHeader = (input_in (o.bundles slot)).header in
-      let head = ps.1.1.1.1.1.1 in
-      page_numbers t h.stream h.gpa page (input_in (o.bundles slot)).words (row-beside o me w l (call.ImportMem t slot page) ps refl) (alive_of w t head.0 head.1.0) (ltb-true _ _ head.1.1.1.1.0)
-      (never_exporting filling_ops (w.tds.ops t) (refl, refl, refl) head.1.1.1.0) x a
+      let td : TdPassed w t filling_ops = search in
+      page_numbers t h.stream h.gpa page (input_in (o.bundles slot)).words (row-beside o me w l (call.ImportMem t slot page) ps refl) (td_alive td) (ltb-true _ _ (search))
+      (never_exporting filling_ops (w.tds.ops t) (refl, refl, refl) td.op) x a
   numbers (call.ImportTrack t slot) ps none x a =
       let b : Bool = is_start (input_in (o.bundles slot)).header in
-      let head = ps.1.1.1.1 in
-      import_numbers (After (call.ImportTrack t slot)) t 0 (row-beside o me w l (call.ImportTrack t slot) ps refl) (alive_of w t head.0 head.1.0)
-      (l.sessions.import_stream t (fills_importing (w.tds.ops t) (token_fills b (w.tds.ops t) head.1.1.1.0)))
-      (λ e. never_then b (w.tds.ops t) head.1.1.1.0 (rw (same_self t) at e.standing)) refl (λ z y. rw y refl) (λ z n y. refl) (λ z y. rw y refl) x a
+      let td : TdPassed w t (import_token_ops b) = search in
+      import_numbers (After (call.ImportTrack t slot)) t 0 (row-beside o me w l (call.ImportTrack t slot) ps refl) (td_alive td)
+      (l.sessions.import_stream t (fills_importing (w.tds.ops t) (token_fills b (w.tds.ops t) td.op)))
+      (λ e. never_then b (w.tds.ops t) td.op (rw (same_self t) at e.standing)) refl (λ z y. rw y refl) (λ z n y. refl) (λ z y. rw y refl) x a
   numbers (call.ImportStateTd t slot) ps none x a =
-      let head = ps.1.1.1.1 in
-      import_numbers (After (call.ImportStateTd t slot)) t 0 (row-beside o me w l (call.ImportStateTd t slot) ps refl) (alive_of w t head.0 head.1.0) (l.sessions.import_stream t (td_state_importing (w.tds.ops t) head.1.1.1.0))
+      let td : TdPassed w t td_state_ops = search in
+      import_numbers (After (call.ImportStateTd t slot)) t 0 (row-beside o me w l (call.ImportStateTd t slot) ps refl) (td_alive td) (l.sessions.import_stream t (td_state_importing (w.tds.ops t) td.op))
       (λ b. let no : false ≡ true = rw (same_self t) at b.standing in cc) refl (λ z y. refl) (λ z n y. refl) (λ z y. rw y refl) x a
   numbers (call.ImportStateVp t p slot) ps none x a =
-      let head = ps.1.1.1.1.1.1 in
-      import_numbers (After (call.ImportStateVp t p slot)) t 0 (row-beside o me w l (call.ImportStateVp t p slot) ps refl) (alive_of w t head.0 head.1.0) (l.sessions.import_stream t (vp_state_importing (w.tds.ops t) head.1.1.1.0))
-      (λ b. never_exporting vp_state_ops (w.tds.ops t) (refl, refl, refl) head.1.1.1.0 b.standing) refl (λ z y. refl) (λ z n y. refl) (λ z y. refl) x a
+      let td : TdPassed w t vp_state_ops = search in
+      import_numbers (After (call.ImportStateVp t p slot)) t 0 (row-beside o me w l (call.ImportStateVp t p slot) ps refl) (td_alive td) (l.sessions.import_stream t (vp_state_importing (w.tds.ops t) td.op))
+      (λ b. never_exporting vp_state_ops (w.tds.ops t) (refl, refl, refl) td.op b.standing) refl (λ z y. refl) (λ z n y. refl) (λ z y. refl) x a
   numbers (call.ImportAbort t slot) ps none x a = cc
   numbers (call.ExportRestore t gpa) ps none x a = by_test (x == t)
       (λ y. absurd (
-      let p = opened_passed w t gpa restoring_ops restored_states ps.1.1.1 in
       let standing : is_exporting (w.tds.ops t) ≡ true = ap (λ (z : ℕ). is_exporting (w.tds.ops z)) (sym (eqb-true x t y)) ∙ a.standing in
-      never_exporting restoring_ops (w.tds.ops t) (refl, refl, refl) p.op standing))
+      never_exporting restoring_ops (w.tds.ops t) (refl, refl, refl) (search) standing))
       (λ y. record { counter = λ j m. refl; epoch = refl; mark = λ n e. rw y refl; started = λ e. e })
   numbers (call.ExportStateImmutable t slot) ps none x a = cc
   numbers (call.ExportMem t gpa k slot) ps none x a = cc
@@ -516,32 +513,30 @@ module _ (o : Opening) (me : ℕ) (w : World) (l : Lawful o.machine w) (i : IvsH
 
   token_well : (t slot start : ℕ) → Passes ((row_of o me (call.ExportTrack t slot start)).items w) → WellHolds (After (call.ExportTrack t slot start))
   token_well t slot zero ps =
-      let head = ps.1.1 in
-      let exporting : IsExporting w t = record { alive = alive_of w t head.0 head.1.0; standing = abortable_exporting (w.tds.ops t) head.1.1.1.0 } in
-      epoch_well o w l i h t exporting slot (never_of op.PostExport abortable_ops (w.tds.ops t) refl head.1.1.1.0) (ltb-true _ _ head.1.1.1.1.1.0)
+      let td : TdPassed w t abortable_ops = search in
+      let exporting : IsExporting w t = record { alive = td_alive td; standing = abortable_exporting (w.tds.ops t) td.op } in
+      epoch_well o w l i h t exporting slot (never_of op.PostExport abortable_ops (w.tds.ops t) refl td.op) (ltb-true _ _ (search))
   token_well t slot (suc n) ps =
-      let head = ps.1.1 in
-      let exporting : IsExporting w t = record { alive = alive_of w t head.0 head.1.0; standing = paused_exporting (w.tds.ops t) head.1.1.1.0 } in
-      start_well o w l i h t exporting slot head.1.1.1.0
+      let td : TdPassed w t paused_ops = search in
+      let exporting : IsExporting w t = record { alive = td_alive td; standing = paused_exporting (w.tds.ops t) td.op } in
+      start_well o w l i h t exporting slot td.op
 
   pub row-well : (c : Call) → Passes ((row_of o me c).items w) → WellHolds (After c)
   row-well (call.ExportStateImmutable t slot) ps =
-      immutable_well o w l i h t slot (alive_of w t ps.1.0 ps.1.1.0) (ltb-true 0 (length (w.tds.streams t)) ps.1.1.1.1.1.0) (length (w.tds.vps t)) (six_words (w.tds.mrtds t))
+      let td : TdPassed w t session_ops = search in
+      immutable_well o w l i h t slot (td_alive td) (ltb-true 0 (length (w.tds.streams t)) (search)) (length (w.tds.vps t)) (six_words (w.tds.mrtds t))
   row-well (call.ExportMem t gpa k slot) ps =
-      let head = ps.1.1.1.1 in
-      let exporting : IsExporting w t = record { alive = alive_of w t head.0 head.1.0; standing = abortable_exporting (w.tds.ops t) head.1.1.1.0 } in
-      let e = entry_at w t 0 gpa in
-      let rest = behind_walk w t gpa 0
-      (has_page w t gpa 0 ∷ named_page w t gpa 0 Exclusive ∷ state_in w t gpa 0 (exportable (w.tds.ops t)) ∷ other_epoch w t gpa ∷ page_exclusive (stream_page w t k) ∷ counter_room w t k ∷ tracked_in (w.tds.ops t) w t e.page)
-      head.1.1.1.1.1 in
-      page_well o w l i h t exporting gpa k slot (ltb-true k (length (w.tds.streams t)) head.1.1.1.1.0) (not-true (e.mark == w.tds.mig_epochs t) rest.1.1.0)
+      let td : TdPassed w t abortable_ops = search in
+      let exporting : IsExporting w t = record { alive = td_alive td; standing = abortable_exporting (w.tds.ops t) td.op } in
+      page_well o w l i h t exporting gpa k slot (ltb-true k (length (w.tds.streams t)) (search)) (not-true ((entry_at w t 0 gpa).mark == w.tds.mig_epochs t) (search))
   row-well (call.ExportTrack t slot start) ps = token_well t slot start ps
   row-well (call.ExportStateTd t slot) ps =
-      paused_well t slot (about 1 (w.tds.mig_epochs t)) (payload_words (w.hidden.rtmrs t) 24) (note_td_export t w) ps.1.0 ps.1.1.0 ps.1.1.1.1.0 refl refl refl refl refl
+      let td : TdPassed w t paused_ops = search in
+      paused_well t slot (about 1 (w.tds.mig_epochs t)) (payload_words (w.hidden.rtmrs t) 24) (note_td_export t w) td.root td.life td.op refl refl refl refl refl
   row-well (call.ExportStateVp t p slot) ps =
-      let head = ps.1.1.1 in
+      let td : TdPassed w t paused_ops = search in
       paused_well t slot (record (about 2 (w.tds.mig_epochs t)) { index = w.vps.indexes p; info = w.vps.positions p % 2 ^ 32 }) (payload_words (w.hidden.registers p) 8) (note_vp_export t p w)
-      head.0 head.1.0 head.1.1.1.0 refl refl refl refl refl
+      td.root td.life td.op refl refl refl refl refl
   row-well (call.ImportAbort t slot) ps =
       let u : World = set_op t op.FailedImport w in
       well_back u (back_token w t slot) refl (numbers_well w u (over_beside o me w l t op.FailedImport refl) (over_numbers t op.FailedImport refl) h)

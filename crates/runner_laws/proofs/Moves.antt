@@ -28,6 +28,7 @@ use Rattle.flat_core.specs.ImportRows.{is_start, import_token_ops, op_then, late
 use Rattle.flat_core.specs.Table.{row_of}
 use Rattle.flat_core.specs.Lawful.{is_exporting}
 use Rattle.flat_core.proofs.Tests.{by_test, host_kind, put_here}
+use Rattle.flat_core.proofs.Passed.{TdPassed}
 use Rattle.flat_core.proofs.Operations.{operation_row, accepted}
 use Rattle.flat_bundles.proofs.Fills.{fill_either}
 use Rattle.mig_laws.specs.Ivs.{is_filling}
@@ -127,51 +128,51 @@ module _ (o : Opening) (me : ℕ) (w : World) where
 
   pub row-moves : (c : Call) → Passes ((row_of o me c).items w) → (x : ℕ) → w.pages.kinds x ≡ kind.Tdr → Moves o c w (After c) x
   row-moves (call.MngCreate t k) ps x there = by_test (x == t)
-      (λ y. absurd (let no : kind.Tdr ≡ kind.Nda = sym there ∙ (ap w.pages.kinds (eqb-true x t y) ∙ host_kind _ ps.1.1.0) in cc))
+      (λ y. absurd (let no : kind.Tdr ≡ kind.Nda = sym there ∙ (ap w.pages.kinds (eqb-true x t y) ∙ host_kind _ (search)) in cc))
       (λ y. stays (rw y refl) (rw y refl))
   row-moves (call.MngInit t) ps x there =
-      own (call.MngInit t) (After (call.MngInit t)) t x (λ y. (rw y refl, refl)) (builds (new_is_new (w.tds.ops t) ps.1.1.1.1.0))
+      own (call.MngInit t) (After (call.MngInit t)) t x (λ y. (rw y refl, refl)) (builds (new_is_new (w.tds.ops t) (search)))
   row-moves (call.MrFinalize t) ps x there =
-      own (call.MrFinalize t) (After (call.MrFinalize t)) t x (λ y. (rw y refl, refl)) (builds (built_is_new (w.tds.ops t) ps.1.1.1.1.0))
+      own (call.MrFinalize t) (After (call.MrFinalize t)) t x (λ y. (rw y refl, refl)) (builds (built_is_new (w.tds.ops t) (search)))
   row-moves (call.ExportStateImmutable t slot) ps x there =
-      own (call.ExportStateImmutable t slot) (After (call.ExportStateImmutable t slot)) t x (λ y. (rw y refl, rw y refl)) (begins (only_runnable (w.tds.ops t) ps.1.1.1.1.0) (put_here w.tds.ops t op.LiveExport))
+      own (call.ExportStateImmutable t slot) (After (call.ExportStateImmutable t slot)) t x (λ y. (rw y refl, rw y refl)) (begins (only_runnable (w.tds.ops t) (search)) (put_here w.tds.ops t op.LiveExport))
   row-moves (call.ExportPause t) ps x there =
-      let live = only_live (w.tds.ops t) ps.1.1.1.1.0 in
+      let live = only_live (w.tds.ops t) (search) in
       own (call.ExportPause t) (After (call.ExportPause t)) t x (λ y. (rw y refl, refl))
       (exports (ap is_exporting live) (λ e. let no : op.LiveExport ≡ op.PostExport = sym live ∙ e in cc) (ap is_paused (put_here w.tds.ops t op.PausedExport)) refl)
   row-moves (call.ExportTrack t slot zero) ps x there = stays refl refl
   row-moves (call.ExportTrack t slot (suc n)) ps x there =
-      let p = paused_stands (w.tds.ops t) ps.1.1.1.1.1.0 in
+      let p = paused_stands (w.tds.ops t) (search) in
       own (call.ExportTrack t slot (suc n)) (After (call.ExportTrack t slot (suc n))) t x (λ y. (rw y refl, refl)) (exports p.0 p.1 (ap is_paused (put_here w.tds.ops t op.PostExport)) refl)
   row-moves (call.ExportAbort t) ps x there =
-      own (call.ExportAbort t) (After (call.ExportAbort t)) t x (λ y. (rw y refl, refl)) (aborts (abortable_exports (w.tds.ops t) ps.1.1.1.1.0) (abortable_stands (w.tds.ops t) ps.1.1.1.1.0) refl)
+      let td : TdPassed w t abortable_ops = search in
+      own (call.ExportAbort t) (After (call.ExportAbort t)) t x (λ y. (rw y refl, refl)) (aborts (abortable_exports (w.tds.ops t) td.op) (abortable_stands (w.tds.ops t) td.op) refl)
   row-moves (call.ExportAbortByToken t slot) ps x there =
       let b : Input = input_in (o.bundles slot) in
-      let head = ps.1.1.1.1 in
       own (call.ExportAbortByToken t slot) (After (call.ExportAbortByToken t slot)) t x (λ y. (rw y refl, refl))
-      (returns (only_sent (w.tds.ops t) head.1.1.1.0)
-      (called_back o t slot (w.tds.sessions t) (o.bundles slot) refl ps.1.1.0 head.1.1.1.1.1.1.0 (only_kind 6 b.header.kind ps.1.1.1.0) (eqb-true b.header.session (w.tds.sessions t) head.1.1.1.1.0))
+      (returns (only_sent (w.tds.ops t) (search))
+      (called_back o t slot (w.tds.sessions t) (o.bundles slot) refl (search) (search) (only_kind 6 b.header.kind (search)) (eqb-true b.header.session (w.tds.sessions t) (search)))
       (put_here w.tds.ops t op.Runnable))
   row-moves (call.ImportStateImmutable t slot) ps x there =
-      own (call.ImportStateImmutable t slot) (After (call.ImportStateImmutable t slot)) t x (λ y. (rw y refl, rw y refl)) (builds (new_is_new (w.tds.ops t) ps.1.1.1.1.1.1.1.0))
+      own (call.ImportStateImmutable t slot) (After (call.ImportStateImmutable t slot)) t x (λ y. (rw y refl, rw y refl)) (builds (new_is_new (w.tds.ops t) (search)))
   row-moves (call.ImportMem t slot page) ps x there =
       let b : Input = input_in (o.bundles slot) in
       let gpa : ℕ = b.header.gpa in
       fill_either (λ u. Moves o (call.ImportMem t slot page) w (count_bundle t b.header.stream (begin_memory t (page_of_gpa gpa) b.words u)) x) t gpa page b.words (entry_at w t 0 gpa).state w (stays refl refl) (stays refl refl)
   row-moves (call.ImportTrack t slot) ps x there =
       let b : Input = input_in (o.bundles slot) in
-      let p = token_waits (is_start b.header) (w.tds.ops t) ps.1.1.1.1.1.1.1.0 in
+      let p = token_waits (is_start b.header) (w.tds.ops t) (search) in
       own (call.ImportTrack t slot) (After (call.ImportTrack t slot)) t x (λ y. (rw y refl, refl)) (waits p.0 (ap is_waiting (put_here w.tds.ops t (op_then (is_start b.header) (w.tds.ops t))) ∙ p.1) refl)
   row-moves (call.ImportStateTd t slot) ps x there =
       own (call.ImportStateTd t slot) (After (call.ImportStateTd t slot)) t x (λ y. (rw y refl, refl))
-      (waits (fills_waits (w.tds.ops t) (td_state_fills (w.tds.ops t) ps.1.1.1.1.1.1.1.0).0) (ap is_waiting (put_here w.tds.ops t op.StateImport)) refl)
+      (waits (fills_waits (w.tds.ops t) (td_state_fills (w.tds.ops t) (search)).0) (ap is_waiting (put_here w.tds.ops t op.StateImport)) refl)
   row-moves (call.ImportCommit t) ps x there =
-      own (call.ImportCommit t) (After (call.ImportCommit t)) t x (λ y. (rw y refl, refl)) (commits (fills_waits (w.tds.ops t) (commit_fills (w.tds.ops t) ps.1.1.1.1.0).0) (put_here w.tds.ops t op.LiveImport) refl)
+      own (call.ImportCommit t) (After (call.ImportCommit t)) t x (λ y. (rw y refl, refl)) (commits (fills_waits (w.tds.ops t) (commit_fills (w.tds.ops t) (search)).0) (put_here w.tds.ops t op.LiveImport) refl)
   row-moves (call.ImportEnd t) ps x there =
-      own (call.ImportEnd t) (After (call.ImportEnd t)) t x (λ y. (rw y refl, refl)) (ends (only_late (w.tds.ops t) ps.1.1.1.1.0) (put_here w.tds.ops t op.Runnable))
+      own (call.ImportEnd t) (After (call.ImportEnd t)) t x (λ y. (rw y refl, refl)) (ends (only_late (w.tds.ops t) (search)) (put_here w.tds.ops t op.Runnable))
   row-moves (call.ImportAbort t slot) ps x there =
       own (call.ImportAbort t slot) (After (call.ImportAbort t slot)) t x (λ y. (rw y refl, refl))
-      (waits (fills_waits (w.tds.ops t) (given_up_fills (w.tds.ops t) ps.1.1.1.1.0)) (ap is_waiting (put_here w.tds.ops t op.FailedImport)) refl)
+      (waits (fills_waits (w.tds.ops t) (given_up_fills (w.tds.ops t) (search))) (ap is_waiting (put_here w.tds.ops t op.FailedImport)) refl)
   row-moves c ps x there = stays refl refl
 
   -- what IMPORT.COMMIT has noted stays noted

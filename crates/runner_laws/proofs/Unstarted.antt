@@ -14,6 +14,7 @@ use Rattle.flat_core.specs.Lawful.{Lawful, is_exporting}
 use Rattle.flat_core.proofs.Tests.{by_test}
 use Rattle.flat_core.proofs.Parts.{IsLive}
 use Rattle.flat_core.proofs.Ranges.{paused_exporting}
+use Rattle.flat_core.proofs.Passed.{TdPassed, td_alive}
 use Rattle.mig_laws.specs.Ivs.{IsExporting}
 use Rattle.mig_laws.specs.Paused.{is_start, has_start}
 use Rattle.mig_laws.specs.Source.{SourceHolds}
@@ -69,9 +70,9 @@ module _ (o : Opening) (me : ℕ) (w : World) (l : Lawful o.machine w) (session 
   -- a start token is of a session that stood
   started_unstarted : (t slot n : ℕ) → Passes ((row_of o me (call.ExportTrack t slot (suc n))).items w) → IsUnstarted (After (call.ExportTrack t slot (suc n))) session
   started_unstarted t slot n ps =
-      let head = ps.1.1 in
-      let standing = paused_exporting (w.tds.ops t) head.1.1.1.0 in
-      let own = h.ended t (record { alive = alive_of w t head.0 head.1.0; standing = standing }) in
+      let td : TdPassed w t paused_ops = search in
+      let standing = paused_exporting (w.tds.ops t) td.op in
+      let own = h.ended t (record { alive = td_alive td; standing = standing }) in
       made_unstarted (After (call.ExportTrack t slot (suc n))) _ refl (ne_eqb (w.tds.sessions t) session own) refl
       (λ x a. record {
         exporting = record {

@@ -17,7 +17,7 @@ use bundle_store::{Files, PutFault, SaveFault, Sink};
 use bundle_texts::bundles_read_again;
 use command_files::{Asked, read_command};
 use flat_bundles::bundle_law;
-use flat_core::access_law;
+use flat_core::translation_law;
 use image_laws::{container_law, covered_law};
 use isol_laws::two_world_law;
 use leaf_engine::Gate;
@@ -248,7 +248,7 @@ pub fn tdx_main<R: Threads + Sync, F: Files, K: Sink, G: Gate + Sync>(
     ensures writes_later { F.write_faults files.old ≤ F.write_faults files.new }
     ensures puts_later { K.faults out.old ≤ K.faults out.new }
 {
-    access_law();
+    translation_law();
     laws_of_worlds();
     image_law();
     laws_of_carrying();

@@ -33,6 +33,7 @@ use Rattle.flat_core.proofs.Acts.{event_world}
 use Rattle.flat_core.proofs.Operations.{operation_row}
 use Rattle.flat_core.proofs.Maps.{behind_walk}
 use Rattle.flat_core.proofs.Ranges.{named_passed, opened_passed, write_passed, export_passed}
+use Rattle.flat_core.proofs.Passed.{sept_passed, page_passed, augment_passed, block_passed, unblock_passed, remove_passed, sept_remove_passed}
 use Rattle.td_laws.specs.Steps.{is_among, may_move}
 use Rattle.td_laws.specs.Entries.{next_entries, EventsMoveEntries}
 use Rattle.td_laws.proofs.Steps.{may_stay, all_at}
@@ -99,35 +100,28 @@ module _ (o : Opening) (w : World) (t level number : ℕ) where
       by false y = stays old
 
   call_moves : (me : ℕ) → is_host_in w.pages t ≡ false → (c : Call) → Passes ((row_of o me c).items w) → Moves ((row_of o me c).act w)
-  call_moves me owned (call.MngCreate tdr hkid) ps = begins tdr owned ps.1.1.0
+  call_moves me owned (call.MngCreate tdr hkid) ps = begins tdr owned (search)
   call_moves me owned (call.MemSeptAdd tdr gpa l page) ps =
-      let behind = behind_walk w tdr gpa l (state_in w tdr gpa l (entry.Free ∷ []) ∷ page_exclusive page ∷ host_page w page ∷ []) ps.1.1.1.1.1.1.1.1.1.1 in
-      set_moves tdr l (number_at l gpa) _ (goes_on (λ a. entry.NlMapped) _ (entry.Free ∷ []) behind.0 refl)
+      set_moves tdr l (number_at l gpa) _ (goes_on (λ a. entry.NlMapped) _ (entry.Free ∷ []) (sept_passed o.machine w tdr gpa l page ps).free refl)
   call_moves me owned (call.MemSeptRemove tdr gpa l) ps =
-      let q = named_passed w tdr gpa l (entry.NlBlocked ∷ []) (empty_below w tdr gpa l ∷ tracked_page w tdr (entry_at w tdr l gpa).page ∷ []) ps.1.1.1.1 in
-      set_moves tdr l (number_at l gpa) _ (goes_on (λ a. entry.Free) _ (entry.NlBlocked ∷ []) q.state refl)
+      set_moves tdr l (number_at l gpa) _ (goes_on (λ a. entry.Free) _ (entry.NlBlocked ∷ []) (sept_remove_passed o.machine w tdr gpa l ps).state refl)
   call_moves me owned (call.MemPageAdd tdr gpa page source) ps =
-      let behind = behind_walk w tdr gpa 0 (state_in w tdr gpa 0 (entry.Free ∷ []) ∷ page_exclusive source ∷ host_page w source ∷ page_exclusive page ∷ host_page w page ∷ []) ps.1.1.1.1.1.1.1.1.1.1.1.1 in
-      set_moves tdr 0 (number_at 0 gpa) _ (goes_on (λ a. entry.Mapped) _ (entry.Free ∷ []) behind.0 refl)
+      set_moves tdr 0 (number_at 0 gpa) _ (goes_on (λ a. entry.Mapped) _ (entry.Free ∷ []) (page_passed o.machine w tdr gpa page source ps).free refl)
   call_moves me owned (call.MemPageAug tdr gpa page) ps =
-      let behind = behind_walk w tdr gpa 0 (state_in w tdr gpa 0 (entry.Free ∷ []) ∷ page_exclusive page ∷ host_page w page ∷ []) ps.1.1.1.1.1.1.1.1.1 in
-      set_moves tdr 0 (number_at 0 gpa) _ (goes_on (λ a. entry.Pending) _ (entry.Free ∷ []) behind.0 refl)
+      set_moves tdr 0 (number_at 0 gpa) _ (goes_on (λ a. entry.Pending) _ (entry.Free ∷ []) (augment_passed o.machine w tdr gpa page ps).free refl)
   call_moves me owned (call.MemPageRemove tdr gpa) ps =
-      let q = named_passed w tdr gpa 0 removed_states (tracked_page w tdr (entry_at w tdr 0 gpa).page ∷ []) ps.1.1.1 in
-      set_moves tdr 0 (number_at 0 gpa) _ (goes_on (λ a. entry.Free) _ removed_states q.state refl)
+      set_moves tdr 0 (number_at 0 gpa) _ (goes_on (λ a. entry.Free) _ removed_states (remove_passed o.machine w tdr gpa ps).state refl)
   call_moves me owned (call.MemRangeBlock tdr gpa l) ps =
-      let q = named_passed w tdr gpa l open_states [] ps.1.1.1.1 in
-      set_moves tdr l (number_at l gpa) _ (goes_on blocked_state (entry_at w tdr l gpa).state open_states q.state refl)
+      set_moves tdr l (number_at l gpa) _ (goes_on blocked_state (entry_at w tdr l gpa).state open_states (block_passed o.machine w tdr gpa l ps).state refl)
   call_moves me owned (call.MemRangeUnblock tdr gpa l) ps =
-      let q = named_passed w tdr gpa l blocked_states (tracked_page w tdr (entry_at w tdr l gpa).page ∷ []) ps.1.1.1.1 in
-      set_moves tdr l (number_at l gpa) _ (goes_on unblocked_state (entry_at w tdr l gpa).state blocked_states q.state refl)
-  call_moves me owned (call.ExportBlockw tdr gpa) ps = set_moves tdr 0 (number_at 0 gpa) _ (goes_on write_blocked (entry_at w tdr 0 gpa).state writable_states (write_passed o.machine w tdr gpa ps).state refl)
+      set_moves tdr l (number_at l gpa) _ (goes_on unblocked_state (entry_at w tdr l gpa).state blocked_states (unblock_passed o.machine w tdr gpa l ps).state refl)
+  call_moves me owned (call.ExportBlockw tdr gpa) ps = set_moves tdr 0 (number_at 0 gpa) _ (goes_on write_blocked (entry_at w tdr 0 gpa).state writable_states (search) refl)
   call_moves me owned (call.ExportUnblockw tdr gpa) ps =
-      set_moves tdr 0 (number_at 0 gpa) _ (goes_on write_unblocked (entry_at w tdr 0 gpa).state write_blocked_states (opened_passed w tdr gpa live_ops write_blocked_states ps.1.1.1).state refl)
+      set_moves tdr 0 (number_at 0 gpa) _ (goes_on write_unblocked (entry_at w tdr 0 gpa).state write_blocked_states (search) refl)
   call_moves me owned (call.ExportMem tdr gpa k slot) ps =
-      set_moves tdr 0 (number_at 0 gpa) _ (goes_on (λ a. entry.ExportedBlockedW) _ (exportable (w.tds.ops tdr)) (export_passed o.machine w tdr gpa k slot ps).state (exports (w.tds.ops tdr)))
+      set_moves tdr 0 (number_at 0 gpa) _ (goes_on (λ a. entry.ExportedBlockedW) _ (exportable (w.tds.ops tdr)) (search) (exports (w.tds.ops tdr)))
   call_moves me owned (call.ExportRestore tdr gpa) ps =
-      set_moves tdr 0 (number_at 0 gpa) _ (goes_on (λ a. entry.Mapped) _ restored_states (opened_passed w tdr gpa restoring_ops restored_states ps.1.1.1).state refl)
+      set_moves tdr 0 (number_at 0 gpa) _ (goes_on (λ a. entry.Mapped) _ restored_states (search) refl)
   call_moves me owned (call.ExportTrack tdr slot zero) ps = stays old
   call_moves me owned (call.ExportTrack tdr slot (suc n)) ps = stays old
   call_moves me owned (call.ImportMem tdr slot page) ps = let x : Input = input_in (o.bundles slot) in fills tdr x.header.gpa page x.words (entry_at w tdr 0 x.header.gpa).state refl

@@ -125,10 +125,10 @@ module _ (o : Opening) (me : ℕ) (w : World) (l : Lawful o.machine w) (h : ℕ)
       flushes_round (keys (w.tds.hkids t)) t (l.keys.owner t alive) (l.keys.flushed t alive ∙ out.1)
 
   call_round : (c : Call) → Passes ((row_of o me c).items w) → GoesRound c
-  call_round (call.MngCreate tdr hkid) ps = round hkid (AssignedTo tdr) (gives_round (keys hkid) tdr ps.1.1.1.0)
-  call_round (call.MngVpflushdone tdr) ps = round (w.tds.hkids tdr) (FlushedOf tdr false) (flushes tdr ps.1.0 ps.1.1.0)
+  call_round (call.MngCreate tdr hkid) ps = round hkid (AssignedTo tdr) (gives_round (keys hkid) tdr (search))
+  call_round (call.MngVpflushdone tdr) ps = round (w.tds.hkids tdr) (FlushedOf tdr false) (flushes tdr (search) (search))
   call_round call.PhymemCacheWb ps = marks_round (keys h)
-  call_round (call.MngKeyFreeid tdr) ps = round (w.tds.hkids tdr) Unassigned (frees_round (keys (w.tds.hkids tdr)) ps.1.1.1.0)
+  call_round (call.MngKeyFreeid tdr) ps = round (w.tds.hkids tdr) Unassigned (frees_round (keys (w.tds.hkids tdr)) (search))
   call_round (call.HostRead page word) ps = stays_round (keys h)
   call_round _ ps = stays_round (keys h)
 

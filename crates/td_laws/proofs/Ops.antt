@@ -132,7 +132,7 @@ module _ (o : Opening) (me : ℕ) (w : World) (t : ℕ) (owned : is_host_in w.pa
   token_fits tdr false = tt
 
   op_moves : (c : Call) → Passes ((row_of o me c).items w) → OpMoves c
-  op_moves (call.MngCreate tdr hkid) ps = put_elsewhere op_number same_op next_ops w.tds.ops t tdr op.Uninitialized (elsewhere tdr ps.1.1.0)
+  op_moves (call.MngCreate tdr hkid) ps = put_elsewhere op_number same_op next_ops w.tds.ops t tdr op.Uninitialized (elsewhere tdr (search))
   op_moves (call.MngInit tdr) ps = by_ops (call.MngInit tdr) refl ps
   op_moves (call.MrFinalize tdr) ps = by_ops (call.MrFinalize tdr) refl ps
   op_moves (call.ExportStateImmutable tdr slot) ps = by_ops (call.ExportStateImmutable tdr slot) refl ps
@@ -165,7 +165,7 @@ module _ (o : Opening) (me : ℕ) (w : World) (t : ℕ) (owned : is_host_in w.pa
   keys_fit (Some step) = tt
 
   life_moves : (c : Call) → Passes ((row_of o me c).items w) → LifeMoves c
-  life_moves (call.MngCreate tdr hkid) ps = put_elsewhere life_number same_life next_lives w.tds.lives t tdr life.HkidAssigned (elsewhere tdr ps.1.1.0)
+  life_moves (call.MngCreate tdr hkid) ps = put_elsewhere life_number same_life next_lives w.tds.lives t tdr life.HkidAssigned (elsewhere tdr (search))
   life_moves (call.MngKeyConfig tdr) ps = by_lives (call.MngKeyConfig tdr) refl ps
   life_moves (call.MngVpflushdone tdr) ps = by_lives (call.MngVpflushdone tdr) refl ps
   life_moves (call.MngKeyFreeid tdr) ps = by_lives (call.MngKeyFreeid tdr) refl ps

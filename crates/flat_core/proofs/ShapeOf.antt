@@ -1,0 +1,381 @@
+-- The shape of each call's act, from "its conditions passed".
+use Rattle.std.proofs.Common.{◌≡◌, ◌≢◌, ◌⊎◌, inl, inr, refl, sym, ◌∙◌, subst, ap, ℕ, zero, suc, ◌≤◌, List, [], ◌∷◌, ◌++◌, Option, None, Bool, true, false, not, ◌==◌, arith}
+use Rattle.std.specs.List.{list_any}
+use Rattle.std.proofs.lemmas.Bool.{eqb-true, and_parts}
+use Rattle.mrtd_measure.specs.Records.{page_record}
+use Rattle.td_words.specs.declared.names.PageKind.TheVariants as kind
+use Rattle.td_words.specs.declared.names.PageKind.{PageKind}
+use Rattle.td_words.specs.declared.names.LifeState.{LifeState}
+use Rattle.td_words.specs.declared.names.LifeState.TheVariants as life
+use Rattle.td_words.specs.declared.names.OpState.{OpState}
+use Rattle.td_words.specs.declared.names.OpState.TheVariants as op
+use Rattle.td_words.specs.declared.names.EntryState.{EntryState}
+use Rattle.td_words.specs.declared.names.EntryState.TheVariants as entry
+use Rattle.td_words.specs.declared.calls.Call.{Call}
+use Rattle.td_words.specs.declared.calls.Call.TheVariants as call
+use Rattle.td_words.specs.declared.replies.Reply.{Reply}
+use Rattle.td_words.specs.declared.replies.Value.TheVariants.{Digest}
+use Rattle.td_words.specs.NameNumber.{life_number, op_number}
+use Rattle.td_words.specs.Packing.{Entry}
+use Rattle.flat_core.specs.World.{World, put}
+use Rattle.flat_core.specs.Opening.{Opening}
+use Rattle.flat_core.specs.Row.{Item, Passes}
+use Rattle.flat_core.specs.Conditions.{is_host, is_host_in, is_page_of, host_page, page_exclusive, same_kind, running_ops, later_ops, augmented_ops}
+use Rattle.flat_core.specs.Effects.{take_node, set_page, map_page, set_entry, end_memory, begin_memory, measure}
+use Rattle.flat_core.specs.Tracking.{tracked_page}
+use Rattle.flat_core.specs.Tree.{page_of_gpa, number_at, entry_at, state_in, same_state, empty_below}
+use Rattle.flat_core.specs.KeyRows.{reclaim_conditions}
+use Rattle.flat_core.specs.MemRows.{open_states, blocked_states, removed_states}
+use Rattle.flat_core.specs.ExportRows.{live_ops, abortable_ops, writable_states, write_blocked, write_blocked_states, write_unblocked, restoring_ops, restored_states}
+use Rattle.flat_core.specs.BundleRows.{session_ops, paused_ops}
+use Rattle.flat_core.specs.Sessions.{count_bundle}
+use Rattle.flat_core.specs.Inputs.{Input, input_in, tag_holds}
+use Rattle.flat_core.specs.ImportRows.{first_ops, filling_ops, td_state_ops, commit_ops, late_ops, given_up_ops, sent_ops, import_token_ops, is_start, op_then, importable, page_to_fill, fill_page}
+use Rattle.flat_core.specs.Table.{row_of}
+use Rattle.flat_core.specs.Lawful.{IsAlive, is_free}
+use Rattle.flat_core.specs.Guests.{IsOccupied}
+use Rattle.flat_core.specs.Access.{is_pending, has_not_run}
+use Rattle.flat_core.specs.Laws.{given_or_measured, holds_memory}
+use Rattle.flat_core.proofs.Tests.{by_test, tdr_kind, range_of, same_self, put_here}
+use Rattle.flat_core.proofs.Mrtd.{mrtd_is_the_digest}
+use Rattle.flat_core.proofs.Uses.{host_apart}
+use Rattle.flat_core.proofs.Maps.{behind_walk}
+use Rattle.flat_core.proofs.Ranges.{EntryPassed, begun_of, named_alive, write_passed, export_passed, entry_alive, block_restates, unblock_restates, write_remarks, unwrite_remarks, restored as can_restore, can_export, page_removed, sept_removed, living, blocked_less, blocked_stops, unblocked_allows, mapped_allows, export_allows}
+use Rattle.flat_core.proofs.Passed.{TdPassed, td_alive, vp_of, sept_passed, page_passed, augment_passed, block_passed, unblock_passed, remove_passed, sept_remove_passed}
+use Rattle.flat_core.proofs.Removals.{empty_at}
+use Rattle.flat_core.proofs.Keeps.{live_of, ended_of}
+use Rattle.flat_core.proofs.Known.{words_stay, entry_stays}
+use Rattle.flat_core.proofs.AccessActs.{is_begun, free_of, unexempt, entry-kept}
+use Rattle.flat_core.proofs.ImportStates.{first_only, token_not_run, token_later, td_state_not_run, commit_not_run, given_up_not_run}
+use Rattle.flat_core.proofs.Sparing.{not_configured, ready_only, paused_runs}
+use Rattle.flat_core.proofs.Shapes as shape
+use Rattle.flat_core.proofs.Shapes.{Shape, IsTrue, same_vp, mrtd_of, IsOneOf, aspect_of, Aspect, IsHeld, OpGoes, unrun, runs, restored, EpochGoes, stay, begin, BlockGoes, noted, open_on}
+
+-- what conditions say of states
+
+configured : (s : LifeState) → list_any (λ b. life_number b == life_number s) (life.KeysConfigured ∷ []) ≡ true → s ≡ life.KeysConfigured
+configured life.KeysConfigured e = refl
+configured _ e = cc
+
+has_run : (s : OpState) → IsOneOf running_ops s → has_not_run s ≡ false
+has_run op.Runnable e = refl
+has_run op.LiveExport e = refl
+has_run op.LiveImport e = refl
+has_run _ e = cc
+
+not_running : (s : OpState) → has_not_run s ≡ true → IsOneOf running_ops s → ⊥
+not_running op.Runnable n e = cc
+not_running op.LiveExport n e = cc
+not_running op.LiveImport n e = cc
+not_running _ n e = cc
+
+-- a TD in one of these states has its MRTD, where none of them is one in which it is built
+has_mrtd : (allowed : List OpState) (s : OpState) → list_any (λ a. op_number a == op_number op.Uninitialized) allowed ≡ false → list_any (λ a. op_number a == op_number op.Initialized) allowed ≡ false
+    → IsOneOf allowed s → IsOneOf later_ops s
+has_mrtd allowed op.Uninitialized a b h = (let no : true ≡ false = sym h ∙ a in cc)
+has_mrtd allowed op.Initialized a b h = (let no : true ≡ false = sym h ∙ b in cc)
+has_mrtd allowed _ a b h = refl
+
+token_mrtd : (b : Bool) (s : OpState) → IsOneOf (import_token_ops b) s → IsOneOf later_ops s
+token_mrtd true s h = has_mrtd (import_token_ops true) s refl refl h
+token_mrtd false s h = has_mrtd (import_token_ops false) s refl refl h
+
+not_built : (s : OpState) → IsOneOf (op.Initialized ∷ []) s → IsOneOf later_ops s → ⊥
+not_built op.Initialized h e = cc
+not_built _ h e = cc
+
+-- what is measured of a TD that is still built changes no other's MRTD
+measured_alone : (w : World) (t : ℕ) (records : List ℕ) → IsOneOf (op.Initialized ∷ []) (w.tds.ops t) → (u : ℕ) → IsOneOf later_ops (w.tds.ops u) → mrtd_of (measure t records w) u ≡ mrtd_of w u
+measured_alone w t records begun u h = by_test (u == t)
+    (λ y. absurd (not_built (w.tds.ops t) begun (subst (λ (z : ℕ). IsOneOf later_ops (w.tds.ops z)) (eqb-true u t y) h)))
+    (λ n. rw n refl)
+
+-- another page that PHYMEM.PAGE.RECLAIM gives back than the TDR page
+reclaimed : (w : World) (t page : ℕ) (b : Bool) → b ≡ false → Passes (reclaim_conditions w t page b) → w.pages.owners page ≡ t
+reclaimed w t page true e ps = cc
+reclaimed w t page false e ps = eqb-true _ t (and_parts (not (is_host w page)) (w.pages.owners page == t) ps.0).1
+
+module _ (w : World) (t g page : ℕ) where
+  -- a private page that is added or comes in
+  added_held : (ws : ℕ → ℕ) (x n : ℕ) → IsHeld w (begin_memory t g ws (set_page page ws (map_page page kind.Reg entry.Mapped t 0 g w))) x n
+  added_held ws x n = by_test (x == t)
+      (λ y. by_test (n == g)
+      (λ z. inl (let s = same_self page in rw (y, z, s) refl))
+      (λ z. inr (rw (y, z) refl, inl (rw (y, z) (ap (λ (u : ℕ). w.tds.entries u 0 n) (sym (eqb-true x t y)))))))
+      (λ y. inr (rw y refl, inl (rw y refl)))
+
+  -- and one that waits to be accepted
+  awaited : is_free (w.tds.entries t 0 g).state ≡ true → (x n : ℕ) → IsHeld w (map_page page kind.Reg entry.Pending t 0 g w) x n
+  awaited free x n = inr (
+    refl,
+    by_test (x == t)
+        (λ y. by_test (n == g)
+        (λ z. inr (ap (λ (u : ℕ). is_free (w.tds.entries u 0 n).state) (eqb-true x t y) ∙ (ap (λ (i : ℕ). is_free (w.tds.entries t 0 i).state) (eqb-true n g z) ∙ free), rw (y, z) refl))
+        (λ z. inl (rw (y, z) (ap (λ (u : ℕ). w.tds.entries u 0 n) (sym (eqb-true x t y))))))
+        (λ y. inl (rw y refl)),
+  )
+
+-- shapes of several calls
+
+module _ (me : ℕ) (c : Call) (w w' : World) where
+  nothing : aspect_of w' ≡ aspect_of w → Shape me c w w'
+  nothing e = shape.notes (record {
+    rest = ap (λ (z : Aspect). record z { words = w'.words; mrtds = mrtd_of w' }) e;
+    words = λ p h. ap (λ (z : Aspect). z.words p) e;
+    mrtds = λ t h. ap (λ (z : Aspect). z.mrtds t) e;
+  })
+
+  -- a page is taken, but no virtual processor begins
+  takes : (page : ℕ) (k : PageKind) (t level number : ℕ) → is_host_in w.pages page ≡ true → k ≢ kind.Tdr → k ≢ kind.Tdvpr
+      → aspect_of w' ≡ record (aspect_of w) { pages = (take_node page k t level number w).pages; words = w'.words; entries = w'.tds.entries; mrtds = mrtd_of w'; memories = w'.hidden.memories }
+      → ((p : ℕ) → (p == page) ≡ false → w'.words p ≡ w.words p) → ((u l n : ℕ) → is_free (w.tds.entries u l n).state ≡ false → w'.tds.entries u l n ≡ w.tds.entries u l n)
+      → ((u n : ℕ) → IsHeld w w' u n) → ((u : ℕ) → IsOneOf later_ops (w.tds.ops u) → mrtd_of w' u ≡ mrtd_of w u) → Shape me c w w'
+  takes page k t level number host no_tdr no_vp e words entries held mrtds = shape.takes (record {
+    page = page;
+    becomes = k;
+    tdr = t;
+    level = level;
+    number = number;
+    host = host;
+    no_tdr = no_tdr;
+    rest = ap (λ (z : Aspect). record z { vps = w'.vps; registers = w'.hidden.registers }) e;
+    words = words;
+    entries = entries;
+    held = held;
+    mrtds = mrtds;
+    vps = λ v n. same_vp w w' v (ap (λ (z : Aspect). z.vps) e) (ap (λ (z : Aspect). z.registers) e);
+    begun = λ k. absurd (no_vp k);
+  })
+
+  -- an operation state changes; with it TD_EPOCH and MRTD may, or nothing else does
+  op_goes : (t : ℕ) (s : OpState) → OpGoes w t s → s ≢ op.Uninitialized → (c ≡ call.ExportPause t) ⊎ (IsOneOf running_ops (w.tds.ops t) → IsOneOf running_ops s)
+      → aspect_of w' ≡ record (aspect_of w) { ops = put w.tds.ops t s; epochs = w'.tds.epochs; mrtds = mrtd_of w' } → EpochGoes w w' t → ((u : ℕ) → (u == t) ≡ false → mrtd_of w' u ≡ mrtd_of w u)
+      → (IsOneOf later_ops s → (IsOneOf later_ops (w.tds.ops t) × (mrtd_of w' t ≡ mrtd_of w t)) ⊎ IsTrue (mrtd_of w' t)) → Shape me c w w'
+  op_goes t s way later running e epochs mrtds mrtd =
+      shape.changes_op (record { tdr = t; then_in = s; goes = way; later = later; running = running; rest = e; epochs = epochs; mrtds = mrtds; mrtd = mrtd })
+
+  goes : (t : ℕ) (s : OpState) → OpGoes w t s → s ≢ op.Uninitialized → (c ≡ call.ExportPause t) ⊎ (IsOneOf running_ops (w.tds.ops t) → IsOneOf running_ops s) → IsOneOf later_ops (w.tds.ops t)
+      → aspect_of w' ≡ record (aspect_of w) { ops = put w.tds.ops t s } → Shape me c w w'
+  goes t s way later running has e =
+      op_goes t s way later running (ap (λ (z : Aspect). record z { epochs = w'.tds.epochs; mrtds = mrtd_of w' }) e) (stay (ap (λ (z : Aspect). z.epochs) e))
+      (λ u n. ap (λ (z : Aspect). z.mrtds u) e) (λ h. inl (has, ap (λ (z : Aspect). z.mrtds t) e))
+
+  -- so before a guest of the TD has run here
+  goes_unrun : (t : ℕ) (s : OpState) → has_not_run (w.tds.ops t) ≡ true → s ≢ op.Uninitialized → IsOneOf later_ops (w.tds.ops t) → aspect_of w' ≡ record (aspect_of w) { ops = put w.tds.ops t s } → Shape me c w w'
+  goes_unrun t s n later has e = goes t s (unrun n) later (inr (λ r. absurd (not_running (w.tds.ops t) n r))) has e
+
+  -- and from MNG.CREATE on, as TD_EPOCH begins
+  goes_first : (t : ℕ) (s : OpState) → same_kind (w.pages.kinds t) kind.Tdr ≡ true → IsOneOf first_ops (w.tds.ops t) → s ≢ op.Uninitialized
+      → aspect_of w' ≡ record (aspect_of w) { ops = put w.tds.ops t s; epochs = put w.tds.epochs t 1; mrtds = mrtd_of w' } → ((u : ℕ) → (u == t) ≡ false → mrtd_of w' u ≡ mrtd_of w u)
+      → (IsOneOf later_ops s → IsTrue (mrtd_of w' t)) → Shape me c w w'
+  goes_first t s root among later e mrtds mrtd =
+      let new = first_only (w.tds.ops t) among in
+      let n : has_not_run (w.tds.ops t) ≡ true = ap has_not_run new in
+      op_goes t s (unrun n) later (inr (λ r. absurd (not_running (w.tds.ops t) n r))) (ap (λ (z : Aspect). record z { epochs = w'.tds.epochs }) e)
+      (begin (tdr_kind _ root) new (ap (λ (z : Aspect). z.epochs) e)) mrtds (λ h. inr (mrtd h))
+
+  restates : (t level number : ℕ) (s : EntryState) (mark : ℕ) (blocked : ℕ → ℕ) → (let e = w.tds.entries t level number in is_free e.state ≡ false → is_free s ≡ false → is_pending s ≡ is_pending e.state → holds_memory s ≡ holds_memory e.state
+      → BlockGoes w t e s blocked → aspect_of w' ≡ record (aspect_of w) { pages = record (w.pages) { blocked = blocked }; entries = (set_entry t level number (record { state = s; page = e.page; mark = mark }) w).tds.entries } → Shape me c w w')
+  restates t level number s mark blocked used still pending memory block e = shape.changes_entry (record {
+    tdr = t;
+    level = level;
+    number = number;
+    then_in = s;
+    mark = mark;
+    blocked = blocked;
+    used = used;
+    still_used = still;
+    same_pending = pending;
+    same_memory = memory;
+    block = block;
+    rest = e;
+  })
+
+-- a page that comes in: at an entry that was FREE, or for the page that the entry names
+module _ (me : ℕ) (c : Call) (w : World) (t gpa page stream : ℕ) (ws : ℕ → ℕ) (rest : List (Item Reply)) (alive : IsAlive w.pages w.tds t) where
+  comes_in : (s : EntryState) → (entry_at w t 0 gpa).state ≡ s → list_any (λ b. same_state b s) importable ≡ true → Passes (page_to_fill w t gpa page s ++ rest)
+      → Shape me c w (count_bundle t stream (begin_memory t (page_of_gpa gpa) ws (fill_page t gpa page ws s w)))
+  comes_in entry.Free is among ps =
+      takes me c w _ page kind.Reg t 0 (number_at 0 gpa) ps.0 (λ e. cc) (λ e. cc) refl (λ p e. rw e refl) (λ u l n f. entry-kept w t 0 (number_at 0 gpa) _ u l n (ap is_free is) f) (added_held w t (page_of_gpa gpa) page ws) (λ u h. refl)
+  comes_in entry.Mapped is among ps = shape.fills (record { tdr = t; number = page_of_gpa gpa; words = ws; alive = alive; mapped = is; rest = refl })
+  comes_in _ is among ps = cc
+
+pub shape_of : (o : Opening) (me : ℕ) (c : Call) (w : World) → Passes ((row_of o me c).items w) → Shape me c w ((row_of o me c).act w)
+shape_of o me (call.HostRead page i) w ps = nothing me _ w _ refl
+shape_of o me (call.HostWrite page i v) w ps = shape.notes (record { rest = refl; words = λ p h. words_stay w.words page i v p (host_apart w page p (search) h); mrtds = λ t h. refl })
+shape_of o me (call.PhymemPageRdmd page) w ps = nothing me _ w _ refl
+shape_of o me call.PhymemCacheWb w ps = nothing me _ w _ refl
+shape_of o me (call.PhymemPageReclaim t page) w ps =
+    let dead = ended_of (w.tds.lives t) (search) in
+    shape.reclaims (record { tdr = t; page = page; root = tdr_kind _ (search); dead = dead; own = λ n. reclaimed w t page (page == t) n (search); is = refl; given = λ p. refl })
+shape_of o me (call.MngCreate t h) w ps = shape.begins (record { tdr = t; hkid = h; host = search; is = refl })
+shape_of o me (call.MngKeyConfig t) w ps =
+    let first = life.HkidAssigned ∷ [] in
+    let live = live_of first (w.tds.lives t) refl (search) in
+    shape.changes_life (record { tdr = t; then_in = life.KeysConfigured; live = live; idle = λ e. absurd (not_configured first (w.tds.lives t) refl (search) e); rest = refl })
+shape_of o me (call.MngAddcx t page) w ps =
+    takes me _ w _ page kind.Tdcx t 0 0 (search) (λ e. cc) (λ e. cc) refl (λ p e. rw e refl) (λ u l n f. refl) (λ u n. inr (refl, inl refl)) (λ u h. refl)
+shape_of o me (call.MngInit t) w ps =
+    goes_first me _ w _ t op.Initialized (search) (search) (λ e. cc) refl (λ u n. rw n refl) (λ h. let no : false ≡ true = h in cc)
+shape_of o me (call.MngRd t field) w ps = nothing me _ w _ refl
+shape_of o me (call.MngVpflushdone t) w ps =
+    let live = live_of (life.HkidAssigned ∷ life.KeysConfigured ∷ []) (w.tds.lives t) refl (search) in
+    shape.changes_life (record { tdr = t; then_in = life.Blocked; live = live; idle = λ e. search; rest = refl })
+shape_of o me (call.MngKeyFreeid t) w ps =
+    let blocked = life.Blocked ∷ [] in
+    let live = live_of blocked (w.tds.lives t) refl (search) in
+    shape.changes_life (record { tdr = t; then_in = life.Teardown; live = live; idle = λ e. absurd (not_configured blocked (w.tds.lives t) refl (search) e); rest = refl })
+shape_of o me (call.MrExtend t gpa) w ps = shape.notes (record { rest = refl; words = λ p h. refl; mrtds = measured_alone w t _ (search) })
+shape_of o me (call.MrFinalize t) w ps =
+    op_goes me _ w _ t op.Runnable (unrun (is_begun (w.tds.ops t) (search))) (λ e. cc) (inr (λ r. refl)) refl (stay refl) (λ u n. rw n refl)
+    (λ h. inr (mrtd_is_the_digest o.machine w t ∙ ap (λ (given : Option (ℕ → ℕ)). Digest (given_or_measured given (w.tds.measured t))) (sym (put_here w.tds.mrtds_given t None))))
+shape_of o me (call.VpCreate t page) w ps = shape.takes (record {
+  page = page;
+  becomes = kind.Tdvpr;
+  tdr = t;
+  level = 0;
+  number = 0;
+  host = search;
+  no_tdr = λ e. cc;
+  rest = refl;
+  words = λ p e. rw e refl;
+  entries = λ u l n f. refl;
+  held = λ u n. inr (refl, inl refl);
+  mrtds = λ u h. refl;
+  vps = λ v n. record { index = rw n refl; state = rw n refl; associated = rw n refl; last = rw n refl; position = rw n refl; exported = rw n refl; entered = rw n refl; registers = λ r. rw n refl };
+  begun = λ e. let same = same_self page in (rw same refl, rw same refl, rw same refl);
+})
+shape_of o me (call.VpInit t v value) w ps =
+    shape.changes_vp (record { vp = v; idle = λ p u x. ready_only (w.vps.states v) x.ready (search); rest = refl; others = λ q n. (rw n refl, refl, refl, λ r. rw n refl) })
+shape_of o me (call.VpEnter t v most) w ps =
+    let alive = configured (w.tds.lives t) (search) in
+    let runs = has_run (w.tds.ops t) (search) in
+    shape.enters (record { tdr = t; vp = v; most = most; call = refl; owner = (vp_of w t v (search)).owner; life = alive; running = runs; here = search; is = refl })
+shape_of o me (call.VpFlush t v) w ps = shape.flushes (record { tdr = t; vp = v; call = refl; here = search; is = refl })
+shape_of o me (call.MemSeptAdd t gpa level page) w ps =
+    let q = sept_passed o.machine w t gpa level page ps in
+    let n = number_at level gpa in
+    takes me _ w _ page kind.Ept t level n q.host (λ e. cc) (λ e. cc) refl (λ p e. rw e refl) (λ u l i f. entry-kept w t level n _ u l i (free_of (entry_at w t level gpa).state q.free) f)
+    (λ u i. inr (refl, inl (entry_stays w.tds.entries t level n u i _ (range_of level 3 (search)).0))) (λ u h. refl)
+shape_of o me (call.MemSeptRd t gpa level) w ps = nothing me _ w _ refl
+shape_of o me (call.MemSeptRemove t gpa level) w ps =
+    let q = sept_remove_passed o.machine w t gpa level ps in
+    let upper = (range_of level 3 (search)).0 in
+    shape.unmaps (record {
+      tdr = t;
+      level = level;
+      number = number_at level gpa;
+      memories = w.hidden.memories;
+      alive = named_alive w t gpa level _ _ q;
+      removed = sept_removed (entry_at w t level gpa).state q.state;
+      empty = empty_at w t gpa level q.rest_holds.0;
+      tracked = q.rest_holds.1.0;
+      ended = λ e. absurd (omega (arith, upper, e));
+      others = λ x n off. refl;
+      is = refl;
+      given = λ p. refl;
+    })
+shape_of o me (call.MemPageAdd t gpa page source) w ps =
+    let q = page_passed o.machine w t gpa page source ps in
+    takes me _ w _ page kind.Reg t 0 (number_at 0 gpa) q.host (λ e. cc) (λ e. cc) refl (λ p e. rw e refl) (λ u l i f. entry-kept w t 0 (number_at 0 gpa) _ u l i (free_of (entry_at w t 0 gpa).state q.free) f)
+    (added_held w t (page_of_gpa gpa) page (w.words source)) (measured_alone w t (page_record gpa) q.td.op)
+shape_of o me (call.MemPageAug t gpa page) w ps =
+    let q = augment_passed o.machine w t gpa page ps in
+    let free = free_of (entry_at w t 0 gpa).state q.free in
+    takes me _ w _ page kind.Reg t 0 (number_at 0 gpa) q.host (λ e. cc) (λ e. cc) refl (λ p e. refl) (λ u l i f. entry-kept w t 0 (number_at 0 gpa) _ u l i free f)
+    (awaited w t (page_of_gpa gpa) page free) (λ u h. refl)
+shape_of o me (call.MemPageRemove t gpa) w ps =
+    let q = remove_passed o.machine w t gpa ps in
+    shape.unmaps (record {
+      tdr = t;
+      level = 0;
+      number = number_at 0 gpa;
+      memories = (end_memory t (page_of_gpa gpa) w).hidden.memories;
+      alive = named_alive w t gpa 0 _ _ q;
+      removed = page_removed (entry_at w t 0 gpa).state q.state;
+      empty = λ j i e. cc;
+      tracked = q.rest_holds.0;
+      ended = λ e. let a = same_self t in let b = same_self (page_of_gpa gpa) in rw (a, b) refl;
+      others = λ x n off. by_test (x == t)
+          (λ y. by_test (n == page_of_gpa gpa) (λ z. absurd (off (eqb-true x t y) refl (eqb-true n _ z))) (λ z. rw (y, z) refl))
+          (λ y. rw y refl);
+      is = refl;
+      given = λ p. refl;
+    })
+shape_of o me (call.MemRangeBlock t gpa level) w ps =
+    let q = block_passed o.machine w t gpa level ps in
+    let r = block_restates (entry_at w t level gpa).state q.state in
+    restates me _ w _ t level (number_at level gpa) _ 0 _ r.used r.still_used r.same_pending r.same_memory (noted (named_alive w t gpa level _ _ q) refl) refl
+shape_of o me (call.MemRangeUnblock t gpa level) w ps =
+    let q = unblock_passed o.machine w t gpa level ps in
+    let s : EntryState = (entry_at w t level gpa).state in
+    let r = unblock_restates s q.state in
+    restates me _ w _ t level (number_at level gpa) _ 0 w.pages.blocked r.used r.still_used r.same_pending r.same_memory
+    (open_on refl (blocked_stops s q.state) (λ writes less. inl (blocked_less writes s q.state, unexempt s r.unmarked))) refl
+shape_of o me (call.MemTrack t) w ps =
+    let alive = configured (w.tds.lives t) (search) in
+    shape.advances (record { tdr = t; life = alive; begun = begun_of augmented_ops (w.tds.ops t) refl (search); left = search; is = refl })
+shape_of o me (call.MigStreamCreate t page) w ps =
+    takes me _ w _ page kind.Migsc t 0 0 (search) (λ e. cc) (λ e. cc) refl (λ p e. rw e refl) (λ u l n f. refl) (λ u n. inr (refl, inl refl)) (λ u h. refl)
+shape_of o me (call.ExportBlockw t gpa) w ps =
+    let q = write_passed o.machine w t gpa ps in
+    let e : Entry = entry_at w t 0 gpa in
+    let r = write_remarks e.state q.state in
+    restates me _ w _ t 0 (number_at 0 gpa) (write_blocked e.state) e.mark _ r.used r.still_used r.same_pending r.same_memory (noted (entry_alive w t gpa live_ops writable_states q) refl) refl
+shape_of o me (call.ExportUnblockw t gpa) w ps =
+    let q : EntryPassed w t gpa live_ops write_blocked_states = search in
+    let e : Entry = entry_at w t 0 gpa in
+    let r = unwrite_remarks e.state q.state in
+    restates me _ w _ t 0 (number_at 0 gpa) (write_unblocked e.state) e.mark w.pages.blocked r.used r.still_used r.same_pending r.same_memory
+    (open_on refl r.leaf (λ writes less. absurd (let no : true ≡ false = sym less ∙ unblocked_allows writes e.state q.state in cc))) refl
+shape_of o me (call.ExportPause t) w ps = goes me _ w _ t op.PausedExport (runs refl refl) (λ e. cc) (inl refl) (has_mrtd live_ops (w.tds.ops t) refl refl (search)) refl
+shape_of o me (call.ExportAbort t) w ps = goes me _ w _ t op.Runnable (runs refl refl) (λ e. cc) (inr (λ r. refl)) (has_mrtd abortable_ops (w.tds.ops t) refl refl (search)) refl
+shape_of o me (call.ExportRestore t gpa) w ps =
+    let q : EntryPassed w t gpa restoring_ops restored_states = search in
+    let r = can_restore (entry_at w t 0 gpa).state q.state in
+    restates me _ w _ t 0 (number_at 0 gpa) entry.Mapped 0 w.pages.blocked r.used refl r.same_pending r.same_memory
+    (open_on refl r.leaf (λ writes less. absurd (let no : true ≡ false = sym less ∙ mapped_allows writes in cc))) refl
+shape_of o me (call.ExportStateImmutable t slot) w ps =
+    let td : TdPassed w t session_ops = search in
+    goes me _ w _ t op.LiveExport (restored refl (td_alive td) (search)) (λ e. cc) (inr (λ r. refl)) (has_mrtd session_ops (w.tds.ops t) refl refl td.op) refl
+shape_of o me (call.ExportMem t gpa k slot) w ps =
+    let q = export_passed o.machine w t gpa k slot ps in
+    let s : EntryState = (entry_at w t 0 gpa).state in
+    let r = can_export (w.tds.ops t) s q.state in
+    restates me _ w _ t 0 (number_at 0 gpa) entry.ExportedBlockedW (w.tds.mig_epochs t) w.pages.blocked r.used refl r.same_pending r.same_memory
+    (open_on refl r.leaf (λ writes less. elim (export_allows writes (w.tds.ops t) s q.op q.state less) [
+      | inl y ↦ inl y
+      | inr y ↦ inr (refl, y)
+    ])) refl
+shape_of o me (call.ExportTrack t slot zero) w ps = nothing me _ w _ refl
+shape_of o me (call.ExportTrack t slot (suc n)) w ps =
+    let paused : IsOneOf paused_ops (w.tds.ops t) = search in
+    goes me _ w _ t op.PostExport (runs refl refl) (λ e. cc) (inr (λ r. absurd (paused_runs (w.tds.ops t) paused r))) (has_mrtd paused_ops (w.tds.ops t) refl refl paused) refl
+shape_of o me (call.ExportStateTd t slot) w ps = nothing me _ w _ refl
+shape_of o me (call.ExportStateVp t v slot) w ps =
+    let mine = (vp_of w t v (search)).owner in
+    let idle : (p u : ℕ) → IsOccupied w p u v → ⊥ = λ p u x. paused_runs (w.tds.ops t) (search) (subst (λ (z : ℕ). IsOneOf running_ops (w.tds.ops z)) (sym x.page.owner ∙ mine) x.running) in
+    shape.changes_vp (record { vp = v; idle = idle; rest = refl; others = λ q n. (refl, refl, rw n refl, λ r. refl) })
+shape_of o me (call.ExportAbortByToken t slot) w ps = goes me _ w _ t op.Runnable (runs refl refl) (λ e. cc) (inr (λ r. refl)) (has_mrtd sent_ops (w.tds.ops t) refl refl (search)) refl
+shape_of o me (call.ImportStateImmutable t slot) w ps =
+    goes_first me _ w _ t op.MemoryImport (search) (search) (λ e. cc) refl (λ u n. rw n refl) (λ h. let here = same_self t in rw here refl)
+shape_of o me (call.ImportMem t slot page) w ps =
+    let x : Input = input_in (o.bundles slot) in
+    let gpa : ℕ = x.header.gpa in
+    let s : EntryState = (entry_at w t 0 gpa).state in
+    let td : TdPassed w t filling_ops = search in
+    let behind = behind_walk w t gpa 0 (state_in w t gpa 0 importable ∷ (page_to_fill w t gpa page s ++ tag_holds x ∷ [])) (search) in
+    comes_in me _ w t gpa page x.header.stream x.words (tag_holds x ∷ []) (td_alive td) s refl behind.0 behind.1
+shape_of o me (call.ImportTrack t slot) w ps =
+    let start : Bool = is_start (input_in (o.bundles slot)).header in
+    let among : IsOneOf (import_token_ops start) (w.tds.ops t) = search in
+    goes_unrun me _ w _ t (op_then start (w.tds.ops t)) (token_not_run start (w.tds.ops t) among) (token_later start (w.tds.ops t) among) (token_mrtd start (w.tds.ops t) among) refl
+shape_of o me (call.ImportStateTd t slot) w ps =
+    goes_unrun me _ w _ t op.StateImport (td_state_not_run (w.tds.ops t) (search)) (λ e. cc) (has_mrtd td_state_ops (w.tds.ops t) refl refl (search)) refl
+shape_of o me (call.ImportStateVp t v slot) w ps =
+    shape.changes_vp (record { vp = v; idle = λ p u x. ready_only (w.vps.states v) x.ready (search); rest = refl; others = λ q n. (rw n refl, rw n refl, refl, λ r. rw n refl) })
+shape_of o me (call.ImportCommit t) w ps =
+    goes me _ w _ t op.LiveImport (unrun (commit_not_run (w.tds.ops t) (search))) (λ e. cc) (inr (λ r. refl)) (has_mrtd commit_ops (w.tds.ops t) refl refl (search)) refl
+shape_of o me (call.ImportEnd t) w ps = goes me _ w _ t op.Runnable (runs refl refl) (λ e. cc) (inr (λ r. refl)) (has_mrtd late_ops (w.tds.ops t) refl refl (search)) refl
+shape_of o me (call.ImportAbort t slot) w ps =
+    goes_unrun me _ w _ t op.FailedImport (given_up_not_run (w.tds.ops t) (search)) (λ e. cc) (has_mrtd given_up_ops (w.tds.ops t) refl refl (search)) refl
