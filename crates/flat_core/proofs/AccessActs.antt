@@ -11,11 +11,10 @@ use Rattle.td_words.specs.declared.names.OpState.TheVariants as op
 use Rattle.td_words.specs.declared.names.EntryState.{EntryState}
 use Rattle.td_words.specs.declared.names.EntryState.TheVariants as entry
 use Rattle.td_words.specs.declared.machines.Machine.{Machine}
-use Rattle.td_words.specs.NameNumber.{life_number, op_number}
+use Rattle.td_words.specs.NameNumber.{op_number}
 use Rattle.td_words.specs.Packing.{Entry, is_exported}
 use Rattle.flat_core.specs.World.{World, Pages, Tds, Vps, put, free_entry}
 use Rattle.flat_core.specs.Processor.{Translation, Walk, Guest}
-use Rattle.flat_core.specs.Conditions.{associated_in}
 use Rattle.flat_core.specs.Effects.{put_in, take_node, set_entry, set_epoch}
 use Rattle.flat_core.specs.Tracking.{is_tracked}
 use Rattle.flat_core.specs.Tree.{same_state}
@@ -28,7 +27,6 @@ use Rattle.flat_core.proofs.EntryStates.{entry_set}
 use Rattle.flat_core.proofs.Ranges.{IsRemoved}
 use Rattle.flat_core.proofs.Removals.{other_entry}
 use Rattle.flat_core.proofs.Trackings.{entered_later, epoch_later}
-use Rattle.flat_core.proofs.Sparing.{not_configured, counted}
 
 pub is_begun : (s : OpState) → list_any (λ a. op_number a == op_number s) (op.Initialized ∷ []) ≡ true → has_not_run s ≡ true
 is_begun op.Initialized h = refl

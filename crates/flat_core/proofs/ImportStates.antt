@@ -4,7 +4,6 @@ use Rattle.std.specs.List.{list_any}
 use Rattle.td_words.specs.declared.names.OpState.{OpState}
 use Rattle.td_words.specs.declared.names.OpState.TheVariants as op
 use Rattle.td_words.specs.NameNumber.{op_number}
-use Rattle.flat_core.specs.Conditions.{running_ops}
 use Rattle.flat_core.specs.Access.{has_not_run}
 use Rattle.flat_core.specs.ImportRows.{first_ops, filling_ops, td_state_ops, commit_ops, given_up_ops, import_token_ops, op_then}
 

@@ -1,5 +1,5 @@
 -- The shape of each call's act, from "its conditions passed".
-use Rattle.std.proofs.Common.{◌≡◌, ◌≢◌, ◌⊎◌, inl, inr, refl, sym, ◌∙◌, subst, ap, ℕ, zero, suc, ◌≤◌, List, [], ◌∷◌, ◌++◌, Option, None, Bool, true, false, not, ◌==◌, arith}
+use Rattle.std.proofs.Common.{◌≡◌, ◌≢◌, ◌⊎◌, inl, inr, refl, sym, ◌∙◌, subst, ap, ℕ, zero, suc, List, [], ◌∷◌, ◌++◌, Option, None, Bool, true, false, not, ◌==◌, arith}
 use Rattle.std.specs.List.{list_any}
 use Rattle.std.proofs.lemmas.Bool.{eqb-true, and_parts}
 use Rattle.mrtd_measure.specs.Records.{page_record}
@@ -20,12 +20,10 @@ use Rattle.td_words.specs.Packing.{Entry}
 use Rattle.flat_core.specs.World.{World, put}
 use Rattle.flat_core.specs.Opening.{Opening}
 use Rattle.flat_core.specs.Row.{Item, Passes}
-use Rattle.flat_core.specs.Conditions.{is_host, is_host_in, is_page_of, host_page, page_exclusive, same_kind, running_ops, later_ops, augmented_ops}
+use Rattle.flat_core.specs.Conditions.{is_host, is_host_in, same_kind, running_ops, later_ops, augmented_ops}
 use Rattle.flat_core.specs.Effects.{take_node, set_page, map_page, set_entry, end_memory, begin_memory, measure}
-use Rattle.flat_core.specs.Tracking.{tracked_page}
-use Rattle.flat_core.specs.Tree.{page_of_gpa, number_at, entry_at, state_in, same_state, empty_below}
+use Rattle.flat_core.specs.Tree.{page_of_gpa, number_at, entry_at, state_in, same_state}
 use Rattle.flat_core.specs.KeyRows.{reclaim_conditions}
-use Rattle.flat_core.specs.MemRows.{open_states, blocked_states, removed_states}
 use Rattle.flat_core.specs.ExportRows.{live_ops, abortable_ops, writable_states, write_blocked, write_blocked_states, write_unblocked, restoring_ops, restored_states}
 use Rattle.flat_core.specs.BundleRows.{session_ops, paused_ops}
 use Rattle.flat_core.specs.Sessions.{count_bundle}
@@ -40,7 +38,7 @@ use Rattle.flat_core.proofs.Tests.{by_test, tdr_kind, range_of, same_self, put_h
 use Rattle.flat_core.proofs.Mrtd.{mrtd_is_the_digest}
 use Rattle.flat_core.proofs.Uses.{host_apart}
 use Rattle.flat_core.proofs.Maps.{behind_walk}
-use Rattle.flat_core.proofs.Ranges.{EntryPassed, begun_of, named_alive, write_passed, export_passed, entry_alive, block_restates, unblock_restates, write_remarks, unwrite_remarks, restored as can_restore, can_export, page_removed, sept_removed, living, blocked_less, blocked_stops, unblocked_allows, mapped_allows, export_allows}
+use Rattle.flat_core.proofs.Ranges.{EntryPassed, begun_of, named_alive, write_passed, export_passed, entry_alive, block_restates, unblock_restates, write_remarks, unwrite_remarks, restored as can_restore, can_export, page_removed, sept_removed, blocked_less, blocked_stops, unblocked_allows, mapped_allows, export_allows}
 use Rattle.flat_core.proofs.Passed.{TdPassed, td_alive, vp_of, sept_passed, page_passed, augment_passed, block_passed, unblock_passed, remove_passed, sept_remove_passed}
 use Rattle.flat_core.proofs.Removals.{empty_at}
 use Rattle.flat_core.proofs.Keeps.{live_of, ended_of}

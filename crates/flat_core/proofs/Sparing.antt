@@ -11,7 +11,7 @@ use Rattle.td_words.specs.declared.machines.Machine.{Machine}
 use Rattle.td_words.specs.NameNumber.{life_number, op_number}
 use Rattle.td_words.specs.declared.names.OpState.{OpState}
 use Rattle.td_words.specs.declared.names.OpState.TheVariants as op
-use Rattle.flat_core.specs.World.{World, Vps}
+use Rattle.flat_core.specs.World.{World}
 use Rattle.flat_core.specs.Conditions.{associated_in, associated_count, is_elsewhere, same_vp_state, running_ops}
 use Rattle.flat_core.specs.BundleRows.{paused_ops}
 use Rattle.flat_core.specs.Lawful.{Lawful, IsAlive}

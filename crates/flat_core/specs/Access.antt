@@ -67,8 +67,9 @@ is_pending entry.Pending = true
 is_pending entry.PendingBlocked = true
 is_pending _ = false
 
--- Exempt is a page that an export took without a block, while no virtual processor of the TD could run: from the pause on, and
--- in RUNNABLE after an abort (TD Migration Architecture, "Private Memory Migration").
+-- Exempt is each entry that is EXPORTED_BLOCKEDW while its TD is PAUSED_EXPORT, POST_EXPORT or RUNNABLE: from the pause on an
+-- export takes pages without a block, since no virtual processor of the TD can run, and after an abort they are so in RUNNABLE.
+-- An entry whose page was blocked before it went out is exempt as well (TD Migration Architecture, "Private Memory Migration").
 abbrev pub may_be_exempt : OpState → Bool
 may_be_exempt op.PausedExport = true
 may_be_exempt op.PostExport = true

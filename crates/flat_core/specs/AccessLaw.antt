@@ -43,7 +43,7 @@ GuestsReachTheirOwn = (o : Opening) (words_to_tell : Option (List ℕ)) (schedul
 abbrev pub MemoriesAreKept : Type 0
 MemoriesAreKept = IsKept (λ o s. IsGuarded o s × ArePagesKnown s.world)
 
--- the word at a GPA of what a TD's guest knows of its private pages, from its own events
+-- the word at a GPA of what a TD's guest knows of its private pages, from the events of all its virtual processors and of calls
 abbrev pub known_word : World → (t gpa : ℕ) → Option ℕ
 known_word w t gpa = option_map (λ words. words (word_of_gpa gpa)) (w.hidden.memories t (page_of_gpa gpa))
 
@@ -59,7 +59,8 @@ pub record Stores (o : Opening) (s : State) (p t v r gpa page : ℕ) : Type 0 wh
   pub note : ((event o s p).lps p).notes ≡ (s.lps p).notes
 
 -- In a reader's terms: an access to a word through a translation is one to the guest's own page; a load gives the word that
--- its guest knows from its own events, whatever other processors and the host did; and a store leaves it the register's.
+-- its TD's guest knows, which stores of the TD's other virtual processors change too, and the host's don't; and a store leaves
+-- it the register's.
 pub record IsOwnAccess (o : Opening) (s : State) (p t v : ℕ) (access : Access) (r gpa page : ℕ) : Type 0 where
   pub page_is : IsOwnPage s.world t (page_of_gpa gpa) page
   pub load : access ≡ Read → (word : ℕ) × (known_word s.world t gpa ≡ Some word) × Loads o s p v r gpa word

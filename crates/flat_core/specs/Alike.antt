@@ -1,5 +1,6 @@
--- Two worlds that differ in private words alone: the words of private pages, registers, RTMRs and guests' memories. The
--- same words were told, and the bundles made have the same slots and headers.
+-- Two worlds that differ in private words alone: the words of private pages, registers, RTMRs, guests' memories, what is noted of
+-- TDs at a pause and at a commit, and payloads of private bundles. The same words were told, and the bundles made have the same
+-- slots, headers, lengths and public payloads.
 use Rattle.flat_core.specs.Lawful.{Lawful}
 use Rattle.flat_core.specs.Conditions.{same_kind}
 use Rattle.td_words.specs.declared.machines.Machine.{Machine}

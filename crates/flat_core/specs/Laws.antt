@@ -257,7 +257,7 @@ holds_memory _ = true
 abbrev pub memory_of : Entry → (ℕ → ℕ → ℕ) → Option (ℕ → ℕ)
 memory_of e words = if holds_memory e.state then Some (words e.page) else None
 
--- Guest memory: what the guest of a TD that is alive knows of its private page, from its own events, is what the page holds.
+-- Guest memory: what the guest of a TD that is alive knows of its private page, from the events of its TD, is what the page holds.
 abbrev pub ArePagesKnown : World → Type 0
 ArePagesKnown w = (t n : ℕ) → IsAlive w.pages w.tds t → w.hidden.memories t n ≡ memory_of (w.tds.entries t 0 n) w.words
 

@@ -58,7 +58,7 @@ pub fn lawful_law()
 /// In every lawful world, and so in every world that a schedule leads to, the entries of TDs that
 /// aren't in TD_TEARDOWN name pages that their own TD owns, no page twice, and so none of the host's;
 /// and an entry of its TD names each secure EPT page and each private page of such a TD.
-pub fn ownership_law()
+pub fn page_owner_law()
     ensures lawful { LawfulPagesAreOwned }
     ensures kept { OwnersAreKept }
     ensures run { EveryPageIsOwned }
@@ -90,11 +90,12 @@ pub fn guest_law()
 /// No stale translation is used: each cached translation that may still be used, and each walk under
 /// way, names the page that the secure EPT names there, at the start of every run, after each event,
 /// whatever bundles have come in, and so after any schedule. Where the entry allows less than the
-/// translation does, it was blocked at that epoch or later, or is of a page that may have gone out
-/// without a block. So each access of a guest through a translation
+/// translation does, it was blocked at that epoch or later, or is exempt: EXPORTED_BLOCKEDW, from a
+/// pause on or in RUNNABLE. So each access of a guest through a translation
 /// reaches a private page of its own TD, which the TD's map names at that GPA page; a load gives the
-/// word that the guest knows from its own events; and what a store puts there is what it then knows.
-pub fn access_law()
+/// word that the TD's guest knows, from the events of all its virtual processors and of calls; and
+/// what a store puts there is what it then knows.
+pub fn translation_law()
     ensures kept { AccessIsKept }
     ensures run { AccessAlwaysHolds }
     ensures own { GuestsReachTheirOwn }

@@ -11,8 +11,8 @@ mod laws;
 mod rights;
 
 pub use laws::{
-    access_law, alike_laws, cache_law, count_law, end_laws, event_laws, guest_examples, guest_law,
-    guest_order_law, lawful_law, lock_law, measurement_laws, memory_law, ownership_law, row_laws,
-    told_law, tree_lock_law, worked_examples,
+    alike_laws, cache_law, count_law, end_laws, event_laws, guest_examples, guest_law,
+    guest_order_law, lawful_law, lock_law, measurement_laws, memory_law, page_owner_law, row_laws,
+    told_law, translation_law, tree_lock_law, worked_examples,
 };
 pub use rights::{allows, tracked};

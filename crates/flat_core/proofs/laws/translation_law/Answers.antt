@@ -1,6 +1,6 @@
 use Rattle.flat_core.proofs.Always.{access_kept, access_always_holds, guests_reach_their_own}
 use Rattle.flat_core.proofs.Memories.{accesses_are_own}
-use Rattle.flat_core.proofs.laws.access_law.Goals as goal
+use Rattle.flat_core.proofs.laws.translation_law.Goals as goal
 
 pub returns-clause-kept : goal.returns-clause-kept
 returns-clause-kept c = access_kept

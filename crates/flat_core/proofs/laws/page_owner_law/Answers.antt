@@ -1,5 +1,5 @@
 use Rattle.flat_core.proofs.Owned.{lawful_owned, owners_kept, every_page_owned}
-use Rattle.flat_core.proofs.laws.ownership_law.Goals as goal
+use Rattle.flat_core.proofs.laws.page_owner_law.Goals as goal
 
 pub returns-clause-lawful : goal.returns-clause-lawful
 returns-clause-lawful c = lawful_owned
