@@ -8,7 +8,6 @@ use Rattle.td_words.specs.declared.names.LifeState.TheVariants as life
 use Rattle.td_words.specs.declared.names.OpState.{OpState}
 use Rattle.td_words.specs.declared.names.OpState.TheVariants as op
 use Rattle.td_words.specs.declared.names.EntryState.TheVariants as entry
-use Rattle.td_words.specs.declared.names.Mode.TheVariants.{Exclusive}
 use Rattle.td_words.specs.declared.calls.Call.{Call}
 use Rattle.td_words.specs.declared.calls.Call.TheVariants as call
 use Rattle.td_words.specs.NameNumber.{op_number, life_number}
@@ -17,24 +16,21 @@ use Rattle.td_words.specs.Slots.{output_slot}
 use Rattle.flat_core.specs.World.{World, ClearHeader, Made, put}
 use Rattle.flat_core.specs.Opening.{Opening}
 use Rattle.flat_core.specs.Row.{Passes}
-use Rattle.flat_core.specs.Conditions.{same_kind, page_exclusive, host_page}
+use Rattle.flat_core.specs.Conditions.{same_kind}
 use Rattle.flat_core.specs.Digests.{six_words}
-use Rattle.flat_core.specs.Tree.{page_of_gpa, number_at, entry_at, state_in, empty_below, has_page, named_page}
-use Rattle.flat_core.specs.Tracking.{tracked_page}
+use Rattle.flat_core.specs.Tree.{page_of_gpa, number_at, entry_at}
 use Rattle.flat_core.specs.Effects.{put_in, set_op, begin_memory, restate}
-use Rattle.flat_core.specs.Sessions.{About, about, stream_page, stream_counter, bundles_so_far, counter_room, other_epoch, payload_words, count_bundle, make_bundle, begin_session, set_mig_epoch, count_export, note_td_export, note_vp_export}
+use Rattle.flat_core.specs.Sessions.{About, about, stream_page, stream_counter, bundles_so_far, payload_words, count_bundle, make_bundle, begin_session, set_mig_epoch, count_export, note_td_export, note_vp_export}
 use Rattle.flat_core.specs.Inputs.{input_in}
-use Rattle.flat_core.specs.MemRows.{open_states, blocked_states, removed_states}
-use Rattle.flat_core.specs.ExportRows.{live_ops, abortable_ops, restoring_ops, restored_states, write_blocked, write_unblocked}
-use Rattle.flat_core.specs.BundleRows.{paused_ops, exportable, tracked_in, start_epoch}
-use Rattle.flat_core.specs.ImportRows.{filling_ops, vp_state_ops, fill_page, is_start}
+use Rattle.flat_core.specs.ExportRows.{live_ops, abortable_ops, restoring_ops, write_blocked, write_unblocked}
+use Rattle.flat_core.specs.BundleRows.{session_ops, paused_ops, start_epoch}
+use Rattle.flat_core.specs.ImportRows.{first_ops, td_state_ops, import_token_ops, filling_ops, vp_state_ops, fill_page, is_start}
 use Rattle.flat_core.specs.Table.{row_of}
 use Rattle.flat_core.specs.Lawful.{IsAlive, Lawful, all_differ, is_exporting}
 use Rattle.flat_core.proofs.Tests.{by_test, host_kind, same_self}
 use Rattle.flat_core.proofs.Keeps.{free_of}
-use Rattle.flat_core.proofs.Maps.{behind_walk}
 use Rattle.flat_core.proofs.Exports.{free_unmarked}
-use Rattle.flat_core.proofs.Ranges.{named_passed, opened_passed, block_restates, unblock_restates, page_removed, sept_removed, paused_exporting, abortable_exporting}
+use Rattle.flat_core.proofs.Ranges.{block_restates, unblock_restates, page_removed, sept_removed, paused_exporting, abortable_exporting}
 use Rattle.flat_core.proofs.ImportKeeps.{td_state_importing, vp_state_importing}
 use Rattle.flat_core.proofs.Streams.{stream_among, stream_owned}
 use Rattle.flat_core.proofs.Passed.{TdPassed, td_alive, sept_passed, block_passed, unblock_passed, remove_passed, sept_remove_passed}
@@ -434,7 +430,7 @@ module _ (o : Opening) (me : ℕ) (w : World) (l : Lawful o.machine w) (i : IvsH
       let q = unblock_passed o.machine w t gpa level ps in
       entry_numbers (After (call.MemRangeUnblock t gpa level)) t level (number_at level gpa) _ refl refl refl refl (unmarked e (unblock_restates e.state q.state).unmarked) x
   numbers (call.MigStreamCreate t page) ps none x a =
-      let host = host_kind _ (search) in
+      let host : w.pages.kinds page ≡ kind.Nda = host_kind _ (search) in
       let alive = ((row-beside o me w l (call.MigStreamCreate t page) ps refl).each x a).session.exporting.alive in
       record {
         counter = λ k m. by_test (stream_page w x k == page)

@@ -15,7 +15,7 @@ use Rattle.flat_core.specs.Tree.{page_of_gpa, number_at, entry_at}
 use Rattle.flat_core.specs.Effects.{set_page, map_page, set_op, begin_memory, add_bundle}
 use Rattle.flat_core.specs.Sessions.{count_bundle}
 use Rattle.flat_core.specs.Inputs.{Input, input_in}
-use Rattle.flat_core.specs.ImportRows.{fill_page, is_start, note_commit}
+use Rattle.flat_core.specs.ImportRows.{commit_ops, given_up_ops, fill_page, is_start, note_commit}
 use Rattle.flat_core.specs.Table.{row_of}
 use Rattle.flat_core.specs.Lawful.{IsAlive, Lawful}
 use Rattle.flat_core.specs.Event.{start}
