@@ -25,7 +25,7 @@ use Rattle.flat_core.proofs.Numbers.{holds_of_none}
 use Rattle.flat_core.proofs.Shapes.{Aspect, aspect_of, OpGoes, unrun, runs, restored, EpochGoes, stay, begin, BlockGoes, noted, open_on, Takes, Reclaims, Begins, ChangesLife, ChangesOp, Enters, Flushes, ChangesEntry, Shape, notes, fills, takes, reclaims, unmaps, begins, changes_life, changes_op, changes_vp, enters, flushes, changes_entry, advances, owner_reclaimed}
 use Rattle.flat_core.proofs.ShapeOf.{shape_of}
 use Rattle.flat_core.proofs.Sparing.{idle_off}
-use Rattle.flat_core.proofs.AccessActs.{unexempt, IsBuilt, frame, current-same, walking-same, entry-apart, quiet-act, taken-act, op-off, op-act, td-act, host-act, restated-act, block-noted, raised-act, removed-act}
+use Rattle.flat_core.proofs.AccessActs.{unexempt, IsBuilt, frame, current-same, walking-same, entry-apart, quiet-act, taken-act, op-off, op-act, host-act, restated-act, block-noted, raised-act, removed-act}
 
 module _ (me : ℕ) (c : Call) (m : Machine) (w w' : World) (la : Lawful m w) (le : LawfulEpochs w) (p : ℕ) (cs : List Translation) (g : Option Guest) (occ : (x : Guest) → g ≡ Some x → IsOccupied w p x.tdr x.vp) (a : LawfulTranslations w p cs g) where
   by-world : (u : World) → w' ≡ u → LawfulTranslations u p cs g → LawfulTranslations w' p cs g
@@ -65,11 +65,11 @@ module _ (me : ℕ) (c : Call) (m : Machine) (w w' : World) (la : Lawful m w) (l
   life-access : ChangesLife w w' → LawfulTranslations w' p cs g
   life-access x =
       let e = x.rest in
-      td-act m w la le p cs g occ a w' (ap (λ (z : Aspect). z.pages) e) (ap (λ (z : Aspect). z.vps) e)
+      op-act m w la le p cs g occ a w' (ap (λ (z : Aspect). z.pages) e) (ap (λ (z : Aspect). z.vps) e)
       (λ t v h. let off = idle_off m w w' la x p t v h in ap (λ (z : Aspect). z.lives t) e ∙ rw off refl)
       (λ t v h. (le.bound t v p (ap (λ (z : Aspect). z.pages.kinds t) (sym e) ∙ h.tdr)
       (record { kind = ap (λ (z : Aspect). z.pages.kinds v) (sym e) ∙ h.page.kind; owner = ap (λ (z : Aspect). z.pages.owners v) (sym e) ∙ h.page.owner }) (ap (λ (z : Aspect). z.vps.associated v) (sym e) ∙ h.associated)).0)
-      (λ t bu. ap (λ (z : Aspect). z.ops t) e) (λ t bu. ap (λ (z : Aspect). z.epochs t) e) (λ t l n bu f. ap (λ (z : Aspect). z.entries t l n) e)
+      (λ t n bu s k. ap (λ (z : Aspect). may_be_exempt (z.ops t)) e ∙ k) (λ t bu. ap (λ (z : Aspect). z.epochs t) e) (λ t l n bu f. ap (λ (z : Aspect). z.entries t l n) e)
 
   module _ (x : ChangesOp c w w') where
     -- what is exempt is so still

@@ -1,6 +1,6 @@
--- The shapes of acts: relations of the world before a call's act and the world after it, of which `ShapeOf` names one for each
--- call. The laws of acts are shown of shapes, once for all calls. Each says under `rest` that all else is as it was, of what
--- these laws look at.
+-- The shapes of acts: each is a relation of the world before a call's act and the world after it. `ShapeOf` names the shape of
+-- each call, and the laws of acts are shown of shapes, once for all calls. `rest` says that all else is as it was, of what these
+-- laws look at; or `is` says what the world is afterwards.
 use Rattle.std.proofs.Common.{◌≡◌, ◌≢◌, ◌⊎◌, sym, ◌∙◌, subst, ap, ℕ, suc, ◌+◌, ◌/◌, List, Option, Some, None, Bool, true, false, not, ◌==◌}
 use Rattle.std.proofs.lemmas.Bool.{eqb-true}
 use Rattle.std.specs.List.{list_any}
