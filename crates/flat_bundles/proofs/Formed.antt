@@ -331,7 +331,7 @@ module _ (o : Opening) (me : ℕ) (w : World) (l : Lawful o.machine w) (h : Form
   row-forms (call.ExportStateTd t slot) ps = td_forms t slot ps
   row-forms (call.ExportStateVp t p slot) ps = vp_forms t p slot ps
   row-forms (call.ImportStateImmutable t slot) ps =
-      let later = ltb-true w.key_table.last_imported _ (search) in
+      let later = ltb-true w.key_table.last_imported (input_in (o.bundles slot)).header.session (search) in
       other_forms (After (call.ImportStateImmutable t slot)) t refl refl (λ e. let self = same_self t in rw self (omega (arith, later))) (λ x y. rw y refl) (λ x y. rw y refl)
   row-forms (call.ImportMem t slot page) ps = let x : Input = input_in (o.bundles slot) in imported_forms t x.header.stream x.header.gpa page x.words
   row-forms (call.ImportTrack t slot) ps =

@@ -29,7 +29,7 @@ use Rattle.flat_core.specs.Access.{entry_of, is_pending, has_not_run}
 use Rattle.flat_core.specs.AccessLaw.{IsGuarded}
 use Rattle.flat_core.proofs.Tests.{by_test, host_kind, tdr_kind, range_of}
 use Rattle.flat_core.proofs.Maps.{kind_named, node_named}
-use Rattle.flat_core.proofs.Ranges.{named_passed, named_alive, page_removed, sept_removed}
+use Rattle.flat_core.proofs.Ranges.{named_alive, page_removed, sept_removed}
 use Rattle.flat_core.proofs.Passed.{remove_passed, sept_remove_passed}
 use Rattle.flat_core.proofs.Keeps.{ended_of}
 use Rattle.flat_core.proofs.OneUse.{one_use, events_keep_uses}

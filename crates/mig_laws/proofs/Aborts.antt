@@ -22,7 +22,7 @@ use Rattle.flat_core.specs.Effects.{set_page, map_page, set_op, begin_memory, pa
 use Rattle.flat_core.specs.Guest.{ByRow, operation_of, is_pending_at, reach}
 use Rattle.flat_core.specs.Sessions.{count_bundle}
 use Rattle.flat_core.specs.Inputs.{Input, input_in}
-use Rattle.flat_core.specs.ImportRows.{fill_page, is_start}
+use Rattle.flat_core.specs.ImportRows.{given_up_ops, fill_page, is_start}
 use Rattle.flat_core.specs.Table.{row_of}
 use Rattle.flat_core.specs.Lawful.{IsAlive, Lawful}
 use Rattle.flat_core.specs.Event.{start}
@@ -33,7 +33,7 @@ use Rattle.flat_core.proofs.Passed.{TdPassed, td_alive}
 use Rattle.flat_bundles.proofs.Fills.{fill_either}
 use Rattle.mig_laws.specs.Ivs.{is_forward, is_filling, IsImporting, AbortsHold}
 use Rattle.mig_laws.proofs.Rows.{taken_back}
-use Rattle.mig_laws.proofs.Ivs.{alive_of, back_token, given_up_fills}
+use Rattle.mig_laws.proofs.Ivs.{back_token, given_up_fills}
 use Rattle.mig_laws.proofs.OneMore.{filling_fills, td_state_fills, vp_state_fills, commit_fills, token_fills}
 use Rattle.mig_laws.proofs.Rest.{Filled}
 use Rattle.mig_laws.proofs.RestRows.{is_import, row-rests}

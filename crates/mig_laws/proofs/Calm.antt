@@ -11,17 +11,14 @@ use Rattle.flat_core.specs.Opening.{Opening}
 use Rattle.flat_core.specs.Row.{Passes}
 use Rattle.flat_core.specs.Conditions.{blocking_ops}
 use Rattle.flat_core.specs.Tree.{page_of_gpa, entry_at}
-use Rattle.flat_core.specs.Tracking.{tracked_page}
 use Rattle.flat_core.specs.Effects.{set_op, begin_memory}
 use Rattle.flat_core.specs.Sessions.{count_bundle}
 use Rattle.flat_core.specs.Inputs.{Input, input_in}
-use Rattle.flat_core.specs.MemRows.{removed_states}
 use Rattle.flat_core.specs.ImportRows.{filling_ops, fill_page, is_start}
 use Rattle.flat_core.specs.Table.{row_of}
 use Rattle.flat_core.specs.Lawful.{is_exporting}
 use Rattle.flat_core.proofs.Tests.{by_test, same_self}
 use Rattle.flat_core.proofs.Keeps.{ended_of}
-use Rattle.flat_core.proofs.Ranges.{named_passed}
 use Rattle.flat_core.proofs.Passed.{remove_passed}
 use Rattle.flat_bundles.proofs.Fills.{fill_either}
 use Rattle.mig_laws.specs.Ivs.{IsExporting}

@@ -24,6 +24,7 @@ use Rattle.flat_core.proofs.Acts.{event_world}
 use Rattle.flat_core.proofs.Always.{occ-of}
 use Rattle.flat_core.proofs.Ranges.{live_exporting}
 use Rattle.flat_core.proofs.Passed.{TdPassed, td_alive}
+use Rattle.flat_core.specs.ExportRows.{live_ops}
 use Rattle.flat_bundles.specs.Bundles.{AddsOwn}
 use Rattle.flat_bundles.proofs.Fills.{fill_either}
 use Rattle.flat_bundles.proofs.Rows.{calls-add, operation-adds, reach-adds}
@@ -36,7 +37,6 @@ use Rattle.mig_laws.specs.States.{in_32_bits}
 use Rattle.mig_laws.specs.Image.{IsComplete, IsMade, HaveCome, StartsAs, IsStarted, IsSource}
 use Rattle.mig_laws.specs.Imports.{counts_of, given_words, HasState, begins_epoch, IsBegunBy, ImportHolds, DestinationHolds}
 use Rattle.mig_laws.specs.Grows.{IsLater, SourcesGoOn, DestinationsFollow, UnforgedStays}
-use Rattle.mig_laws.proofs.Ivs.{alive_of}
 use Rattle.mig_laws.proofs.Places.{by_places, at_place, count-append, last-append, last_none}
 use Rattle.mig_laws.proofs.Joined.{placed, not_imported}
 use Rattle.mig_laws.proofs.OneMore.{any_at}

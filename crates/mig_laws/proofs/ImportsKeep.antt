@@ -1,5 +1,5 @@
 -- Each row of an import keeps what a destination has of its source's bundles, where no tag is forged.
-use Rattle.std.proofs.Common.{lit≤, ◌≡◌, ◌≢◌, refl, sym, ◌∙◌, ap, subst, ℕ, ◌+◌, ◌^◌, ◌<◌, ◌≤◌, List, [], ◌∷◌, ◌++◌, length, map, Option, Some, None, Bool, true, false, ◌==◌, ◌&&◌, ◌||◌, get_or, arith}
+use Rattle.std.proofs.Common.{◌-◌, nat_lt, ◌≡◌, ◌≢◌, refl, sym, ◌∙◌, ap, subst, ℕ, ◌+◌, ◌^◌, ◌<◌, ◌≤◌, List, [], ◌∷◌, ◌++◌, length, map, Option, Some, None, Bool, true, false, ◌==◌, ◌&&◌, ◌||◌, get_or, arith}
 use Rattle.std.specs.Prelude.{slice_get}
 use Rattle.std.specs.List.{All, list_any}
 use Rattle.std.proofs.lemmas.Bool.{eqb-true, eq-eqb, and_parts, and_left, ltb-true}
@@ -17,16 +17,15 @@ use Rattle.flat_core.specs.World.{World, Image, ClearHeader, Made, put}
 use Rattle.flat_core.specs.Opening.{Opening}
 use Rattle.flat_core.specs.Row.{Row, Passes}
 use Rattle.flat_core.specs.Conditions.{same_kind}
-use Rattle.flat_core.specs.Tree.{page_of_gpa, number_at, entry_at, state_in}
+use Rattle.flat_core.specs.Tree.{page_of_gpa, number_at, entry_at}
 use Rattle.flat_core.specs.Effects.{set_op, begin_memory}
 use Rattle.flat_core.specs.Sessions.{stream_page, stream_counter, bundles_so_far, count_bundle, set_mig_epoch, payload_words}
 use Rattle.flat_core.specs.Inputs.{Input, input_in, tag_holds}
-use Rattle.flat_core.specs.ImportRows.{filling_ops, begin_import, import_immutable, importable, page_to_fill, fill_page, import_page, is_start, import_token_ops, epoch_due, op_then, import_token, give_rtmrs, import_td, give_vp_state, import_vp, note_commit, commit_import}
+use Rattle.flat_core.specs.ImportRows.{first_ops, td_state_ops, vp_state_ops, commit_ops, filling_ops, begin_import, import_immutable, page_to_fill, fill_page, import_page, is_start, import_token_ops, epoch_due, op_then, import_token, give_rtmrs, import_td, give_vp_state, import_vp, note_commit, commit_import}
 use Rattle.flat_core.specs.ExportRows.{image_of}
 use Rattle.flat_core.specs.Lawful.{IsAlive, Lawful, most_vps}
 use Rattle.flat_core.proofs.Tests.{by_test, same_self}
 use Rattle.flat_core.proofs.ImportKeeps.{td_state_importing, vp_state_importing}
-use Rattle.flat_core.proofs.Maps.{walk_passed}
 use Rattle.flat_core.proofs.Ranges.{begun_of}
 use Rattle.flat_core.proofs.Streams.{page_among, stream_among}
 use Rattle.flat_core.proofs.Passed.{TdPassed, td_alive}
@@ -41,7 +40,6 @@ use Rattle.mig_laws.proofs.Places.{by_places, last_none}
 use Rattle.mig_laws.proofs.Joined.{token-brings-all, not_imported}
 use Rattle.mig_laws.proofs.Latest.{imports-stay-in-order, imports-keep-last}
 use Rattle.mig_laws.proofs.Begun.{imports-begin}
-use Rattle.mig_laws.proofs.Ivs.{alive_of}
 use Rattle.mig_laws.proofs.Rows.{taken_back}
 use Rattle.mig_laws.proofs.States.{place_in, is_vp_kind}
 use Rattle.mig_laws.proofs.Counts.{counts_more, count_at, counts_zero, still_front, all_more, last_stays}

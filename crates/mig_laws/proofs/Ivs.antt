@@ -20,7 +20,7 @@ use Rattle.flat_core.specs.Digests.{six_words}
 use Rattle.flat_core.specs.Tree.{number_at, entry_at}
 use Rattle.flat_core.specs.Effects.{set_op, restate, add_bundle}
 use Rattle.flat_core.specs.Sessions.{About, about, header_of, stream_page, stream_counter, bundles_so_far, payload_words, count_bundle, make_bundle, begin_session, set_mig_epoch, count_export, note_td_export, note_vp_export}
-use Rattle.flat_core.specs.BundleRows.{start_epoch}
+use Rattle.flat_core.specs.BundleRows.{session_ops, paused_ops, start_epoch}
 use Rattle.flat_core.specs.ImportRows.{given_up_ops, abort_header}
 use Rattle.flat_core.specs.Table.{row_of}
 use Rattle.flat_core.specs.Lawful.{IsAlive, Lawful, is_exporting}
@@ -28,6 +28,7 @@ use Rattle.flat_core.proofs.Tests.{by_test, tdr_kind, same_self}
 use Rattle.flat_core.proofs.Ranges.{living, paused_exporting, abortable_exporting}
 use Rattle.flat_core.proofs.Streams.{stream_owned}
 use Rattle.flat_core.proofs.Passed.{TdPassed, td_alive}
+use Rattle.flat_core.specs.ExportRows.{abortable_ops}
 use Rattle.mig_laws.specs.Ivs.{is_forward, SealedWith, sealed_with, FitsIv, AreSealedOnce, IsExporting, IsCounted, IvsHold, is_filling, IsImporting, AbortsHold}
 use Rattle.mig_laws.proofs.Stays.{SessionStays, IsBeside}
 use Rattle.mig_laws.proofs.Rows.{not_among, over_beside, row-beside}
@@ -191,11 +192,6 @@ module _ (o : Opening) (w : World) (l : Lawful o.machine w) (h : IvsHold w) (t :
   }
 
 -- The rows
-
--- the beginning of a row of a TD's calls tells that it is alive
-pub alive_of : (w : World) (t : ℕ) → same_kind (w.pages.kinds t) kind.Tdr ≡ true
-    → list_any (λ b. life_number b == life_number (w.tds.lives t)) (life.KeysConfigured ∷ []) ≡ true → IsAlive w.pages w.tds t
-alive_of w t root live = record { kind = tdr_kind _ root; life = living (w.tds.lives t) live }
 
 -- the token that says so, and whose import stood
 abbrev pub back_token : World → (t slot : ℕ) → Made

@@ -45,7 +45,7 @@ use Rattle.mig_laws.specs.Source.{is_page_at, last_payload, ArePagesSent, Source
 use Rattle.mig_laws.specs.Paused.{is_start, has_start, IsSentAsPaused, StartedAreSentAsPaused, is_paused, IsAsPaused, PausesHold, PausesAreKept}
 use Rattle.mig_laws.proofs.Stays.{IsBeside, unmoved}
 use Rattle.mig_laws.proofs.Rows.{over_beside, row-beside}
-use Rattle.mig_laws.proofs.Ivs.{IsGiven, alive_of, back_token}
+use Rattle.mig_laws.proofs.Ivs.{IsGiven, back_token}
 use Rattle.mig_laws.proofs.Sent.{last_beside}
 use Rattle.mig_laws.proofs.Calm.{IsCalm, calm_over, row-calm}
 use Rattle.mig_laws.proofs.Guests.{operation_beside, left_beside, reached_beside, never_stored}

@@ -18,11 +18,9 @@ use Rattle.flat_core.specs.Opening.{Opening}
 use Rattle.flat_core.specs.Row.{OperationRow, Passes}
 use Rattle.flat_core.specs.Conditions.{same_kind, vp_limit, blocking_ops, running_ops}
 use Rattle.flat_core.specs.Tree.{entry_at, number_at}
-use Rattle.flat_core.specs.Tracking.{tracked_page}
 use Rattle.flat_core.specs.Effects.{set_op, pass_operation, tell_words, leave_guest}
 use Rattle.flat_core.specs.Guest.{ByRow, operation_of, is_pending_at, reach}
-use Rattle.flat_core.specs.MemRows.{removed_states}
-use Rattle.flat_core.specs.ExportRows.{stream_ops}
+use Rattle.flat_core.specs.ExportRows.{abortable_ops, stream_ops}
 use Rattle.flat_core.specs.Sessions.{stream_page}
 use Rattle.flat_core.specs.Table.{row_of}
 use Rattle.flat_core.specs.Lawful.{IsAlive, IsPageOf, ArePagesOf, Lawful, is_exporting}
@@ -30,13 +28,13 @@ use Rattle.flat_core.proofs.Tests.{by_test, host_kind, same_self}
 use Rattle.flat_core.proofs.Keeps.{live_of, ended_of}
 use Rattle.flat_core.proofs.Parts.{IsLive}
 use Rattle.flat_core.proofs.Operations.{operation_row, accepted}
-use Rattle.flat_core.proofs.Ranges.{begun_of, named_passed, abortable_exporting, paused_exporting}
+use Rattle.flat_core.proofs.Ranges.{begun_of, abortable_exporting, paused_exporting}
 use Rattle.flat_core.proofs.Streams.{page_among, stream_among}
 use Rattle.flat_core.proofs.Passed.{TdPassed, td_alive, remove_passed}
+use Rattle.flat_core.specs.BundleRows.{session_ops, paused_ops}
 use Rattle.mig_laws.specs.Ivs.{is_filling, IsImporting}
 use Rattle.mig_laws.specs.Imports.{counts_of}
 use Rattle.mig_laws.proofs.Rows.{taken_back, lived_back}
-use Rattle.mig_laws.proofs.Ivs.{alive_of}
 use Rattle.mig_laws.proofs.Counts.{counts_same}
 use Rattle.mig_laws.proofs.Rest.{Filled, filled, vp_state, ImportStays, EmptyStays, new, old, IsAtRest, same_import, rest, at_rest, rest_apart, never_filling}
 

@@ -18,23 +18,23 @@ use Rattle.td_words.specs.Slots.{output_slot}
 use Rattle.flat_core.specs.World.{World, Tds, put}
 use Rattle.flat_core.specs.Opening.{Opening}
 use Rattle.flat_core.specs.Row.{Passes}
-use Rattle.flat_core.specs.Conditions.{same_kind, page_exclusive, host_page, blocking_ops}
-use Rattle.flat_core.specs.Tree.{page_of_gpa, number_at, entry_at, state_in, empty_below}
-use Rattle.flat_core.specs.Tracking.{entry_epochs, tracked_page}
+use Rattle.flat_core.specs.Conditions.{same_kind, blocking_ops}
+use Rattle.flat_core.specs.Tree.{page_of_gpa, number_at, entry_at}
+use Rattle.flat_core.specs.Tracking.{entry_epochs}
 use Rattle.flat_core.specs.Effects.{put_in, set_page, take_node, map_page, set_life, set_op, begin_memory}
 use Rattle.flat_core.specs.Sessions.{stream_page, stream_counter, count_bundle}
 use Rattle.flat_core.specs.Inputs.{Input, input_in}
-use Rattle.flat_core.specs.MemRows.{open_states, blocked_states, removed_states}
-use Rattle.flat_core.specs.ExportRows.{stream_ops, live_ops, restoring_ops, restored_states, writable_states, write_blocked, write_blocked_states, write_unblocked}
+use Rattle.flat_core.specs.MemRows.{open_states}
+use Rattle.flat_core.specs.ExportRows.{stream_ops, live_ops, restoring_ops, writable_states, write_blocked, write_unblocked}
 use Rattle.flat_core.specs.ImportRows.{filling_ops, vp_state_ops, fill_page, is_start, import_token_ops, op_then}
 use Rattle.flat_core.specs.Table.{row_of}
 use Rattle.flat_core.specs.Lawful.{IsAlive, Lawful, ArePagesOf, is_exporting, is_free}
 use Rattle.flat_core.proofs.Tests.{by_test, host_kind, range_of, same_self}
 use Rattle.flat_core.proofs.Parts.{IsLive}
 use Rattle.flat_core.proofs.Keeps.{live_of, ended_of, free_of}
-use Rattle.flat_core.proofs.Maps.{behind_walk, node_named}
+use Rattle.flat_core.proofs.Maps.{node_named}
 use Rattle.flat_core.proofs.Exports.{free_unmarked}
-use Rattle.flat_core.proofs.Ranges.{live_exporting, named_passed, named_alive, opened_passed, write_passed, entry_alive, write_remarks, block_restates}
+use Rattle.flat_core.proofs.Ranges.{live_exporting, named_alive, write_passed, entry_alive, write_remarks, block_restates}
 use Rattle.flat_core.proofs.Streams.{stream_owned}
 use Rattle.flat_core.proofs.Passed.{block_passed, unblock_passed, remove_passed, sept_remove_passed}
 use Rattle.flat_bundles.proofs.Fills.{fill_either}

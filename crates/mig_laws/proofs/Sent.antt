@@ -14,28 +14,26 @@ use Rattle.td_words.specs.Packing.{Entry, is_exported}
 use Rattle.flat_core.specs.World.{World, Made}
 use Rattle.flat_core.specs.Opening.{Opening}
 use Rattle.flat_core.specs.Row.{Passes}
-use Rattle.flat_core.specs.Conditions.{page_exclusive}
 use Rattle.flat_core.specs.Digests.{six_words}
-use Rattle.flat_core.specs.Tree.{page_of_gpa, number_at, entry_at, same_state, state_in, has_page, named_page}
-use Rattle.td_words.specs.declared.names.Mode.TheVariants.{Exclusive}
+use Rattle.flat_core.specs.Tree.{page_of_gpa, number_at, entry_at, same_state}
 use Rattle.flat_core.specs.Tracking.{is_tracked}
 use Rattle.flat_core.specs.Effects.{set_op, restate, add_bundle}
-use Rattle.flat_core.specs.Sessions.{About, about, header_of, stream_page, bundles_so_far, unrestored_count, other_epoch, counter_room, payload_words, make_bundle, begin_session, set_mig_epoch, count_export, note_td_export, note_vp_export}
-use Rattle.flat_core.specs.BundleRows.{start_epoch, exportable, tracked_in}
+use Rattle.flat_core.specs.Sessions.{About, about, header_of, bundles_so_far, unrestored_count, payload_words, make_bundle, begin_session, set_mig_epoch, count_export, note_td_export, note_vp_export}
+use Rattle.flat_core.specs.BundleRows.{session_ops, start_epoch, exportable, tracked_in}
 use Rattle.flat_core.specs.Exports.{is_dirty}
 use Rattle.flat_core.specs.Table.{row_of}
 use Rattle.flat_core.specs.Lawful.{IsAlive, Lawful, is_exporting}
 use Rattle.flat_core.specs.Laws.{AreSoMany, holds_memory, memory_of, ArePagesKnown}
 use Rattle.flat_core.proofs.Tests.{by_test, same_self}
 use Rattle.flat_core.proofs.Counted.{are_counted}
-use Rattle.flat_core.proofs.Maps.{behind_walk}
 use Rattle.flat_core.proofs.Ranges.{paused_exporting, abortable_exporting}
 use Rattle.flat_core.proofs.Passed.{TdPassed, td_alive}
+use Rattle.flat_core.specs.ExportRows.{abortable_ops}
 use Rattle.mig_laws.specs.Ivs.{is_forward, IsExporting, IvsHold, AbortsHold}
 use Rattle.mig_laws.specs.Source.{is_page_at, later_of, last_of, last_payload, IsSent, ArePagesSent, AreSentTracked, SourceHolds}
 use Rattle.mig_laws.proofs.Stays.{PageStays, IsBeside, beside, unmoved}
 use Rattle.mig_laws.proofs.Rows.{le_same, over_beside, row-beside}
-use Rattle.mig_laws.proofs.Ivs.{IsGiven, alive_of, back_token, beside_ivs, row-ivs}
+use Rattle.mig_laws.proofs.Ivs.{IsGiven, back_token, beside_ivs, row-ivs}
 use Rattle.mig_laws.proofs.Aborts.{row-aborts}
 
 -- the last payload after one more bundle

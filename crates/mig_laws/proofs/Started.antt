@@ -27,7 +27,7 @@ use Rattle.flat_core.specs.Tree.{page_of_gpa, entry_at}
 use Rattle.flat_core.specs.Translations.{look_up}
 use Rattle.flat_core.specs.Sessions.{About, about, header_of, payload_words, note_td_export, note_vp_export, missing_states, count_bundle}
 use Rattle.flat_core.specs.Inputs.{Input, input_in}
-use Rattle.flat_core.specs.ExportRows.{vp_image, image_of}
+use Rattle.flat_core.specs.ExportRows.{live_ops, abortable_ops, vp_image, image_of}
 use Rattle.flat_core.specs.Table.{row_of}
 use Rattle.flat_core.specs.Lawful.{IsAlive, Lawful, is_exporting, all_differ}
 use Rattle.flat_core.specs.Event.{State, start, event}
@@ -39,6 +39,7 @@ use Rattle.flat_core.proofs.Induction.{in_runs}
 use Rattle.flat_core.proofs.Ranges.{live_exporting, paused_exporting, abortable_exporting}
 use Rattle.flat_core.proofs.Streams.{page_among}
 use Rattle.flat_core.proofs.Passed.{TdPassed, td_alive}
+use Rattle.flat_core.specs.BundleRows.{paused_ops}
 use Rattle.flat_bundles.proofs.Fills.{fill_either}
 use Rattle.mig_laws.specs.Ivs.{is_forward, IsExporting}
 use Rattle.mig_laws.specs.Source.{SourceHolds, last_payload, is_page_at}
@@ -49,7 +50,7 @@ use Rattle.mig_laws.specs.Image.{IsStarted}
 use Rattle.mig_laws.specs.Started.{is_td_state, is_vp_state, IsWhole, AreNoted, StartsHold, StartsIn, StartsAreKept, MayExport, SourcesAreStarted, EveryRunIsASource, unsent_states, MissingAreUnsent}
 use Rattle.mig_laws.proofs.Stays.{IsBeside}
 use Rattle.mig_laws.proofs.Rows.{over_beside, row-beside, never_exporting, taken_back}
-use Rattle.mig_laws.proofs.Ivs.{IsGiven, alive_of, back_token}
+use Rattle.mig_laws.proofs.Ivs.{IsGiven, back_token}
 use Rattle.mig_laws.proofs.Places.{by_places, at_place, IsPlaceOf, within, last, place_of_more, count-append, count_yes, count_no, count_none, last-append, last_none}
 use Rattle.mig_laws.proofs.Joined.{page_of_session}
 use Rattle.mig_laws.proofs.Calm.{row-calm}

@@ -25,8 +25,8 @@ use Rattle.flat_core.specs.Effects.{set_op, restate, begin_memory, add_bundle, t
 use Rattle.flat_core.specs.Guest.{reach}
 use Rattle.flat_core.specs.Translations.{look_up}
 use Rattle.flat_core.specs.Sessions.{About, about, header_of, stream_page, stream_counter, bundles_so_far, payload_words, count_bundle, make_bundle, begin_session, set_mig_epoch, count_export, note_td_export, note_vp_export}
-use Rattle.flat_core.specs.ExportRows.{vp_image, image_of, note_pause}
-use Rattle.flat_core.specs.BundleRows.{paused_ops, start_epoch}
+use Rattle.flat_core.specs.ExportRows.{live_ops, abortable_ops, vp_image, image_of, note_pause}
+use Rattle.flat_core.specs.BundleRows.{session_ops, paused_ops, start_epoch}
 use Rattle.flat_core.specs.Table.{row_of}
 use Rattle.flat_core.specs.Lawful.{IsAlive, Lawful, is_exporting}
 use Rattle.flat_core.specs.Event.{State, start, event}
@@ -51,7 +51,7 @@ use Rattle.mig_laws.specs.WellMade.{is_of}
 use Rattle.mig_laws.specs.States.{IsVpState, IsStateOf, AreStatesAs, vp_in_32_bits, in_32_bits, StatesSentAreAsPaused, IsOwnState, StatesHold, StatesAreKept, ArePausesShort, PositionsIn, PositionsAreKept}
 use Rattle.mig_laws.proofs.Stays.{IsBeside}
 use Rattle.mig_laws.proofs.Rows.{over_beside, row-beside}
-use Rattle.mig_laws.proofs.Ivs.{IsGiven, alive_of, back_token, ivs_stay, session_same, begun_ivs}
+use Rattle.mig_laws.proofs.Ivs.{IsGiven, back_token, ivs_stay, session_same, begun_ivs}
 use Rattle.mig_laws.proofs.Calm.{IsCalm, calm_over, row-calm}
 use Rattle.mig_laws.proofs.Guests.{operation_beside, left_beside, reached_beside, never_stored}
 use Rattle.mig_laws.proofs.Paused.{start_end, no_start_yet, not_post, only_live, abortable_stands, is_pausing, calm_of, operation_calm, reach_calm, pauses_kept}

@@ -8,7 +8,6 @@ use Rattle.td_words.specs.declared.names.LifeState.TheVariants as life
 use Rattle.td_words.specs.declared.names.OpState.{OpState}
 use Rattle.td_words.specs.declared.names.OpState.TheVariants as op
 use Rattle.td_words.specs.declared.names.EntryState.TheVariants as entry
-use Rattle.td_words.specs.declared.names.Mode.TheVariants.{Exclusive}
 use Rattle.td_words.specs.declared.calls.Call.{Call}
 use Rattle.td_words.specs.declared.calls.Call.TheVariants as call
 use Rattle.td_words.specs.NameNumber.{op_number, life_number}
@@ -17,24 +16,21 @@ use Rattle.td_words.specs.Slots.{output_slot}
 use Rattle.flat_core.specs.World.{World, ClearHeader, Made, put}
 use Rattle.flat_core.specs.Opening.{Opening}
 use Rattle.flat_core.specs.Row.{Passes}
-use Rattle.flat_core.specs.Conditions.{same_kind, page_exclusive, host_page}
+use Rattle.flat_core.specs.Conditions.{same_kind}
 use Rattle.flat_core.specs.Digests.{six_words}
-use Rattle.flat_core.specs.Tree.{page_of_gpa, number_at, entry_at, state_in, empty_below, has_page, named_page}
-use Rattle.flat_core.specs.Tracking.{tracked_page}
+use Rattle.flat_core.specs.Tree.{page_of_gpa, number_at, entry_at}
 use Rattle.flat_core.specs.Effects.{put_in, set_op, begin_memory, restate}
-use Rattle.flat_core.specs.Sessions.{About, about, stream_page, stream_counter, bundles_so_far, counter_room, other_epoch, payload_words, count_bundle, make_bundle, begin_session, set_mig_epoch, count_export, note_td_export, note_vp_export}
+use Rattle.flat_core.specs.Sessions.{About, about, stream_page, stream_counter, bundles_so_far, payload_words, count_bundle, make_bundle, begin_session, set_mig_epoch, count_export, note_td_export, note_vp_export}
 use Rattle.flat_core.specs.Inputs.{input_in}
-use Rattle.flat_core.specs.MemRows.{open_states, blocked_states, removed_states}
-use Rattle.flat_core.specs.ExportRows.{live_ops, abortable_ops, restoring_ops, restored_states, write_blocked, write_unblocked}
-use Rattle.flat_core.specs.BundleRows.{paused_ops, exportable, tracked_in, start_epoch}
-use Rattle.flat_core.specs.ImportRows.{filling_ops, vp_state_ops, fill_page, is_start}
+use Rattle.flat_core.specs.ExportRows.{live_ops, abortable_ops, restoring_ops, write_blocked, write_unblocked}
+use Rattle.flat_core.specs.BundleRows.{session_ops, paused_ops, start_epoch}
+use Rattle.flat_core.specs.ImportRows.{first_ops, td_state_ops, import_token_ops, filling_ops, vp_state_ops, fill_page, is_start}
 use Rattle.flat_core.specs.Table.{row_of}
 use Rattle.flat_core.specs.Lawful.{IsAlive, Lawful, all_differ, is_exporting}
 use Rattle.flat_core.proofs.Tests.{by_test, host_kind, same_self}
 use Rattle.flat_core.proofs.Keeps.{free_of}
-use Rattle.flat_core.proofs.Maps.{behind_walk}
 use Rattle.flat_core.proofs.Exports.{free_unmarked}
-use Rattle.flat_core.proofs.Ranges.{named_passed, opened_passed, block_restates, unblock_restates, page_removed, sept_removed, paused_exporting, abortable_exporting}
+use Rattle.flat_core.proofs.Ranges.{block_restates, unblock_restates, page_removed, sept_removed, paused_exporting, abortable_exporting}
 use Rattle.flat_core.proofs.ImportKeeps.{td_state_importing, vp_state_importing}
 use Rattle.flat_core.proofs.Streams.{stream_among, stream_owned}
 use Rattle.flat_core.proofs.Passed.{TdPassed, td_alive, sept_passed, block_passed, unblock_passed, remove_passed, sept_remove_passed}
@@ -44,7 +40,7 @@ use Rattle.mig_laws.specs.Source.{is_page_at}
 use Rattle.mig_laws.specs.WellMade.{is_of, is_on, IsBehind, IsMarked, AgreesWith, SessionAgrees, WellHolds}
 use Rattle.mig_laws.proofs.Stays.{IsBeside}
 use Rattle.mig_laws.proofs.Rows.{never_exporting, never_then, not_among, over_beside, row-beside}
-use Rattle.mig_laws.proofs.Ivs.{IsGiven, ivs_stay, session_same, begun_ivs, alive_of, back_token}
+use Rattle.mig_laws.proofs.Ivs.{IsGiven, ivs_stay, session_same, begun_ivs, back_token}
 use Rattle.mig_laws.proofs.OneMore.{token_fills, fills_importing}
 use Rattle.mig_laws.proofs.Places.{count_none}
 use Rattle.mig_laws.proofs.Joined.{forward_of, session_of}
@@ -434,7 +430,7 @@ module _ (o : Opening) (me : ℕ) (w : World) (l : Lawful o.machine w) (i : IvsH
       let q = unblock_passed o.machine w t gpa level ps in
       entry_numbers (After (call.MemRangeUnblock t gpa level)) t level (number_at level gpa) _ refl refl refl refl (unmarked e (unblock_restates e.state q.state).unmarked) x
   numbers (call.MigStreamCreate t page) ps none x a =
-      let host = host_kind _ (search) in
+      let host : w.pages.kinds page ≡ kind.Nda = host_kind _ (search) in
       let alive = ((row-beside o me w l (call.MigStreamCreate t page) ps refl).each x a).session.exporting.alive in
       record {
         counter = λ k m. by_test (stream_page w x k == page)
@@ -498,18 +494,16 @@ module _ (o : Opening) (me : ℕ) (w : World) (l : Lawful o.machine w) (i : IvsH
   numbers (call.ExportStateVp t v slot) ps none x a = cc
   numbers _ ps none x a = record { counter = λ j m. refl; epoch = refl; mark = λ n e. refl; started = λ e. e }
 
-  paused_well : (t slot : ℕ) (a : About) (payload : List ℕ) (u : World) → same_kind (w.pages.kinds t) kind.Tdr ≡ true → list_any (λ b. life_number b == life_number (w.tds.lives t)) (life.KeysConfigured ∷ []) ≡ true
-      → list_any (λ b. op_number b == op_number (w.tds.ops t)) paused_ops ≡ true → seen u ≡ seen w → u.key_table.last_exported ≡ w.key_table.last_exported → a.stream ≡ 0 → is_state a.kind ≡ true → a.epoch ≡ w.tds.mig_epochs t
+  paused_well : (t slot : ℕ) (a : About) (payload : List ℕ) (u : World) → TdPassed w t paused_ops → seen u ≡ seen w → u.key_table.last_exported ≡ w.key_table.last_exported → a.stream ≡ 0 → is_state a.kind ≡ true → a.epoch ≡ w.tds.mig_epochs t
       → WellHolds (make_bundle t slot a payload u)
-  paused_well t slot a payload u root life paused same keys zeroth state epoch =
-      let alive = alive_of w t root life in
-      let exporting : IsExporting w t = record { alive = alive; standing = paused_exporting (w.tds.ops t) paused } in
+  paused_well t slot a payload u td same keys zeroth state epoch =
+      let exporting : IsExporting w t = record { alive = td_alive td; standing = paused_exporting (w.tds.ops t) td.op } in
       state_well o w l i h t exporting slot a payload u same
       (ivs_stay w u (ap (λ (z : Seen). z.bundles) same) keys
       (λ x e. session_same w u x (seen_exporting u w (sym same) x e) (λ z. ap (λ (y : Seen). y.ops x) (sym same) ∙ z) (ap (λ (z : Seen). z.sessions x) same) (ap (λ (z : Seen). z.streams x) same)
       (λ j. let counters = ap (λ (z : Seen). z.counters (stream_page w x j)) same in omega (arith, counters))) i)
       (seen_exporting w u same t exporting) (λ x e. (seen_exporting u w (sym same) x e).alive)
-      (never_of op.PostExport paused_ops (w.tds.ops t) refl paused) zeroth state epoch
+      (never_of op.PostExport paused_ops (w.tds.ops t) refl td.op) zeroth state epoch
 
   token_well : (t slot start : ℕ) → Passes ((row_of o me (call.ExportTrack t slot start)).items w) → WellHolds (After (call.ExportTrack t slot start))
   token_well t slot zero ps =
@@ -532,11 +526,11 @@ module _ (o : Opening) (me : ℕ) (w : World) (l : Lawful o.machine w) (i : IvsH
   row-well (call.ExportTrack t slot start) ps = token_well t slot start ps
   row-well (call.ExportStateTd t slot) ps =
       let td : TdPassed w t paused_ops = search in
-      paused_well t slot (about 1 (w.tds.mig_epochs t)) (payload_words (w.hidden.rtmrs t) 24) (note_td_export t w) td.root td.life td.op refl refl refl refl refl
+      paused_well t slot (about 1 (w.tds.mig_epochs t)) (payload_words (w.hidden.rtmrs t) 24) (note_td_export t w) td refl refl refl refl refl
   row-well (call.ExportStateVp t p slot) ps =
       let td : TdPassed w t paused_ops = search in
       paused_well t slot (record (about 2 (w.tds.mig_epochs t)) { index = w.vps.indexes p; info = w.vps.positions p % 2 ^ 32 }) (payload_words (w.hidden.registers p) 8) (note_vp_export t p w)
-      td.root td.life td.op refl refl refl refl refl
+      td refl refl refl refl refl
   row-well (call.ImportAbort t slot) ps =
       let u : World = set_op t op.FailedImport w in
       well_back u (back_token w t slot) refl (numbers_well w u (over_beside o me w l t op.FailedImport refl) (over_numbers t op.FailedImport refl) h)
