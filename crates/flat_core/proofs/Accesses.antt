@@ -55,7 +55,7 @@ module _ (me : ℕ) (c : Call) (m : Machine) (w w' : World) (la : Lawful m w) (l
       (λ t v h. (by_test (t == q) (λ z. absurd (let no : kind.Nda ≡ kind.Tdr = rw z at h.tdr in cc)) (λ z. z), by_test (v == q) (λ z. absurd (let no : kind.Nda ≡ kind.Tdvpr = rw z at h.page.kind in cc)) (λ z. z)))
       (λ t bu. refl) (λ t bu. refl) (λ t l x bu f. refl) (λ v nn. refl) (λ v nn. refl) (λ v nn. refl)
 
-  begins-access : (x : Begins w w') → LawfulTranslations (set_key x.hkid (AssignedTo x.tdr) (new_td x.tdr x.hkid (clear_page x.tdr (take_page x.tdr kind.Tdr x.tdr w)))) p cs g
+  begins-access : (x : Begins c w w') → LawfulTranslations (set_key x.hkid (AssignedTo x.tdr) (new_td x.tdr x.hkid (clear_page x.tdr (take_page x.tdr kind.Tdr x.tdr w)))) p cs g
   begins-access y =
       let u = y.tdr in
       host-act m w la le p cs g occ a u kind.Tdr u 0 0 (host_kind _ y.host) _ refl
