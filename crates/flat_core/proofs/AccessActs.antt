@@ -212,12 +212,6 @@ module _ (m : Machine) (w : World) (la : Lawful m w) (le : LawfulEpochs w) (p : 
       (λ c e bu h. current-on w w' c e (en c.tdr 0 c.gpa_page bu h.named.used) (ap (λ (z : Pages). z.blocked c.page) pg) (os c.tdr c.gpa_page bu) h)
       (λ t k e bu h. walking-same w w' t k e (en t (suc k.level) (node_number k) bu h.named.used) (ap (λ (z : Pages). z.blocked k.page) pg) h) a
 
-  -- so where operation states of TDs that run stay
-  pub td-act : (w' : World) → w'.pages ≡ w.pages → w'.vps ≡ w.vps → (lv : (t v : ℕ) → IsHere w p t v → w'.tds.lives t ≡ w.tds.lives t) → (lb : (t v : ℕ) → IsHere w' p t v → w.tds.lives t ≡ life.KeysConfigured)
-      → (os : (t : ℕ) → IsBuilt w t → w'.tds.ops t ≡ w.tds.ops t) → (ep : (t : ℕ) → IsBuilt w t → w'.tds.epochs t ≡ w.tds.epochs t)
-      → (en : (t l n : ℕ) → IsBuilt w t → is_free (w.tds.entries t l n).state ≡ false → w'.tds.entries t l n ≡ w.tds.entries t l n) → LawfulTranslations w' p cs g
-  td-act w' pg vp lv lb os ep en = op-act w' pg vp lv lb (λ t i bu s x. ap may_be_exempt (os t bu) ∙ x) ep en
-
   -- a host page becomes one of another kind, no TD page nor one of a virtual processor that is here
   pub host-act : (q : ℕ) (k' : PageKind) (t' level number : ℕ) → w.pages.kinds q ≡ kind.Nda → (w' : World) → w'.pages ≡ (take_node q k' t' level number w).pages
       → ((k' ≡ kind.Tdr) → w'.tds.lives q ≡ life.KeysConfigured → ⊥) → ((k' ≡ kind.Tdvpr) → w'.vps.associated q ≡ Some p → ⊥)

@@ -25,7 +25,7 @@ use Rattle.flat_core.proofs.Numbers.{holds_of_none}
 use Rattle.flat_core.proofs.Shapes.{Aspect, aspect_of, OpGoes, unrun, runs, restored, EpochGoes, stay, begin, BlockGoes, noted, open_on, Takes, Reclaims, Begins, ChangesLife, ChangesOp, Enters, Flushes, ChangesEntry, Shape, notes, fills, takes, reclaims, unmaps, begins, changes_life, changes_op, changes_vp, enters, flushes, changes_entry, advances, owner_reclaimed}
 use Rattle.flat_core.proofs.ShapeOf.{shape_of}
 use Rattle.flat_core.proofs.Sparing.{idle_off}
-use Rattle.flat_core.proofs.AccessActs.{unexempt, IsBuilt, frame, current-same, walking-same, entry-apart, quiet-act, taken-act, op-off, op-act, td-act, host-act, restated-act, block-noted, raised-act, removed-act}
+use Rattle.flat_core.proofs.AccessActs.{unexempt, IsBuilt, frame, current-same, walking-same, entry-apart, quiet-act, taken-act, op-off, op-act, host-act, restated-act, block-noted, raised-act, removed-act}
 
 module _ (me : ℕ) (c : Call) (m : Machine) (w w' : World) (la : Lawful m w) (le : LawfulEpochs w) (p : ℕ) (cs : List Translation) (g : Option Guest) (occ : (x : Guest) → g ≡ Some x → IsOccupied w p x.tdr x.vp) (a : LawfulTranslations w p cs g) where
   by-world : (u : World) → w' ≡ u → LawfulTranslations u p cs g → LawfulTranslations w' p cs g
@@ -55,7 +55,7 @@ module _ (me : ℕ) (c : Call) (m : Machine) (w w' : World) (la : Lawful m w) (l
       (λ t v h. (by_test (t == q) (λ z. absurd (let no : kind.Nda ≡ kind.Tdr = rw z at h.tdr in cc)) (λ z. z), by_test (v == q) (λ z. absurd (let no : kind.Nda ≡ kind.Tdvpr = rw z at h.page.kind in cc)) (λ z. z)))
       (λ t bu. refl) (λ t bu. refl) (λ t l x bu f. refl) (λ v nn. refl) (λ v nn. refl) (λ v nn. refl)
 
-  begins-access : (x : Begins w w') → LawfulTranslations (set_key x.hkid (AssignedTo x.tdr) (new_td x.tdr x.hkid (clear_page x.tdr (take_page x.tdr kind.Tdr x.tdr w)))) p cs g
+  begins-access : (x : Begins c w w') → LawfulTranslations (set_key x.hkid (AssignedTo x.tdr) (new_td x.tdr x.hkid (clear_page x.tdr (take_page x.tdr kind.Tdr x.tdr w)))) p cs g
   begins-access y =
       let u = y.tdr in
       host-act m w la le p cs g occ a u kind.Tdr u 0 0 (host_kind _ y.host) _ refl
@@ -65,11 +65,11 @@ module _ (me : ℕ) (c : Call) (m : Machine) (w w' : World) (la : Lawful m w) (l
   life-access : ChangesLife w w' → LawfulTranslations w' p cs g
   life-access x =
       let e = x.rest in
-      td-act m w la le p cs g occ a w' (ap (λ (z : Aspect). z.pages) e) (ap (λ (z : Aspect). z.vps) e)
+      op-act m w la le p cs g occ a w' (ap (λ (z : Aspect). z.pages) e) (ap (λ (z : Aspect). z.vps) e)
       (λ t v h. let off = idle_off m w w' la x p t v h in ap (λ (z : Aspect). z.lives t) e ∙ rw off refl)
       (λ t v h. (le.bound t v p (ap (λ (z : Aspect). z.pages.kinds t) (sym e) ∙ h.tdr)
       (record { kind = ap (λ (z : Aspect). z.pages.kinds v) (sym e) ∙ h.page.kind; owner = ap (λ (z : Aspect). z.pages.owners v) (sym e) ∙ h.page.owner }) (ap (λ (z : Aspect). z.vps.associated v) (sym e) ∙ h.associated)).0)
-      (λ t bu. ap (λ (z : Aspect). z.ops t) e) (λ t bu. ap (λ (z : Aspect). z.epochs t) e) (λ t l n bu f. ap (λ (z : Aspect). z.entries t l n) e)
+      (λ t n bu s k. ap (λ (z : Aspect). may_be_exempt (z.ops t)) e ∙ k) (λ t bu. ap (λ (z : Aspect). z.epochs t) e) (λ t l n bu f. ap (λ (z : Aspect). z.entries t l n) e)
 
   module _ (x : ChangesOp c w w') where
     -- what is exempt is so still

@@ -67,3 +67,4 @@ pub mod Rtmrs
 pub mod Telling
 pub mod TwoEvents
 pub mod ShapeOf
+pub mod Alive

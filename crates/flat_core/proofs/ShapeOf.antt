@@ -206,7 +206,7 @@ shape_of o me call.PhymemCacheWb w ps = nothing me _ w _ refl
 shape_of o me (call.PhymemPageReclaim t page) w ps =
     let dead = ended_of (w.tds.lives t) (search) in
     shape.reclaims (record { tdr = t; page = page; root = tdr_kind _ (search); dead = dead; own = λ n. reclaimed w t page (page == t) n (search); is = refl; given = λ p. refl })
-shape_of o me (call.MngCreate t h) w ps = shape.begins (record { tdr = t; hkid = h; host = search; is = refl })
+shape_of o me (call.MngCreate t h) w ps = shape.begins (record { tdr = t; hkid = h; call = refl; host = search; is = refl })
 shape_of o me (call.MngKeyConfig t) w ps =
     let first = life.HkidAssigned ∷ [] in
     let live = live_of first (w.tds.lives t) refl (search) in

@@ -1,6 +1,6 @@
--- The shapes of acts: relations of the world before a call's act and the world after it, of which `ShapeOf` names one for each
--- call. The laws of acts are shown of shapes, once for all calls. Each says under `rest` that all else is as it was, of what
--- these laws look at.
+-- The shapes of acts: each is a relation of the world before a call's act and the world after it. `ShapeOf` names the shape of
+-- each call, and the laws of acts are shown of shapes, once for all calls. `rest` says that all else is as it was, of what these
+-- laws look at; or `is` says what the world is afterwards.
 use Rattle.std.proofs.Common.{◌≡◌, ◌≢◌, ◌⊎◌, sym, ◌∙◌, subst, ap, ℕ, suc, ◌+◌, ◌/◌, List, Option, Some, None, Bool, true, false, not, ◌==◌}
 use Rattle.std.proofs.lemmas.Bool.{eqb-true}
 use Rattle.std.specs.List.{list_any}
@@ -149,9 +149,10 @@ pub record Unmaps (c : Call) (w w' : World) : Type 0 where
   pub given : (p : ℕ) → gives_back c w p ≡ (p == (w.tds.entries tdr level number).page)
 
 -- a TD begins
-pub record Begins (w w' : World) : Type 0 where
+pub record Begins (c : Call) (w w' : World) : Type 0 where
   pub tdr : ℕ
   pub hkid : ℕ
+  pub call : c ≡ call.MngCreate tdr hkid
   pub host : is_host_in w.pages tdr ≡ true
   pub is : w' ≡ set_key hkid (AssignedTo tdr) (new_td tdr hkid (clear_page tdr (take_page tdr kind.Tdr tdr w)))
 
@@ -257,7 +258,7 @@ pub data Shape (me : ℕ) (c : Call) (w w' : World) : Type 0 where
   takes : Takes w w' → Shape me c w w'
   reclaims : Reclaims c w w' → Shape me c w w'
   unmaps : Unmaps c w w' → Shape me c w w'
-  begins : Begins w w' → Shape me c w w'
+  begins : Begins c w w' → Shape me c w w'
   changes_life : ChangesLife w w' → Shape me c w w'
   changes_op : ChangesOp c w w' → Shape me c w w'
   changes_vp : ChangesVp w w' → Shape me c w w'

@@ -193,11 +193,6 @@ module _ (o : Opening) (w : World) (l : Lawful o.machine w) (h : IvsHold w) (t :
 
 -- The rows
 
--- the beginning of a row of a TD's calls tells that it is alive
-pub alive_of : (w : World) (t : ℕ) → same_kind (w.pages.kinds t) kind.Tdr ≡ true
-    → list_any (λ b. life_number b == life_number (w.tds.lives t)) (life.KeysConfigured ∷ []) ≡ true → IsAlive w.pages w.tds t
-alive_of w t root live = record { kind = tdr_kind _ root; life = living (w.tds.lives t) live }
-
 -- the token that says so, and whose import stood
 abbrev pub back_token : World → (t slot : ℕ) → Made
 back_token w t slot = record { slot = slot; header = abort_header w t; payload = [] }

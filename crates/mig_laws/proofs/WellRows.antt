@@ -40,7 +40,7 @@ use Rattle.mig_laws.specs.Source.{is_page_at}
 use Rattle.mig_laws.specs.WellMade.{is_of, is_on, IsBehind, IsMarked, AgreesWith, SessionAgrees, WellHolds}
 use Rattle.mig_laws.proofs.Stays.{IsBeside}
 use Rattle.mig_laws.proofs.Rows.{never_exporting, never_then, not_among, over_beside, row-beside}
-use Rattle.mig_laws.proofs.Ivs.{IsGiven, ivs_stay, session_same, begun_ivs, alive_of, back_token}
+use Rattle.mig_laws.proofs.Ivs.{IsGiven, ivs_stay, session_same, begun_ivs, back_token}
 use Rattle.mig_laws.proofs.OneMore.{token_fills, fills_importing}
 use Rattle.mig_laws.proofs.Places.{count_none}
 use Rattle.mig_laws.proofs.Joined.{forward_of, session_of}
@@ -494,18 +494,16 @@ module _ (o : Opening) (me : ℕ) (w : World) (l : Lawful o.machine w) (i : IvsH
   numbers (call.ExportStateVp t v slot) ps none x a = cc
   numbers _ ps none x a = record { counter = λ j m. refl; epoch = refl; mark = λ n e. refl; started = λ e. e }
 
-  paused_well : (t slot : ℕ) (a : About) (payload : List ℕ) (u : World) → same_kind (w.pages.kinds t) kind.Tdr ≡ true → list_any (λ b. life_number b == life_number (w.tds.lives t)) (life.KeysConfigured ∷ []) ≡ true
-      → list_any (λ b. op_number b == op_number (w.tds.ops t)) paused_ops ≡ true → seen u ≡ seen w → u.key_table.last_exported ≡ w.key_table.last_exported → a.stream ≡ 0 → is_state a.kind ≡ true → a.epoch ≡ w.tds.mig_epochs t
+  paused_well : (t slot : ℕ) (a : About) (payload : List ℕ) (u : World) → TdPassed w t paused_ops → seen u ≡ seen w → u.key_table.last_exported ≡ w.key_table.last_exported → a.stream ≡ 0 → is_state a.kind ≡ true → a.epoch ≡ w.tds.mig_epochs t
       → WellHolds (make_bundle t slot a payload u)
-  paused_well t slot a payload u root life paused same keys zeroth state epoch =
-      let alive = alive_of w t root life in
-      let exporting : IsExporting w t = record { alive = alive; standing = paused_exporting (w.tds.ops t) paused } in
+  paused_well t slot a payload u td same keys zeroth state epoch =
+      let exporting : IsExporting w t = record { alive = td_alive td; standing = paused_exporting (w.tds.ops t) td.op } in
       state_well o w l i h t exporting slot a payload u same
       (ivs_stay w u (ap (λ (z : Seen). z.bundles) same) keys
       (λ x e. session_same w u x (seen_exporting u w (sym same) x e) (λ z. ap (λ (y : Seen). y.ops x) (sym same) ∙ z) (ap (λ (z : Seen). z.sessions x) same) (ap (λ (z : Seen). z.streams x) same)
       (λ j. let counters = ap (λ (z : Seen). z.counters (stream_page w x j)) same in omega (arith, counters))) i)
       (seen_exporting w u same t exporting) (λ x e. (seen_exporting u w (sym same) x e).alive)
-      (never_of op.PostExport paused_ops (w.tds.ops t) refl paused) zeroth state epoch
+      (never_of op.PostExport paused_ops (w.tds.ops t) refl td.op) zeroth state epoch
 
   token_well : (t slot start : ℕ) → Passes ((row_of o me (call.ExportTrack t slot start)).items w) → WellHolds (After (call.ExportTrack t slot start))
   token_well t slot zero ps =
@@ -528,11 +526,11 @@ module _ (o : Opening) (me : ℕ) (w : World) (l : Lawful o.machine w) (i : IvsH
   row-well (call.ExportTrack t slot start) ps = token_well t slot start ps
   row-well (call.ExportStateTd t slot) ps =
       let td : TdPassed w t paused_ops = search in
-      paused_well t slot (about 1 (w.tds.mig_epochs t)) (payload_words (w.hidden.rtmrs t) 24) (note_td_export t w) td.root td.life td.op refl refl refl refl refl
+      paused_well t slot (about 1 (w.tds.mig_epochs t)) (payload_words (w.hidden.rtmrs t) 24) (note_td_export t w) td refl refl refl refl refl
   row-well (call.ExportStateVp t p slot) ps =
       let td : TdPassed w t paused_ops = search in
       paused_well t slot (record (about 2 (w.tds.mig_epochs t)) { index = w.vps.indexes p; info = w.vps.positions p % 2 ^ 32 }) (payload_words (w.hidden.registers p) 8) (note_vp_export t p w)
-      td.root td.life td.op refl refl refl refl refl
+      td refl refl refl refl refl
   row-well (call.ImportAbort t slot) ps =
       let u : World = set_op t op.FailedImport w in
       well_back u (back_token w t slot) refl (numbers_well w u (over_beside o me w l t op.FailedImport refl) (over_numbers t op.FailedImport refl) h)

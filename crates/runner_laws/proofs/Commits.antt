@@ -25,7 +25,7 @@ use Rattle.flat_core.proofs.Parts.{IsLive}
 use Rattle.flat_bundles.proofs.Fills.{fill_either}
 use Rattle.mig_laws.specs.Ivs.{is_forward, is_filling, IsImporting, AbortsHold}
 use Rattle.mig_laws.proofs.Rows.{taken_back}
-use Rattle.mig_laws.proofs.Ivs.{alive_of, back_token, given_up_fills}
+use Rattle.mig_laws.proofs.Ivs.{back_token, given_up_fills}
 use Rattle.mig_laws.proofs.OneMore.{filling_fills, td_state_fills, vp_state_fills, commit_fills, token_fills}
 use Rattle.mig_laws.proofs.Rest.{Filled}
 use Rattle.mig_laws.proofs.RestRows.{is_import, row-rests}

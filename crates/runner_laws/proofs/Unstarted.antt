@@ -20,7 +20,6 @@ use Rattle.mig_laws.specs.Ivs.{IsExporting}
 use Rattle.mig_laws.specs.Paused.{is_start, has_start}
 use Rattle.mig_laws.specs.Source.{SourceHolds}
 use Rattle.mig_laws.specs.Paused.{PausesHold}
-use Rattle.mig_laws.proofs.Ivs.{alive_of}
 use Rattle.mig_laws.proofs.Rows.{over_beside, row-beside}
 use Rattle.mig_laws.proofs.Paused.{start_end, not_post}
 use Rattle.runner_laws.specs.Kept.{IsUnstarted}
