@@ -67,4 +67,3 @@ pub mod Rtmrs
 pub mod Telling
 pub mod TwoEvents
 pub mod ShapeOf
-pub mod Alive
