@@ -40,7 +40,7 @@ use Rattle.flat_core.specs.ImportRows.{begin_import, import_immutable, page_to_f
 use Rattle.flat_core.specs.BundleRows.{start_epoch, track_export, token_kind, token_epoch, export_immutable, export_page, export_token, export_td, export_vp}
 use Rattle.flat_core.proofs.Maps.{kind_named, node_named}
 use Rattle.flat_core.proofs.Ranges.{named_alive, page_removed, sept_removed, export_passed, can_export}
-use Rattle.flat_core.proofs.Passed.{sept_passed, remove_passed, sept_remove_passed}
+use Rattle.flat_core.proofs.Passed.{vp_of, sept_passed, remove_passed, sept_remove_passed}
 use Rattle.flat_core.proofs.Keeps.{live_of}
 use Rattle.flat_core.proofs.Tests.{by_test, host_kind, tdr_kind}
 use Rattle.word_rules.specs.Guards.{Grip, Locked}
@@ -526,7 +526,7 @@ rows-respect o me (call.VpCreate tdr page) g w la ps h =
     vp-added o.machine g w tdr page la (host_kind (w.pages.kinds page) (search)) (search)
 rows-respect o me (call.VpInit tdr vp value) g w la ps h = vp-initialized g w vp value
 rows-respect o me (call.VpEnter tdr vp most) g w la ps h =
-    (effects-respect g w).enter o.machine me tdr vp la (eqb-true _ tdr (and_parts (same_kind (w.pages.kinds vp) kind.Tdvpr) (w.pages.owners vp == tdr) (search)).1) h.0
+    (effects-respect g w).enter o.machine me tdr vp la (vp_of w tdr vp (search)).owner h.0
 rows-respect o me (call.MrExtend tdr gpa) g w la ps h = measured g w tdr _
 rows-respect o me (call.MemSeptAdd tdr gpa level page) g w la ps h =
     let held = held-behind g (is_passed w tdr gpa) (λ l. Refused (EptWalkFailed l)) (levels_above level) _ h.1.1.1 in

@@ -30,7 +30,7 @@ use Rattle.flat_core.proofs.Parts.{IsLive}
 use Rattle.flat_core.proofs.Operations.{operation_row, accepted}
 use Rattle.flat_core.proofs.Ranges.{begun_of, abortable_exporting, paused_exporting}
 use Rattle.flat_core.proofs.Streams.{page_among, stream_among}
-use Rattle.flat_core.proofs.Passed.{TdPassed, td_alive, remove_passed}
+use Rattle.flat_core.proofs.Passed.{vp_of, TdPassed, td_alive, remove_passed}
 use Rattle.flat_core.specs.BundleRows.{session_ops, paused_ops}
 use Rattle.mig_laws.specs.Ivs.{is_filling, IsImporting}
 use Rattle.mig_laws.specs.Imports.{counts_of}
@@ -244,7 +244,7 @@ module _ (o : Opening) (me : ℕ) (w : World) (l : Lawful o.machine w) where
   row-rests (call.VpCreate t page) ps none =
       created_rests t page (host_kind _ (search)) (search) (ltb-true _ _ (search))
   row-rests (call.VpInit t p value) ps none =
-      initialized_rests t p value (eqb-true (w.pages.owners p) t (and_parts (same_kind (w.pages.kinds p) kind.Tdvpr) (w.pages.owners p == t) (search)).1) (search)
+      initialized_rests t p value (vp_of w t p (search)).owner (search)
   row-rests (call.MemSeptAdd t gpa level page) ps none =
       at_rest w (After (call.MemSeptAdd t gpa level page)) refl
       (λ x a. taken_back w page kind.Ept t level (number_at level gpa) (λ e. cc) (After (call.MemSeptAdd t gpa level page)).tds refl x (record { kind = a.kind; life = a.life }))

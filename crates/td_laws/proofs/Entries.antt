@@ -32,7 +32,6 @@ use Rattle.flat_core.specs.Guest.{ByRow, operation_of, accept_page, is_pending_a
 use Rattle.flat_core.proofs.Acts.{event_world}
 use Rattle.flat_core.proofs.Operations.{operation_row}
 use Rattle.flat_core.proofs.Maps.{behind_walk}
-use Rattle.flat_core.proofs.Ranges.{named_passed, opened_passed, write_passed, export_passed}
 use Rattle.flat_core.proofs.Passed.{sept_passed, page_passed, augment_passed, block_passed, unblock_passed, remove_passed, sept_remove_passed}
 use Rattle.td_laws.specs.Steps.{is_among, may_move}
 use Rattle.td_laws.specs.Entries.{next_entries, EventsMoveEntries}
