@@ -52,6 +52,15 @@ here-built w le p t v h = record { tdr = h.tdr; life = h.life; running = (le.bou
 pub occupied-here : (w : World) (p t v : ℕ) → IsOccupied w p t v → IsHere w p t v
 occupied-here w p t v x = record { tdr = x.tdr; life = x.life; page = record { kind = x.page.kind; owner = x.page.owner }; associated = x.associated }
 
+-- where kinds, owners, lives and associations are as before, so is who is here
+pub here-as : (w w' : World) → w'.pages.kinds ≡ w.pages.kinds → w'.pages.owners ≡ w.pages.owners → w'.vps.associated ≡ w.vps.associated → (p t v : ℕ) → w'.tds.lives t ≡ w.tds.lives t → IsHere w p t v → IsHere w' p t v
+here-as w w' kd ow assoc p t v lv h = record {
+  tdr = ap (λ (z : ℕ → PageKind). z t) kd ∙ h.tdr;
+  life = lv ∙ h.life;
+  page = record { kind = ap (λ (z : ℕ → PageKind). z v) kd ∙ h.page.kind; owner = ap (λ (z : ℕ → ℕ). z v) ow ∙ h.page.owner };
+  associated = ap (λ (z : ℕ → Option ℕ). z v) assoc ∙ h.associated;
+}
+
 pub built-alive : (w : World) (t : ℕ) → IsBuilt w t → IsAlive w.pages w.tds t
 built-alive w t b = record { kind = b.tdr; life = rw (b.life) refl }
 
@@ -147,8 +156,8 @@ module _ (m : Machine) (w : World) (la : Lawful m w) (le : LawfulEpochs w) (p : 
       → w'.vps.associated ≡ w.vps.associated → w'.vps.lasts ≡ w.vps.lasts → w'.vps.entered ≡ w.vps.entered → LawfulTranslations w' p cs g
   quiet-act w' pg lv os ep en assoc ls et =
       frame w w' le p cs g occ
-      (λ t v h. record { tdr = ap (λ (z : Pages). z.kinds t) pg ∙ h.tdr; life = ap (λ (z : ℕ → LifeState). z t) lv ∙ h.life; page = record { kind = ap (λ (z : Pages). z.kinds v) pg ∙ h.page.kind; owner = ap (λ (z : Pages). z.owners v) pg ∙ h.page.owner }; associated = ap (λ (z : ℕ → Option ℕ). z v) assoc ∙ h.associated })
-      (λ t v h. (record { tdr = ap (λ (z : Pages). z.kinds t) (sym pg) ∙ h.tdr; life = ap (λ (z : ℕ → LifeState). z t) (sym lv) ∙ h.life; page = record { kind = ap (λ (z : Pages). z.kinds v) (sym pg) ∙ h.page.kind; owner = ap (λ (z : Pages). z.owners v) (sym pg) ∙ h.page.owner }; associated = ap (λ (z : ℕ → Option ℕ). z v) (sym assoc) ∙ h.associated }, ap (λ (z : ℕ → ℕ). z v) ls, ap (λ (z : ℕ → ℕ). z t) ep))
+      (λ t v h. here-as w w' (ap (λ (z : Pages). z.kinds) pg) (ap (λ (z : Pages). z.owners) pg) assoc p t v (ap (λ (z : ℕ → LifeState). z t) lv) h)
+      (λ t v h. (here-as w' w (ap (λ (z : Pages). z.kinds) (sym pg)) (ap (λ (z : Pages). z.owners) (sym pg)) (sym assoc) p t v (ap (λ (z : ℕ → LifeState). z t) (sym lv)) h, ap (λ (z : ℕ → ℕ). z v) ls, ap (λ (z : ℕ → ℕ). z t) ep))
       (λ x e is n. ap (λ (z : ℕ → Option ℕ). z x.vp) (sym et) ∙ n)
       (λ c e bu h. current-same w w' c e (ap (λ (z : ℕ → ℕ → ℕ → Entry). z c.tdr 0 c.gpa_page) en) (ap (λ (z : Pages). z.blocked c.page) pg) (ap (λ (z : ℕ → OpState). z c.tdr) os) h)
       (λ t k e bu h. walking-same w w' t k e (ap (λ (z : ℕ → ℕ → ℕ → Entry). z t (suc k.level) (node_number k)) en) (ap (λ (z : Pages). z.blocked k.page) pg) h) a
@@ -205,8 +214,8 @@ module _ (m : Machine) (w : World) (la : Lawful m w) (le : LawfulEpochs w) (p : 
       → (en : (t l n : ℕ) → IsBuilt w t → is_free (w.tds.entries t l n).state ≡ false → w'.tds.entries t l n ≡ w.tds.entries t l n) → LawfulTranslations w' p cs g
   op-act w' pg vp lv lb os ep en =
       frame w w' le p cs g occ
-      (λ t v h. record { tdr = ap (λ (z : Pages). z.kinds t) pg ∙ h.tdr; life = lv t v h ∙ h.life; page = record { kind = ap (λ (z : Pages). z.kinds v) pg ∙ h.page.kind; owner = ap (λ (z : Pages). z.owners v) pg ∙ h.page.owner }; associated = ap (λ (z : Vps). z.associated v) vp ∙ h.associated })
-      (λ t v h. let was : IsHere w p t v = record { tdr = ap (λ (z : Pages). z.kinds t) (sym pg) ∙ h.tdr; life = lb t v h; page = record { kind = ap (λ (z : Pages). z.kinds v) (sym pg) ∙ h.page.kind; owner = ap (λ (z : Pages). z.owners v) (sym pg) ∙ h.page.owner }; associated = ap (λ (z : Vps). z.associated v) (sym vp) ∙ h.associated } in
+      (λ t v h. here-as w w' (ap (λ (z : Pages). z.kinds) pg) (ap (λ (z : Pages). z.owners) pg) (ap (λ (z : Vps). z.associated) vp) p t v (lv t v h) h)
+      (λ t v h. let was = here-as w' w (ap (λ (z : Pages). z.kinds) (sym pg)) (ap (λ (z : Pages). z.owners) (sym pg)) (ap (λ (z : Vps). z.associated) (sym vp)) p t v (lb t v h ∙ sym h.life) h in
       (was, ap (λ (z : Vps). z.lasts v) vp, ep t (here-built w le p t v was)))
       (λ x e is n. ap (λ (z : Vps). z.entered x.vp) (sym vp) ∙ n)
       (λ c e bu h. current-on w w' c e (en c.tdr 0 c.gpa_page bu h.named.used) (ap (λ (z : Pages). z.blocked c.page) pg) (os c.tdr c.gpa_page bu) h)
@@ -323,21 +332,11 @@ module _ (m : Machine) (w : World) (la : Lawful m w) (le : LawfulEpochs w) (p : 
         record { level = h.level; named = says.0; rights = says.1 }
 
     here-still : (t v : ℕ) → IsHere w p t v → IsHere w' p t v
-    here-still t v h = record {
-      tdr = ap (λ (z : Pages). z.kinds t) pg ∙ h.tdr;
-      life = ap (λ (z : ℕ → LifeState). z t) lv ∙ h.life;
-      page = record { kind = ap (λ (z : Pages). z.kinds v) pg ∙ h.page.kind; owner = ap (λ (z : Pages). z.owners v) pg ∙ h.page.owner };
-      associated = ap (λ (z : Vps). z.associated v) vp ∙ h.associated;
-    }
+    here-still t v h = here-as w w' (ap (λ (z : Pages). z.kinds) pg) (ap (λ (z : Pages). z.owners) pg) (ap (λ (z : Vps). z.associated) vp) p t v (ap (λ (z : ℕ → LifeState). z t) lv) h
 
     here-was : (t v : ℕ) → IsHere w' p t v → IsHere w p t v × (w'.vps.lasts v ≡ w.vps.lasts v) × (w'.tds.epochs t ≡ w.tds.epochs t)
     here-was t v h = (
-      record {
-        tdr = sym (ap (λ (z : Pages). z.kinds t) pg) ∙ h.tdr;
-        life = sym (ap (λ (z : ℕ → LifeState). z t) lv) ∙ h.life;
-        page = record { kind = sym (ap (λ (z : Pages). z.kinds v) pg) ∙ h.page.kind; owner = sym (ap (λ (z : Pages). z.owners v) pg) ∙ h.page.owner };
-        associated = sym (ap (λ (z : Vps). z.associated v) vp) ∙ h.associated;
-      },
+      here-as w' w (ap (λ (z : Pages). z.kinds) (sym pg)) (ap (λ (z : Pages). z.owners) (sym pg)) (ap (λ (z : Vps). z.associated) (sym vp)) p t v (ap (λ (z : ℕ → LifeState). z t) (sym lv)) h,
       ap (λ (z : Vps). z.lasts v) vp,
       ap (λ (z : ℕ → ℕ). z t) ep,
     )

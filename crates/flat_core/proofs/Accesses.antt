@@ -25,7 +25,7 @@ use Rattle.flat_core.proofs.Numbers.{holds_of_none}
 use Rattle.flat_core.proofs.Shapes.{Aspect, aspect_of, OpGoes, unrun, runs, restored, EpochGoes, stay, begin, BlockGoes, noted, open_on, Takes, Reclaims, Begins, ChangesLife, ChangesOp, Enters, Flushes, ChangesEntry, Shape, notes, fills, takes, reclaims, unmaps, begins, changes_life, changes_op, changes_vp, enters, flushes, changes_entry, advances, owner_reclaimed}
 use Rattle.flat_core.proofs.ShapeOf.{shape_of}
 use Rattle.flat_core.proofs.Sparing.{idle_off}
-use Rattle.flat_core.proofs.AccessActs.{unexempt, IsBuilt, frame, current-same, walking-same, entry-apart, quiet-act, taken-act, op-off, op-act, host-act, restated-act, block-noted, raised-act, removed-act}
+use Rattle.flat_core.proofs.AccessActs.{unexempt, here-as, IsBuilt, frame, current-same, walking-same, entry-apart, quiet-act, taken-act, op-off, op-act, host-act, restated-act, block-noted, raised-act, removed-act}
 
 module _ (me : ℕ) (c : Call) (m : Machine) (w w' : World) (la : Lawful m w) (le : LawfulEpochs w) (p : ℕ) (cs : List Translation) (g : Option Guest) (occ : (x : Guest) → g ≡ Some x → IsOccupied w p x.tdr x.vp) (a : LawfulTranslations w p cs g) where
   by-world : (u : World) → w' ≡ u → LawfulTranslations u p cs g → LawfulTranslations w' p cs g
@@ -55,7 +55,7 @@ module _ (me : ℕ) (c : Call) (m : Machine) (w w' : World) (la : Lawful m w) (l
       (λ t v h. (by_test (t == q) (λ z. absurd (let no : kind.Nda ≡ kind.Tdr = rw z at h.tdr in cc)) (λ z. z), by_test (v == q) (λ z. absurd (let no : kind.Nda ≡ kind.Tdvpr = rw z at h.page.kind in cc)) (λ z. z)))
       (λ t bu. refl) (λ t bu. refl) (λ t l x bu f. refl) (λ v nn. refl) (λ v nn. refl) (λ v nn. refl)
 
-  begins-access : (x : Begins w w') → LawfulTranslations (set_key x.hkid (AssignedTo x.tdr) (new_td x.tdr x.hkid (clear_page x.tdr (take_page x.tdr kind.Tdr x.tdr w)))) p cs g
+  begins-access : (x : Begins c w w') → LawfulTranslations (set_key x.hkid (AssignedTo x.tdr) (new_td x.tdr x.hkid (clear_page x.tdr (take_page x.tdr kind.Tdr x.tdr w)))) p cs g
   begins-access y =
       let u = y.tdr in
       host-act m w la le p cs g occ a u kind.Tdr u 0 0 (host_kind _ y.host) _ refl
@@ -170,22 +170,8 @@ module _ (m : Machine) (w : World) (la : Lawful m w) (le : LawfulEpochs w) (p : 
       → w'.vps.associated ≡ w.vps.associated → w'.vps.lasts ≡ w.vps.lasts → w'.vps.entered ≡ w.vps.entered → LawfulTranslations w' p cs g
   accept-access w' u n x pending pg td assoc ls et =
       frame w w' le p cs g occ
-      (λ t v h. record {
-        tdr = ap (λ (z : Pages). z.kinds t) pg ∙ h.tdr;
-        life = ap (λ (z : Tds). z.lives t) td ∙ h.life;
-        page = record { kind = ap (λ (z : Pages). z.kinds v) pg ∙ h.page.kind; owner = ap (λ (z : Pages). z.owners v) pg ∙ h.page.owner };
-        associated = ap (λ (z : ℕ → Option ℕ). z v) assoc ∙ h.associated;
-      })
-      (λ t v h. (
-        record {
-          tdr = ap (λ (z : Pages). z.kinds t) (sym pg) ∙ h.tdr;
-          life = sym (ap (λ (z : Tds). z.lives t) td) ∙ h.life;
-          page = record { kind = ap (λ (z : Pages). z.kinds v) (sym pg) ∙ h.page.kind; owner = ap (λ (z : Pages). z.owners v) (sym pg) ∙ h.page.owner };
-          associated = ap (λ (z : ℕ → Option ℕ). z v) (sym assoc) ∙ h.associated;
-        },
-        ap (λ (z : ℕ → ℕ). z v) ls,
-        ap (λ (z : Tds). z.epochs t) td,
-      ))
+      (λ t v h. here-as w w' (ap (λ (z : Pages). z.kinds) pg) (ap (λ (z : Pages). z.owners) pg) assoc p t v (ap (λ (z : Tds). z.lives t) td) h)
+      (λ t v h. (here-as w' w (ap (λ (z : Pages). z.kinds) (sym pg)) (ap (λ (z : Pages). z.owners) (sym pg)) (sym assoc) p t v (sym (ap (λ (z : Tds). z.lives t) td)) h, ap (λ (z : ℕ → ℕ). z v) ls, ap (λ (z : Tds). z.epochs t) td))
       (λ y e is k. ap (λ (z : ℕ → Option ℕ). z y.vp) (sym et) ∙ k)
       (λ c e bu h. current-same w w' c e
       (ap (λ (z : Tds). z.entries c.tdr 0 c.gpa_page) td ∙ entry-apart w u 0 n x c.tdr 0 c.gpa_page (λ a b d. apart c a d h.accepted))

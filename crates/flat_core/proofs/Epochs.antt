@@ -35,7 +35,7 @@ module _ (me : ℕ) (c : Call) (o : Opening) (w w' : World) (la : Lawful o.machi
       (ap (λ (z : Aspect). z.epochs) e ∙ ep) (ap (λ (z : Aspect). z.vps.associated) e ∙ assoc) (ap (λ (z : Aspect). z.vps.lasts) e ∙ ls) (ap (λ (z : Aspect). z.vps.entered) e ∙ et)
 
   -- a TD begins at a page that no virtual processor's TD has
-  begun-epochs : Begins w w' → LawfulEpochs w'
+  begun-epochs : Begins c w w' → LawfulEpochs w'
   begun-epochs x =
       let u = x.tdr in
       let v : World = set_key x.hkid (AssignedTo u) (new_td u x.hkid (clear_page u (take_page u kind.Tdr u w))) in

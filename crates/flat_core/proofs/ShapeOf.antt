@@ -206,7 +206,7 @@ shape_of o me call.PhymemCacheWb w ps = nothing me _ w _ refl
 shape_of o me (call.PhymemPageReclaim t page) w ps =
     let dead = ended_of (w.tds.lives t) (search) in
     shape.reclaims (record { tdr = t; page = page; root = tdr_kind _ (search); dead = dead; own = λ n. reclaimed w t page (page == t) n (search); is = refl; given = λ p. refl })
-shape_of o me (call.MngCreate t h) w ps = shape.begins (record { tdr = t; hkid = h; host = search; is = refl })
+shape_of o me (call.MngCreate t h) w ps = shape.begins (record { tdr = t; hkid = h; call = refl; host = search; is = refl })
 shape_of o me (call.MngKeyConfig t) w ps =
     let first = life.HkidAssigned ∷ [] in
     let live = live_of first (w.tds.lives t) refl (search) in
@@ -377,3 +377,7 @@ shape_of o me (call.ImportCommit t) w ps =
 shape_of o me (call.ImportEnd t) w ps = goes me _ w _ t op.Runnable (runs refl refl) (λ e. cc) (inr (λ r. refl)) (has_mrtd late_ops (w.tds.ops t) refl refl (search)) refl
 shape_of o me (call.ImportAbort t slot) w ps =
     goes_unrun me _ w _ t op.FailedImport (given_up_not_run (w.tds.ops t) (search)) (λ e. cc) (has_mrtd given_up_ops (w.tds.ops t) refl refl (search)) refl
+
+pub row_alive : (o : Opening) (me : ℕ) (c : Call) (w : World) → Passes ((row_of o me c).items w) → ((t h : ℕ) → c ≢ call.MngCreate t h)
+    → (x : ℕ) → IsAlive ((row_of o me c).act w).pages ((row_of o me c).act w).tds x → IsAlive w.pages w.tds x
+row_alive o me c w ps never = shape.shape_alive me c w ((row_of o me c).act w) never (shape_of o me c w ps)

@@ -1,7 +1,7 @@
 -- The shapes of acts: each is a relation of the world before a call's act and the world after it. `ShapeOf` names the shape of
 -- each call, and the laws of acts are shown of shapes, once for all calls. `rest` says that all else is as it was, of what these
 -- laws look at; or `is` says what the world is afterwards.
-use Rattle.std.proofs.Common.{◌≡◌, ◌≢◌, ◌⊎◌, sym, ◌∙◌, subst, ap, ℕ, suc, ◌+◌, ◌/◌, List, Option, Some, None, Bool, true, false, not, ◌==◌}
+use Rattle.std.proofs.Common.{◌≡◌, ◌≢◌, ◌⊎◌, refl, sym, ◌∙◌, subst, ap, ℕ, suc, ◌+◌, ◌/◌, List, Option, Some, None, Bool, true, false, not, ◌==◌}
 use Rattle.std.proofs.lemmas.Bool.{eqb-true}
 use Rattle.std.specs.List.{list_any}
 use Rattle.td_words.specs.declared.names.PageKind.{PageKind}
@@ -31,6 +31,7 @@ use Rattle.flat_core.specs.Access.{allows_less, is_pending, may_be_exempt, has_n
 use Rattle.flat_core.specs.Laws.{gives_back, given_or_measured, holds_memory, memory_of}
 use Rattle.flat_core.proofs.Tests.{by_test}
 use Rattle.flat_core.proofs.Ranges.{IsRemoved}
+use Rattle.flat_core.proofs.Parts.{IsLive}
 
 -- MRTD of a TD, and what it is to be the digest of
 pub record Measurement : Type 0 where
@@ -149,9 +150,10 @@ pub record Unmaps (c : Call) (w w' : World) : Type 0 where
   pub given : (p : ℕ) → gives_back c w p ≡ (p == (w.tds.entries tdr level number).page)
 
 -- a TD begins
-pub record Begins (w w' : World) : Type 0 where
+pub record Begins (c : Call) (w w' : World) : Type 0 where
   pub tdr : ℕ
   pub hkid : ℕ
+  pub call : c ≡ call.MngCreate tdr hkid
   pub host : is_host_in w.pages tdr ≡ true
   pub is : w' ≡ set_key hkid (AssignedTo tdr) (new_td tdr hkid (clear_page tdr (take_page tdr kind.Tdr tdr w)))
 
@@ -257,7 +259,7 @@ pub data Shape (me : ℕ) (c : Call) (w w' : World) : Type 0 where
   takes : Takes w w' → Shape me c w w'
   reclaims : Reclaims c w w' → Shape me c w w'
   unmaps : Unmaps c w w' → Shape me c w w'
-  begins : Begins w w' → Shape me c w w'
+  begins : Begins c w w' → Shape me c w w'
   changes_life : ChangesLife w w' → Shape me c w w'
   changes_op : ChangesOp c w w' → Shape me c w w'
   changes_vp : ChangesVp w w' → Shape me c w w'
@@ -284,3 +286,29 @@ same_vp w w' v e k = record {
   exported = ap (λ (z : Vps). z.exported v) e;
   entered = ap (λ (z : Vps). z.entered v) e;
 }
+
+-- who is alive afterwards was so before, where no TD begins
+module _ (me : ℕ) (c : Call) (w w' : World) (never : (t h : ℕ) → c ≢ call.MngCreate t h) where
+  by_aspect : (a : Aspect) → aspect_of w' ≡ a → ((x : ℕ) → a.pages.kinds x ≡ kind.Tdr → w.pages.kinds x ≡ kind.Tdr) → ((x : ℕ) → IsLive (a.lives x) → IsLive (w.tds.lives x)) → (x : ℕ) → IsAlive w'.pages w'.tds x → IsAlive w.pages w.tds x
+  by_aspect a e was lived x i = record { kind = was x (ap (λ (z : Aspect). z.pages.kinds x) (sym e) ∙ i.kind); life = lived x (subst (λ (z : Aspect). IsLive (z.lives x)) e i.life) }
+
+  by_world : (v : World) → w' ≡ v → ((x : ℕ) → v.pages.kinds x ≡ kind.Tdr → w.pages.kinds x ≡ kind.Tdr) → v.tds.lives ≡ w.tds.lives → (x : ℕ) → IsAlive w'.pages w'.tds x → IsAlive w.pages w.tds x
+  by_world v e was same = by_aspect (aspect_of v) (ap aspect_of e) was (λ x h. subst (λ (f : ℕ → LifeState). IsLive (f x)) same h)
+
+  not_taken : (q x : ℕ) (k : PageKind) → k ≢ kind.Tdr → put w.pages.kinds q k x ≡ kind.Tdr → w.pages.kinds x ≡ kind.Tdr
+  not_taken q x k other e = by_test (x == q) (λ y. absurd (other (rw y at e))) (λ y. rw y at e)
+
+  pub shape_alive : Shape me c w w' → (x : ℕ) → IsAlive w'.pages w'.tds x → IsAlive w.pages w.tds x
+  shape_alive (notes y) = by_aspect _ y.rest (λ x k. k) (λ x h. h)
+  shape_alive (fills y) = by_aspect _ y.rest (λ x k. k) (λ x h. h)
+  shape_alive (takes y) = by_aspect _ y.rest (λ x k. not_taken y.page x y.becomes y.no_tdr k) (λ x h. h)
+  shape_alive (reclaims y) = by_world _ y.is (λ x k. not_taken y.page x kind.Nda (λ e. cc) k) refl
+  shape_alive (unmaps y) = by_world _ y.is (λ x k. not_taken (w.tds.entries y.tdr y.level y.number).page x kind.Nda (λ e. cc) k) refl
+  shape_alive (begins y) = absurd (never y.tdr y.hkid y.call)
+  shape_alive (changes_life y) = by_aspect _ y.rest (λ x k. k) (λ x h. by_test (x == y.tdr) (λ z. subst (λ (u : ℕ). IsLive (w.tds.lives u)) (sym (eqb-true x y.tdr z)) y.live) (λ z. rw z at h))
+  shape_alive (changes_op y) = by_aspect _ y.rest (λ x k. k) (λ x h. h)
+  shape_alive (changes_vp y) = by_aspect _ y.rest (λ x k. k) (λ x h. h)
+  shape_alive (enters y) = by_world _ y.is (λ x k. k) refl
+  shape_alive (flushes y) = by_world _ y.is (λ x k. k) refl
+  shape_alive (changes_entry y) = by_aspect _ y.rest (λ x k. k) (λ x h. h)
+  shape_alive (advances y) = by_world _ y.is (λ x k. k) refl

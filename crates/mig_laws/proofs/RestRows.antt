@@ -27,6 +27,7 @@ use Rattle.flat_core.specs.Lawful.{IsAlive, IsPageOf, ArePagesOf, Lawful, is_exp
 use Rattle.flat_core.proofs.Tests.{by_test, host_kind, same_self}
 use Rattle.flat_core.proofs.Keeps.{live_of, ended_of}
 use Rattle.flat_core.proofs.Parts.{IsLive}
+use Rattle.flat_core.proofs.ShapeOf.{row_alive}
 use Rattle.flat_core.proofs.Operations.{operation_row, accepted}
 use Rattle.flat_core.proofs.Ranges.{begun_of, abortable_exporting, paused_exporting}
 use Rattle.flat_core.proofs.Streams.{page_among, stream_among}
@@ -34,7 +35,7 @@ use Rattle.flat_core.proofs.Passed.{vp_of, TdPassed, td_alive, remove_passed}
 use Rattle.flat_core.specs.BundleRows.{session_ops, paused_ops}
 use Rattle.mig_laws.specs.Ivs.{is_filling, IsImporting}
 use Rattle.mig_laws.specs.Imports.{counts_of}
-use Rattle.mig_laws.proofs.Rows.{taken_back, lived_back}
+use Rattle.mig_laws.proofs.Rows.{taken_back}
 use Rattle.mig_laws.proofs.Counts.{counts_same}
 use Rattle.mig_laws.proofs.Rest.{Filled, filled, vp_state, ImportStays, EmptyStays, new, old, IsAtRest, same_import, rest, at_rest, rest_apart, never_filling}
 
@@ -220,17 +221,11 @@ module _ (o : Opening) (me : ℕ) (w : World) (l : Lawful o.machine w) where
       let v : World = After (call.PhymemPageReclaim t page) in
       let dead = ended_of (w.tds.lives t) (search) in
       quiet w v t (λ a. let no : true ≡ false = sym dead ∙ a.alive.life in cc) (λ a e. absurd (let no : true ≡ false = sym dead ∙ a.life in cc)) refl
-      (λ x y a. taken_back w page kind.Nda 0 0 0 (λ e. cc) v.tds refl x (record { kind = a.kind; life = a.life })) (λ x y. refl) (λ x n y. rw y refl) refl (λ q. refl)
+      (λ x y a. row_alive o me (call.PhymemPageReclaim t page) w ps (λ u h e. cc) x a) (λ x y. refl) (λ x n y. rw y refl) refl (λ q. refl)
   row-rests (call.MngCreate t k) ps none =
       let v : World = After (call.MngCreate t k) in
       quiet w v t (λ a. let no : false ≡ true = rw (same_self t) at a.standing in cc) (λ a e. new (λ n. (let self = same_self t in rw self refl))) refl
       (λ x y a. record { kind = rw y at a.kind; life = rw y at a.life }) (λ x y. rw y refl) (λ x n y. rw y refl) refl (λ q. refl)
-  row-rests (call.MngKeyConfig t) ps none = at_rest w (After (call.MngKeyConfig t)) refl (λ x a. lived_back w t life.KeysConfigured (live_of (life.HkidAssigned ∷ []) (w.tds.lives t) refl (search)) x (record { kind = a.kind; life = a.life }))
-  row-rests (call.MngVpflushdone t) ps none =
-      at_rest w (After (call.MngVpflushdone t)) refl (λ x a. lived_back w t life.Blocked (live_of (life.HkidAssigned ∷ life.KeysConfigured ∷ []) (w.tds.lives t) refl (search)) x (record { kind = a.kind; life = a.life }))
-  row-rests (call.MngKeyFreeid t) ps none = at_rest w (After (call.MngKeyFreeid t)) refl (λ x a. lived_back w t life.Teardown (live_of (life.Blocked ∷ []) (w.tds.lives t) refl (search)) x (record { kind = a.kind; life = a.life }))
-  row-rests (call.MngAddcx t page) ps none =
-      at_rest w (After (call.MngAddcx t page)) refl (λ x a. taken_back w page kind.Tdcx t 0 0 (λ e. cc) (After (call.MngAddcx t page)).tds refl x (record { kind = a.kind; life = a.life }))
   row-rests (call.MngInit t) ps none =
       let v : World = After (call.MngInit t) in
       let self = same_self t in
@@ -245,26 +240,16 @@ module _ (o : Opening) (me : ℕ) (w : World) (l : Lawful o.machine w) where
       created_rests t page (host_kind _ (search)) (search) (ltb-true _ _ (search))
   row-rests (call.VpInit t p value) ps none =
       initialized_rests t p value (vp_of w t p (search)).owner (search)
-  row-rests (call.MemSeptAdd t gpa level page) ps none =
-      at_rest w (After (call.MemSeptAdd t gpa level page)) refl
-      (λ x a. taken_back w page kind.Ept t level (number_at level gpa) (λ e. cc) (After (call.MemSeptAdd t gpa level page)).tds refl x (record { kind = a.kind; life = a.life }))
-  row-rests (call.MemSeptRemove t gpa level) ps none =
-      at_rest w (After (call.MemSeptRemove t gpa level)) refl
-      (λ x a. taken_back w (entry_at w t level gpa).page kind.Nda 0 0 0 (λ e. cc) (After (call.MemSeptRemove t gpa level)).tds refl x (record { kind = a.kind; life = a.life }))
   row-rests (call.MemPageAdd t gpa page source) ps none =
       let v : World = After (call.MemPageAdd t gpa page source) in
       let td : TdPassed w t (op.Initialized ∷ []) = search in
       quiet w v t (λ a. never_filling (op.Initialized ∷ []) (w.tds.ops t) (refl, refl, refl) td.op a.standing) (λ a e. absurd (begun_of (op.Initialized ∷ []) (w.tds.ops t) refl td.op e)) refl
-      (λ x y a. taken_back w page kind.Reg t 0 (number_at 0 gpa) (λ e. cc) v.tds refl x (record { kind = a.kind; life = a.life })) (λ x y. refl) (λ x n y. rw y refl) refl (λ q. refl)
-  row-rests (call.MemPageAug t gpa page) ps none =
-      at_rest w (After (call.MemPageAug t gpa page)) refl
-      (λ x a. taken_back w page kind.Reg t 0 (number_at 0 gpa) (λ e. cc) (After (call.MemPageAug t gpa page)).tds refl x (record { kind = a.kind; life = a.life }))
+      (λ x y a. row_alive o me (call.MemPageAdd t gpa page source) w ps (λ u h e. cc) x a) (λ x y. refl) (λ x n y. rw y refl) refl (λ q. refl)
   row-rests (call.MemPageRemove t gpa) ps none =
       let v : World = After (call.MemPageRemove t gpa) in
-      let page = (entry_at w t 0 gpa).page in
       let q = remove_passed o.machine w t gpa ps in
       quiet w v t (λ a. never_filling blocking_ops (w.tds.ops t) (refl, refl, refl) q.op a.standing) (λ a e. absurd (begun_of blocking_ops (w.tds.ops t) refl q.op e)) refl
-      (λ x y a. taken_back w page kind.Nda 0 0 0 (λ e. cc) v.tds refl x (record { kind = a.kind; life = a.life })) (λ x y. refl) (λ x n y. rw y refl) refl (λ q. refl)
+      (λ x y a. row_alive o me (call.MemPageRemove t gpa) w ps (λ u h e. cc) x a) (λ x y. refl) (λ x n y. rw y refl) refl (λ q. refl)
   row-rests (call.MigStreamCreate t page) ps none =
       stream_rests t page (host_kind _ (search)) (search)
   row-rests (call.ExportPause t) ps none =
@@ -314,7 +299,7 @@ module _ (o : Opening) (me : ℕ) (w : World) (l : Lawful o.machine w) where
       let exporting = paused_exporting (w.tds.ops t) td.op in
       bundle_rests (After (call.ExportStateVp t p slot)) t (td_alive td) exporting refl (λ x a. record { kind = a.kind; life = a.life }) (λ x y. refl)
       (λ q none. (let away = off_stream (w.tds.streams t) 0 q (l.sessions.first_stream t exporting) none in rw away refl)) refl refl
-  row-rests c ps none = at_rest w (After c) refl (λ x a. record { kind = a.kind; life = a.life })
+  row-rests c ps none = at_rest w (After c) refl (row_alive o me c w ps (λ t h e. cc))
 
 -- a guest's event changes RTMRs and memory of its own TD, and registers and position of its own virtual processor, and the TD runs
 module _ (o : Opening) (w : World) (l : Lawful o.machine w) (t v : ℕ) (runs : list_any (λ a. op_number a == op_number (w.tds.ops t)) running_ops ≡ true) (page : IsPageOf w.pages t v kind.Tdvpr) where

@@ -32,6 +32,7 @@ use Rattle.flat_core.specs.Lawful.{IsAlive, Lawful, ArePagesOf, is_exporting, is
 use Rattle.flat_core.proofs.Tests.{by_test, host_kind, range_of, same_self}
 use Rattle.flat_core.proofs.Parts.{IsLive}
 use Rattle.flat_core.proofs.Keeps.{live_of, ended_of, free_of}
+use Rattle.flat_core.proofs.ShapeOf.{row_alive}
 use Rattle.flat_core.proofs.Maps.{node_named}
 use Rattle.flat_core.proofs.Exports.{free_unmarked}
 use Rattle.flat_core.proofs.Ranges.{live_exporting, named_alive, write_passed, entry_alive, write_remarks, block_restates}
@@ -62,17 +63,11 @@ pub never_then : (b : Bool) (s : OpState) → list_any (λ a. op_number a == op_
 never_then true s e x = cc
 never_then false s e x = never_exporting filling_ops s (refl, refl, refl) e x
 
--- who is alive was so before: where a page was taken or given back, and where a life went on
+-- who is alive was so before, where a page was taken
 pub taken_back : (w : World) (q : ℕ) (k : PageKind) (t level number : ℕ) → (k ≡ kind.Tdr → ⊥) → (tds : Tds) → tds.lives ≡ w.tds.lives → (x : ℕ) → IsAlive (take_node q k t level number w).pages tds x → IsAlive w.pages w.tds x
 taken_back w q k t level number other tds same x a = record {
   kind = by_test (x == q) (λ y. absurd (other (rw y at a.kind))) (λ y. rw y at a.kind);
   life = subst (λ (f : ℕ → LifeState). IsLive (f x)) same a.life;
-}
-
-pub lived_back : (w : World) (t : ℕ) (s : LifeState) → IsLive (w.tds.lives t) → (x : ℕ) → IsAlive w.pages (set_life t s w).tds x → IsAlive w.pages w.tds x
-lived_back w t s live x a = record {
-  kind = a.kind;
-  life = by_test (x == t) (λ y. subst (λ (z : ℕ). IsLive (w.tds.lives z)) (sym (eqb-true x t y)) live) (λ y. rw y at a.life);
 }
 
 -- an entry of an upper level is none of level 0
@@ -222,21 +217,15 @@ module _ (o : Opening) (me : ℕ) (w : World) (l : Lawful o.machine w) where
       let v : World = After (call.PhymemPageReclaim t page) in
       let dead = ended_of (w.tds.lives t) (search) in
       apart w v t (λ a. let no : true ≡ false = sym dead ∙ a.alive.life in cc) refl refl
-      (λ x y a. other_stays w v x (taken_back w page kind.Nda 0 0 0 (λ e. cc) v.tds refl x (record { kind = a.alive.kind; life = a.alive.life })) a refl refl refl refl
+      (λ x y a. other_stays w v x (row_alive o me (call.PhymemPageReclaim t page) w ps (λ u h e. cc) x a.alive) a refl refl refl refl
       (λ n s. lower w.pages.blocked page _) (λ n. refl) (λ n. rw y refl))
   row-beside (call.MngCreate t k) ps none =
       let v : World = After (call.MngCreate t k) in
       apart w v t (λ a. let no : false ≡ true = rw (same_self t) at a.standing in cc) refl refl
       (λ x y a. other_stays w v x (record { kind = rw y at a.alive.kind; life = rw y at a.alive.life }) a (rw y refl) (rw y refl) refl refl
       (λ n s. lower w.pages.blocked t _) (λ n. rw y refl) (λ n. rw y refl))
-  row-beside (call.MngKeyConfig t) ps none =
-      plain (After (call.MngKeyConfig t)) refl refl (λ x n. refl) (λ q. le_same _) (lived_back w t life.KeysConfigured (live_of (life.HkidAssigned ∷ []) (w.tds.lives t) refl (search)))
-  row-beside (call.MngVpflushdone t) ps none =
-      plain (After (call.MngVpflushdone t)) refl refl (λ x n. refl) (λ q. le_same _) (lived_back w t life.Blocked (live_of (life.HkidAssigned ∷ life.KeysConfigured ∷ []) (w.tds.lives t) refl (search)))
-  row-beside (call.MngKeyFreeid t) ps none =
-      plain (After (call.MngKeyFreeid t)) refl refl (λ x n. refl) (λ q. le_same _) (lived_back w t life.Teardown (live_of (life.Blocked ∷ []) (w.tds.lives t) refl (search)))
   row-beside (call.MngAddcx t page) ps none =
-      plain (After (call.MngAddcx t page)) refl refl (λ x n. refl) (λ q. lower w.pages.blocked page q) (taken_back w page kind.Tdcx t 0 0 (λ e. cc) (After (call.MngAddcx t page)).tds refl)
+      plain (After (call.MngAddcx t page)) refl refl (λ x n. refl) (λ q. lower w.pages.blocked page q) (row_alive o me (call.MngAddcx t page) w ps (λ u h e. cc))
   row-beside (call.MngInit t) ps none =
       let v : World = After (call.MngInit t) in
       apart w v t (λ a. let no : false ≡ true = rw (same_self t) at a.standing in cc) refl refl
@@ -252,23 +241,23 @@ module _ (o : Opening) (me : ℕ) (w : World) (l : Lawful o.machine w) where
   row-beside (call.MemSeptAdd t gpa level page) ps none =
       let upper : 1 ≤ level = (range_of level 3 (search)).0 in
       plain (After (call.MemSeptAdd t gpa level page)) refl refl (λ x n. upper_stays w.tds.entries t level (number_at level gpa) x n _ upper) (λ q. lower w.pages.blocked page q)
-      (taken_back w page kind.Ept t level (number_at level gpa) (λ e. cc) (After (call.MemSeptAdd t gpa level page)).tds refl)
+      (row_alive o me (call.MemSeptAdd t gpa level page) w ps (λ u h e. cc))
   row-beside (call.MemSeptRemove t gpa level) ps none =
       let v : World = After (call.MemSeptRemove t gpa level) in
       let page = (entry_at w t level gpa).page in
       let q = sept_remove_passed o.machine w t gpa level ps in
       apart w v t (λ a. never_exporting blocking_ops (w.tds.ops t) (refl, refl, refl) q.op a.standing) refl refl
-      (λ x y a. other_stays w v x (taken_back w page kind.Nda 0 0 0 (λ e. cc) v.tds refl x (record { kind = a.alive.kind; life = a.alive.life })) a refl refl refl refl
+      (λ x y a. other_stays w v x (row_alive o me (call.MemSeptRemove t gpa level) w ps (λ u h e. cc) x a.alive) a refl refl refl refl
       (λ n s. lower w.pages.blocked page _) (λ n. rw y refl) (λ n. refl))
   row-beside (call.MemPageAdd t gpa page source) ps none =
       let v : World = After (call.MemPageAdd t gpa page source) in
       apart w v t (λ a. never_exporting (op.Initialized ∷ []) (w.tds.ops t) (refl, refl, refl) (search) a.standing) refl refl
-      (λ x y a. other_stays w v x (taken_back w page kind.Reg t 0 (number_at 0 gpa) (λ e. cc) v.tds refl x (record { kind = a.alive.kind; life = a.alive.life })) a refl refl refl refl
+      (λ x y a. other_stays w v x (row_alive o me (call.MemPageAdd t gpa page source) w ps (λ u h e. cc) x a.alive) a refl refl refl refl
       (λ n s. lower w.pages.blocked page _) (λ n. rw y refl) (λ n. rw y refl))
   row-beside (call.MemPageAug t gpa page) ps none =
       let v : World = After (call.MemPageAug t gpa page) in
       restated w v t (number_at 0 gpa) (record { state = entry.Pending; page = page; mark = 0 }) refl refl (λ x. refl) refl refl refl
-      (taken_back w page kind.Reg t 0 (number_at 0 gpa) (λ e. cc) v.tds refl) refl (λ x n off. refl) (λ e. refl)
+      (row_alive o me (call.MemPageAug t gpa page) w ps (λ u h e. cc)) refl (λ x n off. refl) (λ e. refl)
       (fresh_goes (entry_at w t 0 gpa).state entry.Pending (free_unmarked _ (free_of (entry_at w t 0 gpa).state (search))) (λ e. cc))
       (λ x n a off s. lower w.pages.blocked page _)
   row-beside (call.MemPageRemove t gpa) ps none =
@@ -276,7 +265,7 @@ module _ (o : Opening) (me : ℕ) (w : World) (l : Lawful o.machine w) where
       let page = (entry_at w t 0 gpa).page in
       let q = remove_passed o.machine w t gpa ps in
       apart w v t (λ a. never_exporting blocking_ops (w.tds.ops t) (refl, refl, refl) q.op a.standing) refl refl
-      (λ x y a. other_stays w v x (taken_back w page kind.Nda 0 0 0 (λ e. cc) v.tds refl x (record { kind = a.alive.kind; life = a.alive.life })) a refl refl refl refl
+      (λ x y a. other_stays w v x (row_alive o me (call.MemPageRemove t gpa) w ps (λ u h e. cc) x a.alive) a refl refl refl refl
       (λ n s. lower w.pages.blocked page _) (λ n. rw y refl) (λ n. rw y refl))
   row-beside (call.MemRangeBlock t gpa level) ps none =
       let v : World = After (call.MemRangeBlock t gpa level) in
@@ -346,4 +335,4 @@ module _ (o : Opening) (me : ℕ) (w : World) (l : Lawful o.machine w) where
   row-beside (call.ExportTrack t slot start) ps none = cc
   row-beside (call.ExportStateTd t slot) ps none = cc
   row-beside (call.ExportStateVp t v slot) ps none = cc
-  row-beside c ps none = plain (After c) refl refl (λ x n. refl) (λ q. le_same _) (λ x a. record { kind = a.kind; life = a.life })
+  row-beside c ps none = plain (After c) refl refl (λ x n. refl) (λ q. le_same _) (row_alive o me c w ps (λ t h e. cc))
