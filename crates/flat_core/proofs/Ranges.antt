@@ -76,9 +76,6 @@ pub record EntryPassed (w : World) (t gpa : ℕ) (ops : List OpState) (allowed :
   pub op : list_any (λ b. op_number b == op_number (w.tds.ops t)) ops ≡ true
   pub state : list_any (λ s. same_state s (entry_at w t 0 gpa).state) allowed ≡ true
 
-pub opened_passed : (w : World) (t gpa : ℕ) (ops : List OpState) (allowed : List EntryState) → Passes (opened_row w t gpa ops allowed) → EntryPassed w t gpa ops allowed
-opened_passed w t gpa ops allowed ps = search
-
 pub write_passed : (m : Machine) (w : World) (t gpa : ℕ) → Passes ((block_write m t gpa).items w) → EntryPassed w t gpa live_ops writable_states
 write_passed m w t gpa ps = search
 

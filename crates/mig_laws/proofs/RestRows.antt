@@ -31,7 +31,7 @@ use Rattle.flat_core.proofs.ShapeOf.{row_alive}
 use Rattle.flat_core.proofs.Operations.{operation_row, accepted}
 use Rattle.flat_core.proofs.Ranges.{begun_of, abortable_exporting, paused_exporting}
 use Rattle.flat_core.proofs.Streams.{page_among, stream_among}
-use Rattle.flat_core.proofs.Passed.{TdPassed, td_alive, remove_passed}
+use Rattle.flat_core.proofs.Passed.{vp_of, TdPassed, td_alive, remove_passed}
 use Rattle.flat_core.specs.BundleRows.{session_ops, paused_ops}
 use Rattle.mig_laws.specs.Ivs.{is_filling, IsImporting}
 use Rattle.mig_laws.specs.Imports.{counts_of}
@@ -239,7 +239,7 @@ module _ (o : Opening) (me : ℕ) (w : World) (l : Lawful o.machine w) where
   row-rests (call.VpCreate t page) ps none =
       created_rests t page (host_kind _ (search)) (search) (ltb-true _ _ (search))
   row-rests (call.VpInit t p value) ps none =
-      initialized_rests t p value (eqb-true (w.pages.owners p) t (and_parts (same_kind (w.pages.kinds p) kind.Tdvpr) (w.pages.owners p == t) (search)).1) (search)
+      initialized_rests t p value (vp_of w t p (search)).owner (search)
   row-rests (call.MemPageAdd t gpa page source) ps none =
       let v : World = After (call.MemPageAdd t gpa page source) in
       let td : TdPassed w t (op.Initialized ∷ []) = search in

@@ -37,7 +37,7 @@ use Rattle.flat_core.proofs.Maps.{node_named}
 use Rattle.flat_core.proofs.Exports.{free_unmarked}
 use Rattle.flat_core.proofs.Ranges.{live_exporting, named_alive, write_passed, entry_alive, write_remarks, block_restates}
 use Rattle.flat_core.proofs.Streams.{stream_owned}
-use Rattle.flat_core.proofs.Passed.{block_passed, unblock_passed, remove_passed, sept_remove_passed}
+use Rattle.flat_core.proofs.Passed.{vp_of, block_passed, unblock_passed, remove_passed, sept_remove_passed}
 use Rattle.flat_bundles.proofs.Fills.{fill_either}
 use Rattle.mig_laws.specs.Ivs.{IsExporting}
 use Rattle.mig_laws.proofs.Stays.{counted_more, tracked_still, entered_now, left_now, entered_elsewhere, Stays, IsBeside, own, same_page, session_stays, same_entered, same_counters, all_stays, shape, beside, goes_same, apart}
@@ -237,7 +237,7 @@ module _ (o : Opening) (me : ℕ) (w : World) (l : Lawful o.machine w) where
   row-beside (call.VpCreate t page) ps none =
       created_beside t page (λ a. never_exporting (op.Initialized ∷ op.MemoryImport ∷ []) (w.tds.ops t) (refl, refl, refl) (search) a.standing)
   row-beside (call.VpEnter t p most) ps none =
-      entered_beside t p most (eqb-true (w.pages.owners p) t (and_parts (same_kind (w.pages.kinds p) kind.Tdvpr) (w.pages.owners p == t) (search)).1)
+      entered_beside t p most (vp_of w t p (search)).owner
   row-beside (call.MemSeptAdd t gpa level page) ps none =
       let upper : 1 ≤ level = (range_of level 3 (search)).0 in
       plain (After (call.MemSeptAdd t gpa level page)) refl refl (λ x n. upper_stays w.tds.entries t level (number_at level gpa) x n _ upper) (λ q. lower w.pages.blocked page q)
