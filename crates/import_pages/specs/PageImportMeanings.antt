@@ -211,7 +211,7 @@ module _ (m : Machine) (c : Instant) (b : Option Incoming) (t slot page : ℕ) (
               (mapped-shown m c.state c.memory t p (page_of_gpa gpa) k ws sh y.alive node.page.kind stream in_stream);
         },
         subst (λ (v : World). MayChange m g w v c.memory (word_puts p ws 0 512 ++ counter_changes room)) (sym same)
-        (puts-change m g w w' p ws inside word-owes (counter_changes room) (λ mem. (((in_stream, omega arith), (KeepsNothing, counter-owes, tt)), tt)) (word-writes 0) 512 (omega arith) (omega arith) c.memory),
+            (puts-change m g w w' p ws inside word-owes (counter_changes room) (λ mem. (((in_stream, omega arith), (KeepsNothing, counter-owes, tt)), tt)) (word-writes 0) 512 (omega arith) (omega arith) c.memory),
       )
 
       pub mapped-means : Means m c work tree_locks (to_fill_tree t page at room entry.Mapped p further) (page_to_fill w t gpa page entry.Mapped ++ tag_holds x ∷ [])
@@ -271,8 +271,19 @@ module _ (m : Machine) (c : Instant) (b : Option Incoming) (t slot page : ℕ) (
 
         may : MayMap m c taken_locks mapping at
         may = record {
-          lawful = la; shown = sh; small = small; tdr_in = in_tdr; page_in = in_page; alive = y.alive; controls = y.controls; entry = has;
-          locks = free-holds; tree_alone = free-sole; page_alone = free-own; host = host; owned = refl;
+          lawful = la;
+          shown = sh;
+          small = small;
+          tdr_in = in_tdr;
+          page_in = in_page;
+          alive = y.alive;
+          controls = y.controls;
+          entry = has;
+          locks = free-holds;
+          tree_alone = free-sole;
+          page_alone = free-own;
+          host = host;
+          owned = refl;
         }
 
         filled : IsFilled m c mapping (put c.state.world.words page (input_in b).words) (word_puts page (input_in b).words 0 512)

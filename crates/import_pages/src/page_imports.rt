@@ -178,7 +178,7 @@ impl Importing {
     ghost use Rattle.mrtd_measure.specs.declared.measures.Measure.{Measure};
     ghost use Rattle.flat_core.specs.Inputs.{input_in};
     ghost use Rattle.leaf_engine.specs.Decides.{HandsAt};
-    ghost use Rattle.import_pages.specs.PageImportTrees.{page_import_changes, changes_behind};
+    ghost use Rattle.import_pages.specs.PageImportTrees.{counter_changes, page_import_changes, changes_behind};
     ghost use Rattle.import_pages.specs.PageImportStages.{IsShown};
 
     /// The write of that number: first the words of the page, as the payload has them, and what comes
@@ -222,35 +222,28 @@ impl Importing {
                         state: EntryState::Mapped,
                     };
                     map_write(machine, mapping, self.at, children, number)
-                } else if number == 3 {
-                    Some(self.count())
                 } else {
-                    None
+                    self.count(machine, number - 3)
                 }
             }
-            None => {
-                if number == 0 {
-                    Some(self.count())
-                } else {
-                    None
-                }
-            }
+            None => self.count(machine, number),
         }
     }
 
-    ghost use Rattle.step_core.specs.declared.steps.WordStep.TheVariants as step;
-    ghost use Rattle.leaf_engine.specs.declared.needs.Write.TheVariants as write;
-    ghost use Rattle.td_words.specs.Address.{word_at};
-
-    /// The stream counts the bundle.
-    fn count(self) -> Write
-        requires { self.room.counter < 4294967295 }
-        ensures { result ≡ write.Word (step.Store (word_at self.room.page 0) (self.room.counter + 1)) }
+    /// The write of that number where the stream counts the bundle.
+    fn count(self, machine: Machine, number: usize) -> Option<Write>
+        requires { (self.room.page < machine.pages) × (self.room.counter < 4294967295) }
+        ensures hands { (h : Option Measure) → HandsAt machine (counter_changes self.room) number h h result }
+        ensures few { MatchOption result Unit (λ w. number < 1) }
     {
-        Write::store(
-            word_address(self.room.page, STREAM_COUNTER),
-            u64::from(self.room.counter) + 1,
-        )
+        if number == 0 {
+            Some(Write::store(
+                word_address(self.room.page, STREAM_COUNTER),
+                u64::from(self.room.counter) + 1,
+            ))
+        } else {
+            None
+        }
     }
 }
 

@@ -98,8 +98,19 @@ module _ (m : Machine) (c : Instant) (t gpa p q : ℕ) (limits : IsMachine m) (i
         let y : Mapping = private_mapping t gpa p in
         let words = put v.words p (v.words q) in
         let may : MayMap m c held y table = record {
-          lawful = la; shown = sh; small = small; tdr_in = in_tdr; page_in = in_page; alive = x.alive; controls = x.controls; entry = has;
-          locks = locks; tree_alone = tree-alone; page_alone = page-alone; host = host; owned = refl;
+          lawful = la;
+          shown = sh;
+          small = small;
+          tdr_in = in_tdr;
+          page_in = in_page;
+          alive = x.alive;
+          controls = x.controls;
+          entry = has;
+          locks = locks;
+          tree_alone = tree-alone;
+          page_alone = page-alone;
+          host = host;
+          owned = refl;
         } in
         let copied : IsFilled m c y words (page_fills full) =
         private-filled m c y words (page_fills full) refl in_page host (page-set m c.memory c.state p (v.words q) (λ i. c.memory.words (place.Word q i)) (λ i few. host-word m c sh q in_source source i few) sh host) in

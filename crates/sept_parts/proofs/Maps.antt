@@ -214,8 +214,19 @@ module _ (m : Machine) (c : Instant) (row : Row) (x : Mapping) (ops : List OpSta
     ended free host =
         let its = own free host in
         let may : MayMap m c (map_locks x) x table = record {
-          lawful = la; shown = sh; small = can.gpa; tdr_in = can.tdr; page_in = can.page; alive = y.alive; controls = y.controls; entry = has;
-          locks = locks; tree_alone = sole; page_alone = rw (eq-eqb x.page x.page refl) refl; host = host; owned = owned;
+          lawful = la;
+          shown = sh;
+          small = can.gpa;
+          tdr_in = can.tdr;
+          page_in = can.page;
+          alive = y.alive;
+          controls = y.controls;
+          entry = has;
+          locks = locks;
+          tree_alone = sole;
+          page_alone = rw (eq-eqb x.page x.page refl) refl;
+          host = host;
+          owned = owned;
         } in
         map-end m c (map_locks x) x table may words fills its.filled row [] (ap (λ (z : World). z.pages) act_is) (ap (λ (z : World). z.tds.lives) act_is) (ap (λ (z : World). z.tds.controls) act_is)
         answers its.allowed its.respects
@@ -223,9 +234,13 @@ module _ (m : Machine) (c : Instant) (row : Row) (x : Mapping) (ops : List OpSta
         (map-shown m c (map_locks x) x table may words fills its.filled)) tt
 
     found-means : Means m c (work_of (OfCall row)) tree_locks (map_tree m.pages fills x (record { page = table; entry = entry_at c.state.world x.tdr x.level x.gpa })) items
-    found-means = (refl, λ e. refl, λ free.
-        taken-page-means m c sh (work_of (OfCall row)) tree_locks x.tdr x.page y.alive.kind y.own can.tdr can.page (inr (inr (inl (locks.tdr, (locks.op, (sole, tt))))))
-        (λ n. done fills (map_changes m.pages x table n)) [] (λ host. ended free host))
+    found-means = (
+      refl,
+      λ e. refl,
+      λ free.
+          taken-page-means m c sh (work_of (OfCall row)) tree_locks x.tdr x.page y.alive.kind y.own can.tdr can.page (inr (inr (inl (locks.tdr, (locks.op, (sole, tt))))))
+          (λ n. done fills (map_changes m.pages x table n)) [] (λ host. ended free host),
+    )
 
   pub map-row-means : (cs : List (Bool × Status)) → (AllHold cs → CanMap m x) → (AllHold cs → IsTd m c.state.world x.tdr ops → IsFree → is_host c.state.world x.page ≡ true → Fills m c row x words fills)
       → Means m c (work_of (OfCall row)) [] (checked cs (td_map_tree m.pages ops fills x))
