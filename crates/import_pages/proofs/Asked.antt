@@ -6,6 +6,7 @@ use Rattle.flat_core.specs.World.{ClearHeader}
 use Rattle.flat_core.specs.Inputs.{Input}
 use Rattle.leaf_engine.specs.Trees.{Tree}
 use Rattle.leaf_parts.specs.declared.heads.Td.{Td}
+use Rattle.leaf_parts.specs.Arguments.{checked}
 use Rattle.sept_parts.specs.declared.finds.Found.{Found}
 use Rattle.sept_parts.specs.SeptTrees.{tree_lock_tree, find_tree}
 use Rattle.stream_parts.specs.declared.rooms.Room.{Room}
@@ -64,7 +65,7 @@ module _ (n t page : ℕ) (x : Input) where
 -- the arguments, and the form of the bundle
 module _ (m : Machine) (x : Input) (t slot page : ℕ) where
   abbrev pub arguing : (Unit {0} → Tree) → Tree
-  arguing f = page_import_arguments m t page (f tt)
+  arguing f = checked (page_import_arguments m t page) (f tt)
 
   abbrev pub formed : (Unit {0} → Tree) → Tree
   formed f = input_tree x slot (3 ∷ []) (f tt)

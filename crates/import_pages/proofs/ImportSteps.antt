@@ -4,7 +4,6 @@ use Rattle.td_words.specs.declared.replies.Value.TheVariants as value
 use Rattle.td_words.specs.declared.replies.Reply.TheVariants.{Done}
 use Rattle.td_words.specs.declared.machines.Machine.{Machine}
 use Rattle.flat_core.specs.Inputs.{Input}
-use Rattle.sept_walk.specs.SecureEpt.{index_at}
 use Rattle.leaf_engine.specs.declared.needs.Need.TheVariants as need
 use Rattle.leaf_engine.specs.declared.plans.Stop.{Stop}
 use Rattle.leaf_engine.specs.Decides.{Wants, need_for, told_then}
@@ -16,20 +15,20 @@ use Rattle.import_pages.specs.PageImportTrees.{end_by, page_import_asked, page_i
 use Rattle.import_pages.specs.PageImportStages.{rest_of, HasRoom, IsKnown, IsShown, EndsAs}
 
 -- the end, either way
-module _ (pages tdr index : ℕ) (ws : ℕ → ℕ) (y : Importing) where
-  end-fed : (n : Option ℕ) (xs : List ℕ) → feed (end_by pages tdr index ws y n) xs ≡ end_by pages tdr index ws y n
+module _ (pages tdr gpa : ℕ) (ws : ℕ → ℕ) (y : Importing) where
+  end-fed : (n : Option ℕ) (xs : List ℕ) → feed (end_by pages tdr gpa ws y n) xs ≡ end_by pages tdr gpa ws y n
   end-fed (Some n) xs = refl
   end-fed None xs = refl
 
-  end-passed : (n : Option ℕ) → passed (settle (end_by pages tdr index ws y n)) ≡ end_by pages tdr index ws y n
+  end-passed : (n : Option ℕ) → passed (settle (end_by pages tdr gpa ws y n)) ≡ end_by pages tdr gpa ws y n
   end-passed (Some n) = refl
   end-passed None = refl
 
-  end-gives : (n : Option ℕ) (k : ℕ) → Wants k (settle (end_by pages tdr index ws y n)) (need.Verdict (Done value.Nothing))
+  end-gives : (n : Option ℕ) (k : ℕ) → Wants k (settle (end_by pages tdr gpa ws y n)) (need.Verdict (Done value.Nothing))
   end-gives (Some n) k = refl
   end-gives None k = refl
 
-  end-changes : (n : Option ℕ) → y.children ≡ n → changes_of (end_by pages tdr index ws y n) ≡ page_import_changes pages tdr index ws y
+  end-changes : (n : Option ℕ) → y.children ≡ n → changes_of (end_by pages tdr gpa ws y n) ≡ page_import_changes pages tdr gpa ws y
   end-changes (Some n) is = rw is refl
   end-changes None is = rw is refl
 
@@ -65,13 +64,13 @@ module _ (m : Machine) (x : Input) (t slot page : ℕ) (o : Option Importing) (t
     -- all of them hold
     module _ (left : List ℕ) (y : Importing) (shown : Feeds (λ (f : Importing → Tree). page_import_asked m x t slot page f) told left (Ok y)) where
       found : here ≡ page_import_end m t x y
-      found = asks ∙ (shown (page_import_end m t x) ∙ end-fed m.pages t (index_at 0 x.header.gpa) x.words y y.children left)
+      found = asks ∙ (shown (page_import_end m t x) ∙ end-fed m.pages t x.header.gpa x.words y y.children left)
 
       pub found-gives : Wants m.pages (settle here) (need.Verdict (Done value.Nothing))
-      found-gives = subst (λ (u : Tree). Wants m.pages (settle u) (need.Verdict (Done value.Nothing))) (sym found) (end-gives m.pages t (index_at 0 x.header.gpa) x.words y y.children m.pages)
+      found-gives = subst (λ (u : Tree). Wants m.pages (settle u) (need.Verdict (Done value.Nothing))) (sym found) (end-gives m.pages t x.header.gpa x.words y y.children m.pages)
 
       pub found-kept : rest_of m x t slot page (Some y) told ≡ passed (settle here)
-      found-kept = subst (λ (u : Tree). page_import_end m t x y ≡ passed (settle u)) (sym found) (sym (end-passed m.pages t (index_at 0 x.header.gpa) x.words y y.children))
+      found-kept = subst (λ (u : Tree). page_import_end m t x y ≡ passed (settle u)) (sym found) (sym (end-passed m.pages t x.header.gpa x.words y y.children))
 
       pub found-ends : IsShown m t y → EndsAs m x t here (Some y)
       found-ends s = (found, s)
@@ -95,14 +94,14 @@ module _ (m : Machine) (x : Input) (t slot page : ℕ) (o : Option Importing) (t
     kept = ap (λ (z : Option Importing). rest_of m x t slot page z told) some
 
     pub kept-gives : Wants m.pages (settle here) (need.Verdict (Done value.Nothing))
-    kept-gives = subst (λ (u : Tree). Wants m.pages (settle u) (need.Verdict (Done value.Nothing))) (sym kept) (end-gives m.pages t (index_at 0 x.header.gpa) x.words y y.children m.pages)
+    kept-gives = subst (λ (u : Tree). Wants m.pages (settle u) (need.Verdict (Done value.Nothing))) (sym kept) (end-gives m.pages t x.header.gpa x.words y y.children m.pages)
 
     pub kept-passed : here ≡ passed (settle here)
-    kept-passed = subst (λ (u : Tree). u ≡ passed (settle u)) (sym kept) (sym (end-passed m.pages t (index_at 0 x.header.gpa) x.words y y.children))
+    kept-passed = subst (λ (u : Tree). u ≡ passed (settle u)) (sym kept) (sym (end-passed m.pages t x.header.gpa x.words y y.children))
 
     pub kept-ends : IsKnown m t o told → EndsAs m x t here (Some y)
     kept-ends known = (kept, (subst (λ (z : Option Importing). IsKnown m t z told) some known).0)
 
 -- what its changes are
-pub ends-changes : (m : Machine) (x : Input) (t : ℕ) (rest : Tree) (y : Importing) → EndsAs m x t rest (Some y) → changes_of rest ≡ page_import_changes m.pages t (index_at 0 x.header.gpa) x.words y
-ends-changes m x t rest y ends = ap changes_of ends.0 ∙ end-changes m.pages t (index_at 0 x.header.gpa) x.words y y.children refl
+pub ends-changes : (m : Machine) (x : Input) (t : ℕ) (rest : Tree) (y : Importing) → EndsAs m x t rest (Some y) → changes_of rest ≡ page_import_changes m.pages t x.header.gpa x.words y
+ends-changes m x t rest y ends = ap changes_of ends.0 ∙ end-changes m.pages t x.header.gpa x.words y y.children refl

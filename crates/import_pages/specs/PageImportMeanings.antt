@@ -18,7 +18,7 @@ use Rattle.td_words.specs.Limits.{IsMachine}
 use Rattle.td_words.specs.NameNumber.{op_number}
 use Rattle.td_words.specs.Packing.{Entry}
 use Rattle.td_words.specs.Place as place
-use Rattle.flat_core.specs.World.{World, ClearHeader}
+use Rattle.flat_core.specs.World.{World, ClearHeader, put}
 use Rattle.flat_core.specs.Opening.{Incoming}
 use Rattle.flat_core.specs.Processor.{OfPage, OfTree, Held}
 use Rattle.flat_core.specs.Row.{Item}
@@ -48,21 +48,25 @@ use Rattle.leaf_engine.specs.Changes.{Memory, Change, Put, changed, changed_all}
 use Rattle.leaf_engine.specs.Trees.{Tree, Load, needs, done}
 use Rattle.leaf_engine.specs.Means.{Instant, Means, MeansRow, MayFillAll, MayOweAll, MayChange, LocksStay, Work, work_of, OfCall, hold}
 use Rattle.leaf_parts.proofs.Aside.{apart, turned}
-use Rattle.leaf_parts.proofs.Begun.{IsTd, op_lock, page_lock, page-in}
-use Rattle.leaf_parts.proofs.Checks.{AllHold, spot_of, at-spot, host-page-means, td-row-means}
-use Rattle.leaf_parts.proofs.Told.{tdr-shown}
+use Rattle.leaf_parts.proofs.Begun.{IsTd, op_lock, page_lock, page-in, locks-kept}
+use Rattle.leaf_parts.specs.Arguments.{AllHold}
+use Rattle.leaf_parts.proofs.Checks.{spot_of, at-spot, td-row-means}
+use Rattle.leaf_parts.proofs.HostPages.{host-fills, taken-page-means}
 use Rattle.sept_parts.specs.SeptPages.{HasEntry, HoldsTree}
 use Rattle.sept_parts.specs.SeptTrees.{find_tree}
+use Rattle.sept_parts.specs.declared.mappings.Mapping.{Mapping}
+use Rattle.sept_parts.specs.MapTrees.{private_mapping, map_changes}
+use Rattle.sept_parts.proofs.Maps.{mapped, MayMap, IsFilled, private-filled, map-shown, map-end}
 use Rattle.sept_parts.proofs.SeptBegun.{tree-lock-means, find-means}
-use Rattle.sept_parts.proofs.SeptLocks.{tree_held, entry-writes, count-reads, count-owes}
+use Rattle.sept_parts.proofs.SeptLocks.{tree_held}
 use Rattle.stream_parts.specs.declared.rooms.Room.{Room}
 use Rattle.stream_parts.proofs.StreamWords.{page-of, stream-spot}
 use Rattle.stream_parts.proofs.StreamMeans.{HoldsHead, tdcs-means}
 use Rattle.import_parts.specs.InputTrees.{input_checks, tag_tree, session_same_tree, epoch_same_tree, counter_due_tree}
 use Rattle.import_parts.proofs.InputMeans.{session_same-in, epoch_same-in, counter_due-in}
 use Rattle.import_pages.specs.declared.page_imports.Importing.{Importing}
-use Rattle.import_pages.specs.PageImportTrees.{td_rest, due_bundle_tree, found_rest, to_fill_tree, word_puts, counter_changes, changes_behind, page_import_end, page_import_task}
-use Rattle.import_pages.specs.PageImportShows.{mapped-shown, taken-shown}
+use Rattle.import_pages.specs.PageImportTrees.{page_import_arguments, td_rest, due_bundle_tree, found_rest, to_fill_tree, word_puts, counter_changes, changes_behind, page_import_end, page_import_task}
+use Rattle.import_pages.specs.PageImportShows.{words-stored, counted-shown, mapped-shown}
 
 -- in the operation states in which pages come in no guest runs
 not-run : (o : OpState) → list_any (λ s. op_number s == op_number o) filling_ops ≡ true → runs_in o ≡ false
@@ -145,21 +149,6 @@ module _ (m : Machine) (c : Instant) (b : Option Incoming) (t slot page : ℕ) (
   abbrev act_by : EntryState → World
   act_by s = count_bundle t (input_in b).header.stream (begin_memory t (page_of_gpa (input_in b).header.gpa) (input_in b).words (fill_page t (input_in b).header.gpa page (input_in b).words s c.state.world))
 
-  -- an end with changes that are allowed, and are that act
-  ended : (hs : List Held) (fills changes : List Change) (s : EntryState) → e.state ≡ s → (act_by s).outgoing.bundles ≡ w.outgoing.bundles → MayFillAll m (hold c hs) w fills → Respects (hold c hs) w (act_by s) → LocksStay w (act_by s) hs
-      → (let mem = changed_all changes (changed_all fills c.memory) in Shows m mem.words mem.slots (record (c.state) { world = act_by s })) → MayChange m (hold c hs) w (act_by s) (changed_all fills c.memory) changes → Means m c work hs (done fills changes) []
-  ended hs fills changes s is bundles filling respects stay shows may =
-      let same : work.act w ≡ act_by s = ap act_by is in (
-        record {
-          answers = record { reply_is = refl; cached_is = refl; enters_is = refl; notes_are = refl; tells_are = refl; bundles_are = ap (λ (v : World). v.outgoing.bundles) same ∙ bundles };
-          fills_allowed = filling;
-          respects = subst (λ (v : World). Respects (hold c hs) w v) (sym same) respects;
-          locks_stay = subst (λ (v : World). LocksStay w v hs) (sym same) stay;
-          shows = subst (λ (v : World). (let mem = changed_all changes (changed_all fills c.memory) in Shows m mem.words mem.slots (record (c.state) { world = v }))) (sym same) shows;
-        },
-        subst (λ (v : World). MayChange m (hold c hs) w v (changed_all fills c.memory) changes) (sym same) may,
-      )
-
   module _ (stream : IsPageOf c.state.world.pages t (stream_page c.state.world t (input_in b).header.stream) kind.Migsc) (in_stream : stream_page c.state.world t (input_in b).header.stream < m.pages) (at : ℕ) (has : HasEntry m c.state.world t y.controls.root at (input_in b).header.gpa 0) where
     abbrev q : ℕ
     q = stream_page c.state.world t (input_in b).header.stream
@@ -208,15 +197,22 @@ module _ (m : Machine) (c : Instant) (b : Option Incoming) (t slot page : ℕ) (
       counter-owes : Owes g w' (place.Word q 0) KeepsNothing
       counter-owes = at-spot g w' (place.Word q 0) (spot_of StreamWord t q) (λ z. owes z KeepsNothing) (stream-spot w' t q 0 (record { kind = stream.kind; owner = stream.owner })) (inr (inr (inl (locks.tdr, (locks.op, (sole, tt))))))
 
-      stands : TdStands w t → TdStands w' t
-      stands a = record { alive = record { kind = a.alive.kind; life = a.alive.life }; has_tdcs = a.has_tdcs }
+      same : (import_page m b t slot page).act w ≡ act_by entry.Mapped
+      same = ap act_by is
 
       mapped-ended : Means m c work mapped_locks (page_import_end m t x (record { at = at; page = p; children = None; room = room })) []
-      mapped-ended = ended mapped_locks [] (word_puts p ws 0 512 ++ counter_changes room) entry.Mapped is refl tt
-          (leaves g w w' (all-same w w' refl (λ u. record { op = refl; controls = refl; epoch = refl; empty = λ z. refl; named = λ z. refl })) (λ z. refl) refl)
-          ((refl, λ z. z), ((refl, stands), ((refl, stands), ((refl, λ z. z), tt))))
-          (mapped-shown m c.state c.memory t p (page_of_gpa gpa) k ws sh y.alive node.page.kind stream in_stream)
-          (puts-change m g w w' p ws inside word-owes (counter_changes room) (λ mem. (((in_stream, omega arith), (KeepsNothing, counter-owes, tt)), tt)) (word-writes 0) 512 (omega arith) (omega arith) c.memory)
+      mapped-ended = (
+        record {
+          answers = record { reply_is = refl; cached_is = refl; enters_is = refl; notes_are = refl; tells_are = refl; bundles_are = ap (λ (v : World). v.outgoing.bundles) same };
+          fills_allowed = tt;
+          respects = subst (λ (v : World). Respects g w v) (sym same) (leaves g w w' (all-same w w' refl (λ u. record { op = refl; controls = refl; epoch = refl; empty = λ z. refl; named = λ z. refl })) (λ z. refl) refl);
+          locks_stay = subst (λ (v : World). LocksStay w v mapped_locks) (sym same) (locks-kept w w' refl (λ u z. record { kind = z.kind; life = z.life }) mapped_locks);
+          shows = subst (λ (v : World). (let mem = changed_all (word_puts p ws 0 512 ++ counter_changes room) c.memory in Shows m mem.words mem.slots (record (c.state) { world = v }))) (sym same)
+              (mapped-shown m c.state c.memory t p (page_of_gpa gpa) k ws sh y.alive node.page.kind stream in_stream);
+        },
+        subst (λ (v : World). MayChange m g w v c.memory (word_puts p ws 0 512 ++ counter_changes room)) (sym same)
+            (puts-change m g w w' p ws inside word-owes (counter_changes room) (λ mem. (((in_stream, omega arith), (KeepsNothing, counter-owes, tt)), tt)) (word-writes 0) 512 (omega arith) (omega arith) c.memory),
+      )
 
       pub mapped-means : Means m c work tree_locks (to_fill_tree t page at room entry.Mapped p further) (page_to_fill w t gpa page entry.Mapped ++ tag_holds x ∷ [])
       mapped-means = (refl, refl, record { in_machine = inside; at = refl; stands = tt; allowed = inl tt }, (refl, λ z. refl, λ right. mapped-ended))
@@ -229,8 +225,8 @@ module _ (m : Machine) (c : Instant) (b : Option Incoming) (t slot page : ℕ) (
       abbrev free_grip : Grip
       free_grip = hold c taken_locks
 
-      abbrev free_world : World
-      free_world = act_by entry.Free
+      abbrev mapping : Mapping
+      mapping = private_mapping t (input_in b).header.gpa page
 
       free-holds : HoldsTree (taken_locks ++ c.kept) t
       free-holds = record { tdr = rw (page_t, eq-eqb t t refl) refl; op = rw (eq-eqb t t refl) refl; tree = rw (eq-eqb t t refl) refl }
@@ -241,74 +237,77 @@ module _ (m : Machine) (c : Instant) (b : Option Incoming) (t slot page : ℕ) (
       free-own : holds_alone (taken_locks ++ c.kept) (OfPage page) ≡ true
       free-own = rw (eq-eqb page page refl) refl
 
-      t-page : (t == page) ≡ false
-      t-page = turned page t page_t
-
-      alive-then : IsAlive free_world.pages free_world.tds t
-      alive-then = record { kind = rw t-page y.alive.kind; life = y.alive.life }
-
-      own-then : free_world.pages.owners t ≡ t
-      own-then = rw t-page y.own
-
-      free-stands : TdStands w t → TdStands free_world t
-      free-stands a = record { alive = alive-then; has_tdcs = a.has_tdcs }
-
-      children-word : c.memory.words (place.Word t TDR_CHILDREN) ≡ children w t
-      children-word = tdr-shown m c.memory.words c.memory.slots c.state sh t 2 y.alive.kind y.own in_tdr (omega arith)
-
       abbrev taking : ℕ → Importing
       taking n = record { at = at; page = page; children = Some n; room = room }
 
       module _ (host : is_host w page ≡ true) where
-        q-page : (q == page) ≡ false
-        q-page = apart w.pages.kinds q page kind.Migsc kind.Nda stream.kind (host_kind (w.pages.kinds page) host) (λ z. cc)
-
-        stream-then : IsPageOf free_world.pages t q kind.Migsc
-        stream-then = record { kind = rw q-page stream.kind; owner = rw q-page stream.owner }
-
-        fills : (i : ℕ) → Fills free_grip w (place.Word page i)
-        fills i = rw (host_kind (w.pages.kinds page) host) (inl (free-own, tt))
-
-        free-counter : Owes free_grip free_world (place.Word q 0) KeepsNothing
-        free-counter = at-spot free_grip free_world (place.Word q 0) (spot_of StreamWord t q) (λ z. owes z KeepsNothing) (stream-spot free_world t q 0 stream-then) (inr (inr (inl (free-holds.tdr, (free-holds.op, (free-sole, tt))))))
+        abbrev mapped_world : World
+        mapped_world = map_page page kind.Reg entry.Mapped t 0 (number_at 0 (input_in b).header.gpa) c.state.world
 
         abbrev node_taken : World
         node_taken = take_node page kind.Reg t 0 (number_at 0 (input_in b).header.gpa) c.state.world
 
-        abbrev mapped : World
-        mapped = map_page page kind.Reg entry.Mapped t 0 (number_at 0 (input_in b).header.gpa) c.state.world
+        same : (import_page m b t slot page).act w ≡ act_by entry.Free
+        same = ap act_by is
 
-        respects : Respects free_grip w free_world
+        respects : Respects free_grip w (act_by entry.Free)
         respects =
-            respects-compose.both free_grip w mapped free_world
-            (respects-compose.both free_grip w node_taken mapped ((effects-respect free_grip w).taken page kind.Reg t 0 (number_at 0 gpa) host free-own)
+            respects-compose.both free_grip w mapped_world (act_by entry.Free)
+            (respects-compose.both free_grip w node_taken mapped_world ((effects-respect free_grip w).taken page kind.Reg t 0 (number_at 0 gpa) host free-own)
             ((effects-respect free_grip node_taken).entry t 0 (number_at 0 gpa) (record { state = entry.Mapped; page = page; mark = 0 }) (record { tdr = free-holds.tdr; op = free-holds.op }) free-sole))
-            (leaves free_grip mapped free_world (all-same mapped free_world refl (λ u. record { op = refl; controls = refl; epoch = refl; empty = λ z. refl; named = λ z. refl })) (λ z. refl) refl)
+            (leaves free_grip mapped_world (act_by entry.Free) (all-same mapped_world (act_by entry.Free) refl (λ u. record { op = refl; controls = refl; epoch = refl; empty = λ z. refl; named = λ z. refl })) (λ z. refl) refl)
+
+        -- the stream stays, and counts the bundle
+        q-page : (q == page) ≡ false
+        q-page = apart w.pages.kinds q page kind.Migsc kind.Nda stream.kind (host_kind (w.pages.kinds page) host) (λ z. cc)
+
+        stream-then : IsPageOf (act_by entry.Free).pages t q kind.Migsc
+        stream-then = record { kind = rw q-page stream.kind; owner = rw q-page stream.owner }
+
+        counter-then : Owes free_grip (act_by entry.Free) (place.Word q 0) KeepsNothing
+        counter-then =
+            at-spot free_grip (act_by entry.Free) (place.Word q 0) (spot_of StreamWord t q) (λ z. owes z KeepsNothing) (stream-spot (act_by entry.Free) t q 0 stream-then)
+            (inr (inr (inl (free-holds.tdr, (free-holds.op, (free-sole, tt))))))
+
+        may : MayMap m c taken_locks mapping at
+        may = record {
+          lawful = la;
+          shown = sh;
+          small = small;
+          tdr_in = in_tdr;
+          page_in = in_page;
+          alive = y.alive;
+          controls = y.controls;
+          entry = has;
+          locks = free-holds;
+          tree_alone = free-sole;
+          page_alone = free-own;
+          host = host;
+          owned = refl;
+        }
+
+        filled : IsFilled m c mapping (put c.state.world.words page (input_in b).words) (word_puts page (input_in b).words 0 512)
+        filled = private-filled m c mapping (put w.words page ws) (word_puts page ws 0 512) refl in_page host (words-stored page ws m c.state c.memory sh (λ i. rw (host_kind (w.pages.kinds page) host, eq-eqb page page refl) refl))
+
+        abbrev after : Memory
+        after = changed_all (map_changes m.pages mapping at (children c.state.world t)) (changed_all (word_puts page (input_in b).words 0 512) c.memory)
 
         taken-ended : Means m c work taken_locks (page_import_end m t x (taking (children w t))) []
-        taken-ended = ended taken_locks (word_puts page ws 0 512) (changes_behind m.pages t (index_at 0 gpa) (taking (children w t)) (Some (children w t))) entry.Free is refl
-            (puts-fill m free_grip w free_world page ws in_page fills 0 512 (omega arith)) respects
-            ((refl, λ z. z), ((refl, free-stands), ((refl, free-stands), ((refl, λ z. z), tt))))
-            (taken-shown m c.state c.memory t gpa page at (page_of_gpa gpa) k ws sh la y.alive y.controls small has host in_page stream in_stream) (
-              ((has.in_machine, split.index 0 gpa), (KeepsNothing, entry-writes m c t sh y.alive y.controls taken_locks free-holds gpa at 0 small has KeepsNothing free-sole, tt)),
-              (
-                (in_page, (KeepsNothing, inl (free-own, tt), tt)),
-                (
-                  ((in_tdr, omega arith), (KeepsNothing, count-owes m c t sh y.alive y.controls taken_locks free-holds la free-sole free_world alive-then own-then, tt)),
-                  (((in_stream, omega arith), (KeepsNothing, free-counter, tt)), tt),
-                ),
-              ),
-            )
-
-      abbrev kids_tree : Tree
-      kids_tree = Load Whole (place.Word t TDR_CHILDREN) (λ n. further (taking n))
+        taken-ended =
+            map-end m c taken_locks mapping at may (put w.words page ws) (word_puts page ws 0 512) filled (import_page m b t slot page) (counter_changes room)
+            (ap (λ (v : World). v.pages) same) (ap (λ (v : World). v.tds.lives) same) (ap (λ (v : World). v.tds.controls) same)
+            (record { reply_is = refl; cached_is = refl; enters_is = refl; notes_are = refl; tells_are = refl; bundles_are = ap (λ (v : World). v.outgoing.bundles) same })
+            (puts-fill m free_grip w (act_by entry.Free) page ws in_page (λ i. host-fills free_grip w page i host free-own) 0 512 (omega arith))
+            (subst (λ (v : World). Respects free_grip w v) (sym same) respects)
+            (subst (λ (v : World). (let mem = changed_all (counter_changes room) after in Shows m mem.words mem.slots (record (c.state) { world = v }))) (sym same)
+            (counted-shown m (record (c.state) { world = mapped mapping (put w.words page ws) w }) after t (page_of_gpa gpa) k ws
+            (map-shown m c taken_locks mapping at may (put w.words page ws) (word_puts page ws 0 512) filled) y.alive.life stream-then in_stream))
+            (subst (λ (v : World). MayOweAll m free_grip v after (counter_changes room)) (sym same) (((in_stream, omega arith), (KeepsNothing, counter-then, tt)), tt))
 
       pub free-means : Means m c work tree_locks (to_fill_tree t page at room entry.Free e.page further) (page_to_fill w t gpa page entry.Free ++ tag_holds x ∷ [])
-      free-means = host-page-means m c work tree_locks sh page in_page kids_tree (tag_holds x ∷ []) (λ host. (
-        (in_tdr, omega arith),
-        inl (count-reads m c t sh y.alive y.controls taken_locks free-holds la free-sole),
-        subst (λ (n : ℕ). Means m c work taken_locks (further (taking n)) (tag_holds x ∷ [])) (sym children-word) (refl, λ z. refl, λ right. taken-ended host),
-      ))
+      free-means =
+          taken-page-means m c sh work tree_locks t page y.alive.kind y.own in_tdr in_page (inr (inr (inl (free-holds.tdr, (free-holds.op, (free-sole, tt)))))) (λ n. further (taking n)) (tag_holds x ∷ [])
+          (λ host. (refl, λ z. refl, λ right. taken-ended host))
 
     by-state : (s : EntryState) → e.state ≡ s → list_any (λ a. same_state a s) importable ≡ true → Means m c work tree_locks (to_fill_tree t page at room s e.page further) (page_to_fill w t gpa page s ++ tag_holds x ∷ [])
     by-state entry.Free is st = free-means is
@@ -366,7 +365,7 @@ module _ (m : Machine) (c : Instant) (b : Option Incoming) (t slot page : ℕ) (
 
 -- two pages of the machine, and a bundle in form with the words of a page
 abbrev arguments : Machine → Input → (t slot page : ℕ) → List (Bool × Status)
-arguments m x t slot page = (nat_lt t m.pages, OperandInvalid 1) ∷ (nat_lt page m.pages, OperandInvalid 3) ∷ (not (page == t), OperandInvalid 3) ∷ input_checks x slot (3 ∷ [])
+arguments m x t slot page = page_import_arguments m t page ++ input_checks x slot (3 ∷ [])
 
 -- the GPA in a header that has no fault is one of a private page
 gpa-small : (b : Option Incoming) (m : Machine) (t slot page : ℕ) → AllHold (arguments m (input_in b) t slot page) → (input_in b).header.gpa < 2 ^ 47

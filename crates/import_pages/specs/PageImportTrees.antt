@@ -1,40 +1,37 @@
 -- IMPORT.MEM as a decision over the words that it is told, and its changes.
-use Rattle.std.specs.Prelude.{ℕ, zero, suc, ◌+◌, ◌==◌, not, nat_lt, Option, Some, None, List, [], ◌∷◌, ◌++◌}
+use Rattle.std.specs.Prelude.{ℕ, zero, suc, ◌+◌, ◌==◌, Bool, not, nat_lt, Option, Some, None, List, [], ◌∷◌, ◌++◌}
 use Rattle.td_words.specs.declared.names.EntryState.{EntryState}
 use Rattle.td_words.specs.declared.names.EntryState.TheVariants as entry
 use Rattle.td_words.specs.declared.names.HeaderField.TheVariants as field
-use Rattle.td_words.specs.declared.names.PageKind.TheVariants as kind
 use Rattle.td_words.specs.declared.names.Mode.TheVariants.{Shared, Exclusive}
 use Rattle.td_words.specs.declared.machines.Machine.{Machine}
-use Rattle.td_words.specs.declared.places.TheConstants.{TDR_CHILDREN, TDCS_STREAM_COUNT, STREAM_COUNTER}
-use Rattle.td_words.specs.declared.refusals.Status.TheVariants.{OperandInvalid, PageMetadataIncorrect, BundleHeader}
-use Rattle.td_words.specs.Packing.{entry_word, pamt_word}
+use Rattle.td_words.specs.declared.places.TheConstants.{TDCS_STREAM_COUNT, STREAM_COUNTER}
+use Rattle.td_words.specs.declared.refusals.Status.{Status}
+use Rattle.td_words.specs.declared.refusals.Status.TheVariants.{OperandInvalid, BundleHeader}
 use Rattle.td_words.specs.Place as place
 use Rattle.flat_core.specs.World.{ClearHeader}
 use Rattle.flat_core.specs.Opening.{Incoming}
 use Rattle.flat_core.specs.Processor.{OfPage}
 use Rattle.flat_core.specs.Inputs.{Input, input_in}
 use Rattle.flat_core.specs.ImportRows.{filling_ops, importable, import_page}
-use Rattle.sept_walk.specs.SecureEpt.{index_at}
 use Rattle.word_rules.specs.Rules.{Whole}
 use Rattle.leaf_engine.specs.declared.needs.Place.{Place}
 use Rattle.leaf_engine.specs.Changes.{Change, Put}
 use Rattle.leaf_engine.specs.Trees.{Tree, Lock, Load, needs, done}
 use Rattle.leaf_engine.specs.Means.{Task, OfCall}
-use Rattle.leaf_parts.specs.Words.{says_host, raised}
+use Rattle.leaf_parts.specs.Arguments.{checked}
+use Rattle.leaf_parts.specs.HostPages.{taken_page_tree}
 use Rattle.leaf_parts.specs.Heads.{td_head_tree}
 use Rattle.sept_parts.specs.declared.finds.Found.{Found}
+use Rattle.sept_parts.specs.MapTrees.{private_mapping, map_changes}
 use Rattle.sept_parts.specs.SeptTrees.{tree_lock_tree, find_tree, state_tree}
 use Rattle.stream_parts.specs.declared.rooms.Room.{Room}
 use Rattle.import_parts.specs.InputTrees.{input_tree, tag_tree, session_same_tree, epoch_same_tree, counter_due_tree}
 use Rattle.import_pages.specs.declared.page_imports.Importing.{Importing}
 
 -- a TDR page, and another page of the machine
-abbrev pub page_import_arguments : Machine → (tdr page : ℕ) → Tree → Tree
-page_import_arguments m tdr page further =
-    needs (nat_lt tdr m.pages) (OperandInvalid 1)
-    (needs (nat_lt page m.pages) (OperandInvalid 3)
-    (needs (not (page == tdr)) (OperandInvalid 3) further))
+abbrev pub page_import_arguments : Machine → (tdr page : ℕ) → List (Bool × Status)
+page_import_arguments m tdr page = (nat_lt tdr m.pages, OperandInvalid 1) ∷ (nat_lt page m.pages, OperandInvalid 3) ∷ (not (page == tdr), OperandInvalid 3) ∷ []
 
 -- the TD has the stream of the header
 abbrev pub stream_there_tree : (tdcs : ℕ) → ClearHeader → Tree → Tree
@@ -47,11 +44,7 @@ due_bundle_tree pages tdcs h further =
 
 -- where the entry is FREE: PAGE is held alone, and is the host's; and the child count is told
 abbrev pub taken_tree : (tdr page at : ℕ) → Room → (Importing → Tree) → Tree
-taken_tree tdr p a r further =
-    Lock (OfPage p) (place.Lock p) Exclusive
-    (Load Whole (place.Pamt p) (λ pamt.
-    needs (says_host pamt) (PageMetadataIncorrect p)
-    (Load Whole (place.Word tdr TDR_CHILDREN) (λ n. further (record { at = a; page = p; children = Some n; room = r })))))
+taken_tree tdr p a r further = taken_page_tree tdr p (λ n. further (record { at = a; page = p; children = Some n; room = r }))
 
 -- where it is MAPPED: the page that it names is held alone
 abbrev pub named_tree : (named at : ℕ) → Room → (Importing → Tree) → Tree
@@ -75,7 +68,7 @@ td_import_tree pages tdr page x further = td_head_tree pages tdr Shared filling_
 
 -- all conditions
 abbrev pub page_import_asked : Machine → Input → (tdr slot page : ℕ) → (Importing → Tree) → Tree
-page_import_asked m x tdr slot page further = page_import_arguments m tdr page (input_tree x slot (3 ∷ []) (td_import_tree m.pages tdr page x further))
+page_import_asked m x tdr slot page further = checked (page_import_arguments m tdr page) (input_tree x slot (3 ∷ []) (td_import_tree m.pages tdr page x further))
 
 -- words of a page from that one on, so many, one after another
 unfoldable pub word_puts : (page : ℕ) → (ℕ → ℕ) → (from left : ℕ) → List Change
@@ -86,26 +79,22 @@ word_puts page ws from (suc left) = Put (place.Word page from) (ws from) ∷ wor
 abbrev pub counter_changes : Room → List Change
 counter_changes r = Put (place.Word r.page STREAM_COUNTER) (r.counter + 1) ∷ []
 
--- behind the words: where a page is taken, the entry that names it, its PAMT word and the child count; and the counter
-abbrev pub changes_behind : (pages tdr index : ℕ) → Importing → Option ℕ → List Change
-changes_behind pages tdr index x (Some n) =
-    Put (place.Word x.at index) (entry_word (record { state = entry.Mapped; page = x.page; mark = 0 }))
-    ∷ Put (place.Pamt x.page) (pamt_word (record { kind = kind.Reg; owner = tdr; epoch = 0 }))
-    ∷ Put (place.Word tdr TDR_CHILDREN) (raised pages n)
-    ∷ counter_changes x.room
-changes_behind pages tdr index x None = counter_changes x.room
+-- behind the words: where a page is taken, it is mapped; and the counter
+abbrev pub changes_behind : (pages tdr gpa : ℕ) → Importing → Option ℕ → List Change
+changes_behind pages tdr gpa x (Some n) = map_changes pages (private_mapping tdr gpa x.page) x.at n ++ counter_changes x.room
+changes_behind pages tdr gpa x None = counter_changes x.room
 
-abbrev pub page_import_changes : (pages tdr index : ℕ) → (ℕ → ℕ) → Importing → List Change
-page_import_changes pages tdr index ws x = word_puts x.page ws 0 512 ++ changes_behind pages tdr index x x.children
+abbrev pub page_import_changes : (pages tdr gpa : ℕ) → (ℕ → ℕ) → Importing → List Change
+page_import_changes pages tdr gpa ws x = word_puts x.page ws 0 512 ++ changes_behind pages tdr gpa x x.children
 
 -- the words of a page that is taken are stored before the act, which is its entry's store; those of a page that is mapped are
 -- the act and what follows it
-abbrev pub end_by : (pages tdr index : ℕ) → (ℕ → ℕ) → Importing → Option ℕ → Tree
-end_by pages tdr index ws x (Some n) = done (word_puts x.page ws 0 512) (changes_behind pages tdr index x (Some n))
-end_by pages tdr index ws x None = done [] (word_puts x.page ws 0 512 ++ changes_behind pages tdr index x None)
+abbrev pub end_by : (pages tdr gpa : ℕ) → (ℕ → ℕ) → Importing → Option ℕ → Tree
+end_by pages tdr gpa ws x (Some n) = done (word_puts x.page ws 0 512) (changes_behind pages tdr gpa x (Some n))
+end_by pages tdr gpa ws x None = done [] (word_puts x.page ws 0 512 ++ changes_behind pages tdr gpa x None)
 
 abbrev pub page_import_end : Machine → (tdr : ℕ) → Input → Importing → Tree
-page_import_end m tdr x y = end_by m.pages tdr (index_at 0 x.header.gpa) x.words y y.children
+page_import_end m tdr x y = end_by m.pages tdr x.header.gpa x.words y y.children
 
 abbrev pub page_import_tree : Machine → Input → (tdr slot page : ℕ) → Tree
 page_import_tree m x tdr slot page = page_import_asked m x tdr slot page (page_import_end m tdr x)

@@ -4,6 +4,7 @@ ghost use Rattle.std.specs.Prelude.{◌≡◌, ℕ, ◌+◌, ◌-◌, ◌^◌, �
 ghost use Rattle.flat_core.specs.Opening.{clear_header};
 ghost use Rattle.flat_core.specs.Inputs.{input_in};
 ghost use Rattle.leaf_engine.specs.Inside.{StopIn, StopEarly};
+ghost use Rattle.leaf_parts.specs.Arguments.{checked};
 ghost use Rattle.leaf_parts.specs.Parts.{Goes, Feeds, Uses};
 ghost use Rattle.import_pages.specs.PageImportStages.{IsShown};
 ghost use Rattle.import_pages.specs.PageImportTrees.{page_import_arguments, stream_there_tree, due_bundle_tree, taken_tree, named_tree, found_rest, td_rest, td_import_tree, page_import_asked};
@@ -12,14 +13,14 @@ use crate::page_imports::Importing;
 use import_parts::{counter_due, epoch_same, header_of, input_of, session_same, tag_holds};
 use incoming::Incoming;
 use leaf_engine::{Place, Stop, Told};
-use leaf_parts::{says_host, td_head};
+use leaf_parts::{taken_page, td_head};
 use sept_entry::Entry;
 use sept_parts::{Found, find, is_state_among, tree_lock};
 use stream_parts::Room;
-use td_words::places::{TDCS_STREAM_COUNT, TDR_CHILDREN};
+use td_words::places::TDCS_STREAM_COUNT;
 use td_words::{
     EntryState, Header, HeaderField, LockName, Machine, Mode, OpState, Status, lock_address,
-    pamt_address, word_address,
+    word_address,
 };
 
 /// The kind of a bundle that has the words of a page.
@@ -52,8 +53,8 @@ pub fn to_import(
 
 /// The arguments: a TDR page, and another page of the machine.
 fn are_in_range(told: &Told, machine: Machine, tdr: u64, page: u64) -> Result<(), Stop>
-    ensures goes { Goes machine.pages (λ f. page_import_arguments machine tdr page (f tt)) told.now.left.now told.now.left.now result }
-    ensures feeds { Feeds (λ f. page_import_arguments machine tdr page (f tt)) told.now.left.now told.now.left.now result }
+    ensures goes { Goes machine.pages (λ f. checked (page_import_arguments machine tdr page) (f tt)) told.now.left.now told.now.left.now result }
+    ensures feeds { Feeds (λ f. checked (page_import_arguments machine tdr page) (f tt)) told.now.left.now told.now.left.now result }
     ensures uses { Uses 0 told.now.left.now told.now.left.now result }
     ensures inside { MatchResult result (λ u. (tdr < machine.pages) × (page < machine.pages)) (λ e. StopIn machine e) }
 {
@@ -203,10 +204,7 @@ fn page_taken(
     ensures uses { Uses 3 told.old.left.now told.new.left.now result }
     ensures inside { MatchResult result (λ y. (y.at ≡ at) × (y.page ≡ page) × (y.room ≡ room)) (λ e. StopIn place.machine e) }
 {
-    told.lock(LockName::Page(page), lock_address(page), Mode::Exclusive)?;
-    let pamt = told.load(pamt_address(page))?;
-    told.check(says_host(pamt), Status::PageMetadataIncorrect(page))?;
-    let children = told.load(word_address(tdr, TDR_CHILDREN))?;
+    let children = taken_page(told, place, tdr, page)?;
     Ok(Importing {
         at,
         page,

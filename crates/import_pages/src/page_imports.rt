@@ -9,13 +9,11 @@ use arrayvec::ArrayVec;
 use import_parts::header_of;
 use incoming::Incoming;
 use leaf_engine::{ANSWERS, Leaf, Need, Place, Stop, Told, Write, need_at};
-use leaf_parts::{owner_word, raised};
 use mrtd_measure::Measure;
-use sept_entry::Entry;
-use sept_walk::index;
+use sept_parts::{Mapping, map_write};
 use stream_parts::Room;
-use td_words::places::{STREAM_COUNTER, TDR_CHILDREN};
-use td_words::{EntryState, Machine, PageKind, Reply, Value, pamt_address, word_address};
+use td_words::places::STREAM_COUNTER;
+use td_words::{EntryState, Machine, PageKind, Reply, Value, word_address};
 
 /// How many words a page has.
 const WORDS: usize = 512;
@@ -160,11 +158,11 @@ impl<'a> Leaf for PageImport<'a> {
 
     fn write(&mut self, _hasher: &mut Option<Measure>) -> Option<Write> {
         let importing = self.ended()?;
-        let at = index(0, header_of(&self.input).gpa);
+        let gpa = header_of(&self.input).gpa;
         let write = importing.write(
             self.place.machine,
             self.tdr as u16,
-            at,
+            gpa,
             &self.input,
             self.written,
         )?;
@@ -180,7 +178,7 @@ impl Importing {
     ghost use Rattle.mrtd_measure.specs.declared.measures.Measure.{Measure};
     ghost use Rattle.flat_core.specs.Inputs.{input_in};
     ghost use Rattle.leaf_engine.specs.Decides.{HandsAt};
-    ghost use Rattle.import_pages.specs.PageImportTrees.{page_import_changes, changes_behind};
+    ghost use Rattle.import_pages.specs.PageImportTrees.{counter_changes, page_import_changes, changes_behind};
     ghost use Rattle.import_pages.specs.PageImportStages.{IsShown};
 
     /// The write of that number: first the words of the page, as the payload has them, and what comes
@@ -189,73 +187,63 @@ impl Importing {
         self,
         machine: Machine,
         tdr: u16,
-        index: u16,
+        gpa: u64,
         input: &Option<Incoming<'_>>,
         number: usize,
     ) -> Option<Write>
-        requires { IsShown machine tdr self × (index < 512) }
-        ensures hands { (h : Option Measure) → HandsAt machine (page_import_changes machine.pages tdr index (input_in input.now).words self) number h h result }
+        requires { IsShown machine tdr self }
+        ensures hands { (h : Option Measure) → HandsAt machine (page_import_changes machine.pages tdr gpa (input_in input.now).words self) number h h result }
         ensures few { MatchOption result Unit (λ w. number < 516) }
     {
         if number < WORDS {
             let word = word_of(input, number);
             Some(Write::store(word_address(self.page, number as u16), word))
         } else {
-            self.write_behind(machine, tdr, index, number - WORDS)
+            self.write_behind(machine, tdr, gpa, number - WORDS)
         }
     }
 
-    /// The write of that number behind the words: where the page is taken, its entry, its PAMT word and
-    /// the child count; and the counter of the stream.
-    fn write_behind(self, machine: Machine, tdr: u16, index: u16, number: usize) -> Option<Write>
-        requires { IsShown machine tdr self × (index < 512) }
-        ensures hands { (h : Option Measure) → HandsAt machine (changes_behind machine.pages tdr index self self.children) number h h result }
+    /// The write of that number behind the words: where the page is taken, what maps it; and the counter
+    /// of the stream.
+    fn write_behind(self, machine: Machine, tdr: u16, gpa: u64, number: usize) -> Option<Write>
+        requires { IsShown machine tdr self }
+        ensures hands { (h : Option Measure) → HandsAt machine (changes_behind machine.pages tdr gpa self self.children) number h h result }
         ensures few { MatchOption result Unit (λ w. number < 4) }
     {
         match self.children {
             Some(children) => {
-                let write = match number {
-                    0 => {
-                        let entry = Entry {
-                            state: EntryState::Mapped,
-                            page: self.page,
-                            mark: 0,
-                        };
-                        Write::store(word_address(self.at, index), entry.pack())
-                    }
-                    1 => Write::store(pamt_address(self.page), owner_word(PageKind::Reg, tdr)),
-                    2 => Write::store(
-                        word_address(tdr, TDR_CHILDREN),
-                        raised(machine.pages, children),
-                    ),
-                    3 => self.count(),
-                    _ => return None,
-                };
-                Some(write)
-            }
-            None => {
-                if number == 0 {
-                    Some(self.count())
+                if number < 3 {
+                    let mapping = Mapping {
+                        tdr,
+                        gpa,
+                        level: 0,
+                        page: self.page,
+                        kind: PageKind::Reg,
+                        state: EntryState::Mapped,
+                    };
+                    map_write(machine, mapping, self.at, children, number)
                 } else {
-                    None
+                    self.count(machine, number - 3)
                 }
             }
+            None => self.count(machine, number),
         }
     }
 
-    ghost use Rattle.step_core.specs.declared.steps.WordStep.TheVariants as step;
-    ghost use Rattle.leaf_engine.specs.declared.needs.Write.TheVariants as write;
-    ghost use Rattle.td_words.specs.Address.{word_at};
-
-    /// The stream counts the bundle.
-    fn count(self) -> Write
-        requires { self.room.counter < 4294967295 }
-        ensures { result ≡ write.Word (step.Store (word_at self.room.page 0) (self.room.counter + 1)) }
+    /// The write of that number where the stream counts the bundle.
+    fn count(self, machine: Machine, number: usize) -> Option<Write>
+        requires { (self.room.page < machine.pages) × (self.room.counter < 4294967295) }
+        ensures hands { (h : Option Measure) → HandsAt machine (counter_changes self.room) number h h result }
+        ensures few { MatchOption result Unit (λ w. number < 1) }
     {
-        Write::store(
-            word_address(self.room.page, STREAM_COUNTER),
-            u64::from(self.room.counter) + 1,
-        )
+        if number == 0 {
+            Some(Write::store(
+                word_address(self.room.page, STREAM_COUNTER),
+                u64::from(self.room.counter) + 1,
+            ))
+        } else {
+            None
+        }
     }
 }
 

@@ -156,10 +156,10 @@ sept-bare p tdr gpa level (Some n) seen used told later = scanned-bare p.machine
 pub import_td-bare : (p : Place) (b : Option Incoming) (tdr slot : ℕ) (told : List ℕ) → IsBare (feed (td_import_tree p.machine (input_in b) tdr slot) told)
 import_td-bare p b tdr slot told = taking-bare b p (call.ImportStateTd tdr slot) told refl
 
-filled-bare : (pages tdr index : ℕ) (ws : ℕ → ℕ) (y : Importing) (o : Option ℕ) → IsBare (end_by pages tdr index ws y o)
-filled-bare pages tdr index ws y (Some n) = refl
-filled-bare pages tdr index ws y None = refl
+filled-bare : (pages tdr gpa : ℕ) (ws : ℕ → ℕ) (y : Importing) (o : Option ℕ) → IsBare (end_by pages tdr gpa ws y o)
+filled-bare pages tdr gpa ws y (Some n) = refl
+filled-bare pages tdr gpa ws y None = refl
 
 pub page_import-bare : (p : Place) (b : Option Incoming) (tdr slot page : ℕ) (o : Option Importing) (told : List ℕ) → IsBare (import_rest_of p.machine (input_in b) tdr slot page o told)
 page_import-bare p b tdr slot page None told = taking-bare b p (call.ImportMem tdr slot page) told refl
-page_import-bare p b tdr slot page (Some y) told = filled-bare p.machine.pages tdr (index_at 0 (input_in b).header.gpa) (input_in b).words y y.children
+page_import-bare p b tdr slot page (Some y) told = filled-bare p.machine.pages tdr (input_in b).header.gpa (input_in b).words y y.children

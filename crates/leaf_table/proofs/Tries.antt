@@ -34,8 +34,9 @@ use Rattle.word_rules.specs.Views.{look, of_entry, rights_by}
 use Rattle.flat_core.specs.Tree.{word_of_gpa}
 use Rattle.flat_core.specs.MemRows.{entry_value, open_states, blocked_states, removed_states}
 use Rattle.flat_core.specs.Table.{most_tries}
+use Rattle.flat_core.specs.Conditions.{growing_ops, augmented_ops}
 use Rattle.leaf_engine.specs.declared.needs.Place.{Place}
-use Rattle.leaf_engine.specs.Changes.{Change}
+use Rattle.leaf_engine.specs.Changes.{Change, Clear}
 use Rattle.leaf_engine.specs.Trees.{Answer, only, Tree, Lock, Load, Test, End, Since, needs, answers, acts, done}
 use Rattle.leaf_engine.specs.Guests.{Step, Operates, Accesses, Loads, Leaves}
 use Rattle.leaf_parts.specs.declared.heads.Td.{Td}
@@ -56,7 +57,9 @@ use Rattle.sept_walk.specs.SecureEpt.{index_at, is_mapped_on}
 use Rattle.sept_parts.specs.declared.finds.Found.{Found}
 use Rattle.sept_parts.specs.SeptTrees.{walk_on_tree, find_tree, state_tree}
 use Rattle.sept_parts.specs.SeptWords.{entry_told}
-use Rattle.mem_build.specs.SeptAddTrees.{sept_add_rest}
+use Rattle.sept_parts.specs.declared.mappings.Mapping.{Mapping}
+use Rattle.sept_parts.specs.MapTrees.{map_tree, td_map_tree}
+use Rattle.mem_build.specs.SeptAddTrees.{sept_mapping}
 use Rattle.mem_remove.specs.declared.named_entries.Named.{Named}
 use Rattle.mem_remove.specs.NamedTrees.{taken_tree, named_tree}
 use Rattle.mem_remove.specs.TrackedTrees.{blocked_told, tracked_from, tracked_tree}
@@ -85,7 +88,7 @@ use Rattle.import_core.specs.TokenTrees.{import_token_task}
 use Rattle.import_core.specs.AbortTrees.{import_abort_task}
 use Rattle.import_pages.specs.declared.page_imports.Importing.{Importing}
 use Rattle.import_pages.specs.PageImportTrees.{to_fill_tree, found_rest, end_by, page_import_end, page_import_task}
-use Rattle.mem_build.specs.PageAugTrees.{page_aug_rest}
+use Rattle.mem_build.specs.PageAugTrees.{page_aug_mapping}
 use Rattle.mem_build.specs.PageAddTrees.{page_add_tree, pages_tree, addition_end}
 use Rattle.mem_build.specs.ExtendTrees.{words_tree, measured_tree, measure_tree}
 use Rattle.leaf_table.specs.Ends.{Ends, call_ends, is_page_seen, step_ends, step_tries, with_bundles, MakesOne, EndsBy, EndsAs, BeginsUnderOther}
@@ -139,6 +142,10 @@ walk-few n pages gpa (suc count) level page k few = λ word. walk-few n pages gp
 
 find-few : (n pages t gpa level : ℕ) (k : Found → Tree) → ((f : Found) → TriesAtMost n (k f)) → TriesAtMost n (find_tree pages t gpa level k)
 find-few n pages t gpa level k few = λ root. walk-few n pages gpa (3 - level) 3 _ _ (λ page word. few _)
+
+-- of a page that is mapped
+map-few : (pages : ℕ) (ops : List OpState) (fills : List Change) (x : Mapping) → TriesAtMost 4 (td_map_tree pages ops fills x)
+map-few pages ops fills x = (omega arith, λ pamt life count tdcs. (omega arith, λ op. (omega arith, find-few 1 pages x.tdr x.gpa x.level (map_tree pages fills x) (λ f. (omega arith, λ host children. refl)))))
 
 pub words-few : (n page at left : ℕ) (seen : List ℕ) (k : List ℕ → Tree) → ((xs : List ℕ) → TriesAtMost n (k xs)) → TriesAtMost n (words_tree page at left seen k)
 unfolding words_tree
@@ -230,9 +237,9 @@ filled-few : (tdr page at : ℕ) (room : Room) (s : EntryState) (named : ℕ) (k
 filled-few tdr page at room entry.Free named k few = (omega arith, λ pamt children. few _)
 filled-few tdr page at room _ named k few = (omega arith, few _)
 
-imported-few : (pages tdr index : ℕ) (ws : ℕ → ℕ) (y : Importing) (o : Option ℕ) → TriesAtMost 0 (end_by pages tdr index ws y o)
-imported-few pages tdr index ws y (Some n) = refl
-imported-few pages tdr index ws y None = refl
+imported-few : (pages tdr gpa : ℕ) (ws : ℕ → ℕ) (y : Importing) (o : Option ℕ) → TriesAtMost 0 (end_by pages tdr gpa ws y o)
+imported-few pages tdr gpa ws y (Some n) = refl
+imported-few pages tdr gpa ws y None = refl
 
 page_import-few : (p : Place) (b : Option Incoming) (tdr slot page : ℕ) → TriesAtMost 4 (page_import_task p b tdr slot page).tree
 page_import-few p b tdr slot page =
@@ -244,7 +251,7 @@ page_import-few p b tdr slot page =
         λ op. (
           omega arith,
           λ streams session epoch stream counter. find-few 1 p.machine.pages tdr x.header.gpa 0 (λ (f : Found). found_rest tdr page (record { page = page_told p.machine.pages stream; counter = counter }) f k)
-              (λ f. filled-few tdr page f.page (record { page = page_told p.machine.pages stream; counter = counter }) f.entry.state f.entry.page k (λ y. imported-few p.machine.pages tdr (index_at 0 x.header.gpa) x.words y y.children)),
+              (λ f. filled-few tdr page f.page (record { page = page_told p.machine.pages stream; counter = counter }) f.entry.state f.entry.page k (λ y. imported-few p.machine.pages tdr x.header.gpa x.words y y.children)),
         ),
       ),
     )
@@ -432,13 +439,13 @@ few_tries g p (call.ExportStateTd tdr slot) h = cc
 few_tries g p (call.ExportStateVp tdr vp slot) h = cc
 few_tries g p (call.ImportAbort tdr slot) h = cc
 few_tries g p (call.VpInit tdr vp value) h = (omega arith, λ pamt life count tdcs. (omega arith, λ op. (omega arith, λ host state. refl)))
-few_tries g p (call.MemSeptAdd tdr gpa level page) h = (omega arith, λ pamt life count tdcs. (omega arith, λ op. (omega arith, find-few 1 p.machine.pages tdr gpa level (sept_add_rest p.machine.pages tdr page (index_at level gpa)) (λ f. (omega arith, λ host children. refl)))))
+few_tries g p (call.MemSeptAdd tdr gpa level page) h = map-few p.machine.pages growing_ops (Clear page ∷ []) (sept_mapping tdr gpa level page)
 few_tries g p (call.MemSeptRd tdr gpa level) h = (omega arith, λ pamt life count tdcs. (omega arith, λ op. (omega arith, find-few 0 p.machine.pages tdr gpa level (λ (f : Found). answers (Done (entry_value f.entry))) (λ f. refl))))
 few_tries g p (call.MemSeptRemove tdr gpa level) h =
     named-few p.machine.pages tdr gpa level (entry.NlBlocked ∷ []) (sept_remove_rest p.machine.pages tdr (index_at level gpa))
     (λ n. scan-few 0 p.machine.pages n.entry.page 0 512 (remove_rest tdr (index_at level gpa) n) (tracked-few 0 n.tdcs n.entry.page (given_tree tdr n.page (index_at level gpa) n.entry.page) (λ children. refl)))
 few_tries g p (call.MemPageAdd tdr gpa page source) h = page_add-few p.machine tdr gpa page source
-few_tries g p (call.MemPageAug tdr gpa page) h = (omega arith, λ pamt life count tdcs. (omega arith, λ op. (omega arith, find-few 1 p.machine.pages tdr gpa 0 (page_aug_rest p.machine.pages tdr page (index_at 0 gpa)) (λ f. (omega arith, λ host children. refl)))))
+few_tries g p (call.MemPageAug tdr gpa page) h = map-few p.machine.pages augmented_ops [] (page_aug_mapping tdr gpa page)
 few_tries g p (call.MemPageRemove tdr gpa) h =
     named-few p.machine.pages tdr gpa 0 removed_states (remove_rest tdr (index_at 0 gpa)) (λ n. tracked-few 0 n.tdcs n.entry.page (given_tree tdr n.page (index_at 0 gpa) n.entry.page) (λ children. refl))
 few_tries g p (call.MemRangeBlock tdr gpa level) h = named-few p.machine.pages tdr gpa level open_states (block_rest tdr level (index_at level gpa)) (λ n. λ epoch. refl)

@@ -62,10 +62,11 @@ use Rattle.key_table.specs.FlushTrees.{flush_task}
 use Rattle.key_table.specs.EndTrees.{free_task, end_changes}
 use Rattle.vcpu_control.specs.VpTrees.{vp_create_task, vp_init_task}
 use Rattle.vcpu_control.specs.VpChanges as vp
-use Rattle.mem_build.specs.SeptAddTrees.{sept_add_task, sept_add_changes}
+use Rattle.sept_parts.specs.MapTrees.{map_changes}
+use Rattle.mem_build.specs.SeptAddTrees.{sept_add_task, sept_mapping}
 use Rattle.mem_build.specs.PageAddTrees.{page_add_task, addition, added_changes}
 use Rattle.mem_build.specs.SeptReadTrees.{sept_read_task}
-use Rattle.mem_build.specs.PageAugTrees.{page_aug_task, page_aug_changes}
+use Rattle.mem_build.specs.PageAugTrees.{page_aug_task, page_aug_mapping}
 use Rattle.access_core.specs.HostMeanings.{host_read-means, host_write-means}
 use Rattle.mem_remove.specs.MetadataMeanings.{rdmd-means}
 use Rattle.mem_remove.specs.TrackMeanings.{track-means}
@@ -176,10 +177,10 @@ plan_changes (plan.Finalize l) told a = final_changes l.place.machine a.page a.h
 plan_changes (plan.VpCreate l) told a = vp.create_changes l.place.machine.pages l.tdr a.page l.page a.count a.children
 plan_changes (plan.VpInit l) told a = vp.init_changes l.vp l.value
 plan_changes (plan.VpFlush l) told a = flush_changes l.vp
-plan_changes (plan.SeptAdd l) told a = Clear l.page ∷ sept_add_changes l.place.machine.pages l.tdr l.page a.page (index_at l.level l.gpa) a.children
+plan_changes (plan.SeptAdd l) told a = Clear l.page ∷ map_changes l.place.machine.pages (sept_mapping l.tdr l.gpa l.level l.page) a.page a.children
 plan_changes (plan.SeptRd l) told a = []
 plan_changes (plan.PageAdd l) told a = added_changes l.place.machine (addition l.given.tdr l.given.gpa l.given.page l.given.source a)
-plan_changes (plan.PageAug l) told a = page_aug_changes l.place.machine.pages l.tdr l.page a.page (index_at 0 l.gpa) a.children
+plan_changes (plan.PageAug l) told a = map_changes l.place.machine.pages (page_aug_mapping l.tdr l.gpa l.page) a.page a.children
 plan_changes (plan.PageRemove l) told a = remove_changes l.tdr a.page (index_at 0 l.gpa) a.named a.children
 plan_changes (plan.RangeBlock l) told a = block_changes l.tdr l.level a.page (index_at l.level l.gpa) a.named a.state a.epoch
 plan_changes (plan.RangeUnblock l) told a = unblock_changes a.page (index_at l.level l.gpa) a.named a.state

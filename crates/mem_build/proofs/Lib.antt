@@ -1,4 +1,3 @@
-pub mod Decided
 pub mod PageAdds
 pub mod ExtendDecided
 pub mod ExtendSteps

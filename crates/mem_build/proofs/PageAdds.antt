@@ -6,12 +6,13 @@ use Rattle.td_words.specs.declared.refusals.Status.TheVariants.{EptEntryStateInc
 use Rattle.leaf_engine.specs.Trees.{Tree}
 use Rattle.leaf_engine.specs.Decides.{Ending, Decides}
 use Rattle.leaf_engine.specs.declared.plans.Stop.{Stop}
+use Rattle.leaf_parts.specs.Arguments.{checked}
 use Rattle.leaf_parts.specs.Parts.{Goes}
 use Rattle.leaf_parts.proofs.Parts.{passes, refuses}
 use Rattle.sept_parts.specs.declared.finds.Found.{Found}
 use Rattle.sept_parts.specs.SeptTrees.{state_tree}
 use Rattle.mem_build.specs.declared.page_additions.Given.{Given}
-use Rattle.mem_build.specs.PageAddTrees.{addition_end, arguments_tree, td_tree, page_add_tree}
+use Rattle.mem_build.specs.PageAddTrees.{addition_end, page_add_arguments, td_tree, page_add_tree}
 use Rattle.mem_build.specs.PageAddParts.{is_free, TableOf}
 
 -- the entry that was found
@@ -22,7 +23,7 @@ table-goes n x left (Err e) h = λ further. refuses n (is_free x) (EptEntryState
 -- behind the arguments
 module _ (m : Machine) (g : Given) where
   abbrev allowed : (Unit {0} → Tree) → Tree
-  allowed f = arguments_tree m g.tdr g.gpa g.page g.source (f tt)
+  allowed f = checked (page_add_arguments m g.tdr g.gpa g.page g.source) (f tt)
 
   abbrev of_td : Tree
   of_td = td_tree m.pages g.tdr g.gpa g.page g.source (λ a. addition_end m a)

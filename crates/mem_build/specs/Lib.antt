@@ -1,14 +1,12 @@
 pub mod SeptReadTrees
 pub mod SeptReadMeanings
 pub mod SeptAddTrees
-pub mod SeptAddShows
 pub mod SeptAddMeanings
 pub mod PageAddTrees
 pub mod PageAddParts
 pub mod PageAddShows
 pub mod PageAddMeanings
 pub mod PageAugTrees
-pub mod PageAugShows
 pub mod PageAugMeanings
 pub mod ExtendTrees
 pub mod ExtendStages

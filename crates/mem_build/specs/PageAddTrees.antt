@@ -1,28 +1,28 @@
 -- The addition of a TD's private page as a decision over the words that it is told, and its changes.
-use Rattle.std.specs.Prelude.{ℕ, ◌^◌, ◌%◌, ◌==◌, not, nat_lt, Some, None, List, [], ◌∷◌, ◌++◌}
+use Rattle.std.specs.Prelude.{ℕ, ◌^◌, ◌%◌, ◌==◌, Bool, not, nat_lt, Some, None, List, [], ◌∷◌, ◌++◌}
 use Rattle.mrtd_measure.specs.Records.{page_record}
-use Rattle.td_words.specs.declared.names.PageKind.TheVariants as kind
 use Rattle.td_words.specs.declared.names.OpState.TheVariants as op
 use Rattle.td_words.specs.declared.names.EntryState.TheVariants as entry
 use Rattle.td_words.specs.declared.names.Mode.TheVariants.{Exclusive}
 use Rattle.td_words.specs.declared.machines.Machine.{Machine}
 use Rattle.td_words.specs.declared.places.TheConstants.{TDR_HKID, TDR_CHILDREN}
-use Rattle.td_words.specs.declared.refusals.Status.TheVariants.{OperandInvalid, PageMetadataIncorrect}
-use Rattle.td_words.specs.Packing.{pamt_word, entry_word}
+use Rattle.td_words.specs.declared.refusals.Status.{Status}
+use Rattle.td_words.specs.declared.refusals.Status.TheVariants.{OperandInvalid}
 use Rattle.td_words.specs.Place as place
-use Rattle.flat_core.specs.Processor.{OfPage}
 use Rattle.flat_core.specs.Arguments.{level_size}
 use Rattle.flat_core.specs.MemRows.{add_page}
-use Rattle.sept_walk.specs.SecureEpt.{index_at}
 use Rattle.word_rules.specs.Rules.{Whole}
 use Rattle.leaf_engine.specs.declared.needs.Place.{Place}
-use Rattle.leaf_engine.specs.Changes.{Hand, Change, Put, Copy, Swap, changes_where}
-use Rattle.leaf_engine.specs.Trees.{Tree, Lock, Load, needs, done}
-use Rattle.leaf_engine.specs.Means.{Task, OfCall}
-use Rattle.leaf_parts.specs.Words.{says_host, is_hkid, raised}
-use Rattle.sept_parts.specs.declared.finds.Modes.{Modes}
-use Rattle.sept_parts.specs.SeptTrees.{td_find_tree, state_tree}
 use Rattle.leaf_engine.specs.declared.plans.Act.{Act}
+use Rattle.leaf_engine.specs.Changes.{Hand, Change, Copy, Swap, changes_where}
+use Rattle.leaf_engine.specs.Trees.{Tree, Load, done}
+use Rattle.leaf_engine.specs.Means.{Task, OfCall}
+use Rattle.leaf_parts.specs.Arguments.{checked}
+use Rattle.leaf_parts.specs.HostPages.{host_page_tree}
+use Rattle.leaf_parts.specs.Words.{is_hkid}
+use Rattle.sept_parts.specs.declared.finds.Modes.{Modes}
+use Rattle.sept_parts.specs.MapTrees.{private_mapping, map_changes}
+use Rattle.sept_parts.specs.SeptTrees.{td_find_tree, state_tree}
 
 -- what the call adds: its arguments, the secure EPT page in which the entry of the GPA stands, and the HKID and the child
 -- count that the TDR tells
@@ -47,16 +47,13 @@ with_page gpa (Some bytes) = Some (bytes ++ page_record gpa)
 abbrev pub page_fills : Addition → List Change
 page_fills a = Copy a.source a.page ∷ []
 
--- the entry's word is the act; then the page is taken, the child count is raised, and the hasher is taken out of its slot
--- and put back with the page's record
+-- the hasher is taken out of its slot, and put back with the page's record
+abbrev pub measure_changes : (hkid gpa : ℕ) → List Change
+measure_changes hkid gpa = Swap hkid (λ hand. None) ∷ Swap hkid (with_page gpa) ∷ []
+
+-- the page is mapped, and then measured
 abbrev pub page_changes : ℕ → Addition → List Change
-page_changes pages a =
-    Put (place.Word a.table (index_at 0 a.gpa)) (entry_word (record { state = entry.Mapped; page = a.page; mark = 0 }))
-    ∷ Put (place.Pamt a.page) (pamt_word (record { kind = kind.Reg; owner = a.tdr; epoch = 0 }))
-    ∷ Put (place.Word a.tdr TDR_CHILDREN) (raised pages a.children)
-    ∷ Swap a.hkid (λ hand. None)
-    ∷ Swap a.hkid (with_page a.gpa)
-    ∷ []
+page_changes pages a = map_changes pages (private_mapping a.tdr a.gpa a.page) a.table a.children ++ measure_changes a.hkid a.gpa
 
 -- the end of the call
 abbrev pub all_fills : Machine → Addition → List Change
@@ -71,17 +68,18 @@ added_changes m a = all_fills m a ++ all_changes m a
 abbrev pub addition_end : Machine → Addition → Tree
 addition_end m a = done (all_fills m a) (all_changes m a)
 
--- the arguments: three pages of the machine, no two of them the same, and a GPA at which a page begins
-abbrev pub arguments_tree : Machine → (tdr gpa page source : ℕ) → Tree → Tree
-arguments_tree m tdr gpa page source further =
-    needs (nat_lt tdr m.pages) (OperandInvalid 1)
-    (needs (nat_lt gpa (2 ^ 47)) (OperandInvalid 2)
-    (needs (nat_lt page m.pages) (OperandInvalid 3)
-    (needs (nat_lt source m.pages) (OperandInvalid 4)
-    (needs (not (page == tdr)) (OperandInvalid 3)
-    (needs (not (source == tdr)) (OperandInvalid 4)
-    (needs (not (source == page)) (OperandInvalid 4)
-    (needs (gpa % level_size 0 == 0) (OperandInvalid 2) further)))))))
+-- three pages of the machine, no two of them the same, and a GPA at which a page begins
+abbrev pub page_add_arguments : Machine → (tdr gpa page source : ℕ) → List (Bool × Status)
+page_add_arguments m tdr gpa page source =
+    (nat_lt tdr m.pages, OperandInvalid 1)
+    ∷ (nat_lt gpa (2 ^ 47), OperandInvalid 2)
+    ∷ (nat_lt page m.pages, OperandInvalid 3)
+    ∷ (nat_lt source m.pages, OperandInvalid 4)
+    ∷ (not (page == tdr), OperandInvalid 3)
+    ∷ (not (source == tdr), OperandInvalid 4)
+    ∷ (not (source == page), OperandInvalid 4)
+    ∷ (gpa % level_size 0 == 0, OperandInvalid 2)
+    ∷ []
 
 -- O and T are held alone
 abbrev pub alone : Modes
@@ -91,14 +89,10 @@ alone = record { op = Exclusive; tree = Exclusive }
 abbrev pub free_tree : (pages tdr gpa : ℕ) → (ℕ → Tree) → Tree
 free_tree pages tdr gpa further = td_find_tree pages tdr alone (op.Initialized ∷ []) gpa 0 (λ found. state_tree found.entry (entry.Free ∷ []) (further found.page))
 
--- a page is held alone, and is the host's
-abbrev pub host_tree : ℕ → Tree → Tree
-host_tree page further = Lock (OfPage page) (place.Lock page) Exclusive (Load Whole (place.Pamt page) (λ pamt. needs (says_host pamt) (PageMetadataIncorrect page) further))
-
 -- behind the entry: both pages are the host's, and the HKID and the child count are told
 abbrev pub pages_tree : (tdr page source : ℕ) → (hkid_children : ℕ → ℕ → Tree) → Tree
 pages_tree tdr page source further =
-    host_tree source (host_tree page
+    host_page_tree source (host_page_tree page
     (Load Whole (place.Word tdr TDR_HKID) (λ hkid.
     Load Whole (place.Word tdr TDR_CHILDREN) (λ children. further hkid children))))
 
@@ -111,7 +105,7 @@ td_tree pages tdr gpa page source further =
 
 -- the whole tree, which a proof unfolds only where it speaks of its nodes
 unfoldable pub page_add_tree : Machine → (tdr gpa page source : ℕ) → Tree
-page_add_tree m tdr gpa page source = arguments_tree m tdr gpa page source (td_tree m.pages tdr gpa page source (λ a. addition_end m a))
+page_add_tree m tdr gpa page source = checked (page_add_arguments m tdr gpa page source) (td_tree m.pages tdr gpa page source (λ a. addition_end m a))
 
 abbrev pub page_add_task : Place → (tdr gpa page source : ℕ) → Task
 page_add_task p tdr gpa page source = record { place = p; tree = page_add_tree p.machine tdr gpa page source; meaning = OfCall (add_page p.machine tdr gpa page source) }

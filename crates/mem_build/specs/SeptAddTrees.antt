@@ -1,62 +1,38 @@
 -- The addition of a secure EPT page as a decision over the words that it is told.
-use Rattle.std.specs.Prelude.{ℕ, ◌%◌, ◌^◌, ◌==◌, ◌&&◌, not, nat_lt, nat_le, List, [], ◌∷◌}
+use Rattle.std.specs.Prelude.{ℕ, ◌%◌, ◌^◌, ◌==◌, ◌&&◌, Bool, not, nat_lt, nat_le, List, [], ◌∷◌}
 use Rattle.td_words.specs.declared.names.EntryState.TheVariants as entry
 use Rattle.td_words.specs.declared.names.PageKind.TheVariants as kind
-use Rattle.td_words.specs.declared.names.Mode.TheVariants.{Shared, Exclusive}
 use Rattle.td_words.specs.declared.machines.Machine.{Machine}
-use Rattle.td_words.specs.declared.places.TheConstants.{TDR_CHILDREN}
-use Rattle.td_words.specs.declared.refusals.Status.TheVariants.{OperandInvalid, PageMetadataIncorrect}
-use Rattle.td_words.specs.declared.replies.Value.TheVariants as value
-use Rattle.td_words.specs.declared.replies.Reply.TheVariants.{Done}
-use Rattle.td_words.specs.Packing.{entry_word, pamt_word}
-use Rattle.td_words.specs.Place as place
-use Rattle.flat_core.specs.Processor.{OfPage}
+use Rattle.td_words.specs.declared.refusals.Status.{Status}
+use Rattle.td_words.specs.declared.refusals.Status.TheVariants.{OperandInvalid}
 use Rattle.flat_core.specs.Arguments.{level_size}
 use Rattle.flat_core.specs.Conditions.{growing_ops}
 use Rattle.flat_core.specs.MemRows.{add_sept}
-use Rattle.sept_walk.specs.SecureEpt.{index_at}
-use Rattle.word_rules.specs.Rules.{Whole}
 use Rattle.leaf_engine.specs.declared.needs.Place.{Place}
-use Rattle.leaf_engine.specs.Changes.{Change, Put, Clear}
-use Rattle.leaf_engine.specs.Trees.{Tree, Lock, Load, End, only, needs}
+use Rattle.leaf_engine.specs.Changes.{Clear}
+use Rattle.leaf_engine.specs.Trees.{Tree}
 use Rattle.leaf_engine.specs.Means.{Task, OfCall}
-use Rattle.leaf_parts.specs.Words.{says_host, raised}
-use Rattle.sept_parts.specs.declared.finds.Found.{Found}
-use Rattle.sept_parts.specs.SeptTrees.{state_tree, td_find_tree}
+use Rattle.leaf_parts.specs.Arguments.{checked}
+use Rattle.sept_parts.specs.declared.mappings.Mapping.{Mapping}
+use Rattle.sept_parts.specs.MapTrees.{td_map_tree}
 
--- the arguments
-abbrev pub add_arguments : Machine → (tdr gpa level page : ℕ) → Tree → Tree
-add_arguments m tdr gpa level page further =
-    needs (nat_lt tdr m.pages) (OperandInvalid 1)
-    (needs (nat_lt gpa (2 ^ 47)) (OperandInvalid 2)
-    (needs (nat_le 1 level && nat_le level 3) (OperandInvalid 3)
-    (needs (nat_lt page m.pages) (OperandInvalid 4)
-    (needs (not (page == tdr)) (OperandInvalid 4)
-    (needs (gpa % level_size level == 0) (OperandInvalid 2) further)))))
-
--- the entry that names the page is the act, after which it may be walked through; then the page is the TD's, and is
--- counted
-abbrev pub sept_add_changes : (pages tdr page at index children : ℕ) → List Change
-sept_add_changes pages tdr page at index children =
-    Put (place.Word at index) (entry_word (record { state = entry.NlMapped; page = page; mark = 0 }))
-    ∷ Put (place.Pamt page) (pamt_word (record { kind = kind.Ept; owner = tdr; epoch = 0 }))
-    ∷ Put (place.Word tdr TDR_CHILDREN) (raised pages children)
+abbrev pub sept_add_arguments : Machine → (tdr gpa level page : ℕ) → List (Bool × Status)
+sept_add_arguments m tdr gpa level page =
+    (nat_lt tdr m.pages, OperandInvalid 1)
+    ∷ (nat_lt gpa (2 ^ 47), OperandInvalid 2)
+    ∷ (nat_le 1 level && nat_le level 3, OperandInvalid 3)
+    ∷ (nat_lt page m.pages, OperandInvalid 4)
+    ∷ (not (page == tdr), OperandInvalid 4)
+    ∷ (gpa % level_size level == 0, OperandInvalid 2)
     ∷ []
 
--- the entry is FREE, and the page is the host's, and is cleared before the act
-abbrev pub sept_add_page : (pages tdr page at index : ℕ) → Tree
-sept_add_page pages tdr page at index =
-    Lock (OfPage page) (place.Lock page) Exclusive
-    (Load Whole (place.Pamt page) (λ pamt.
-    needs (says_host pamt) (PageMetadataIncorrect page)
-    (Load Whole (place.Word tdr TDR_CHILDREN) (λ children. End (only (Done value.Nothing)) (Clear page ∷ []) (sept_add_changes pages tdr page at index children)))))
+-- the entry may be walked through, to the page that holds those below it
+abbrev pub sept_mapping : (tdr gpa level page : ℕ) → Mapping
+sept_mapping tdr gpa level page = record { tdr = tdr; gpa = gpa; level = level; page = page; kind = kind.Ept; state = entry.NlMapped }
 
-abbrev pub sept_add_rest : (pages tdr page index : ℕ) → Found → Tree
-sept_add_rest pages tdr page index found = state_tree found.entry (entry.Free ∷ []) (sept_add_page pages tdr page found.page index)
-
+-- the page is cleared before the act
 abbrev pub sept_add_tree : Machine → (tdr gpa level page : ℕ) → Tree
-sept_add_tree m tdr gpa level page =
-    add_arguments m tdr gpa level page (td_find_tree m.pages tdr (record { op = Shared; tree = Exclusive }) growing_ops gpa level (sept_add_rest m.pages tdr page (index_at level gpa)))
+sept_add_tree m tdr gpa level page = checked (sept_add_arguments m tdr gpa level page) (td_map_tree m.pages growing_ops (Clear page ∷ []) (sept_mapping tdr gpa level page))
 
 abbrev pub sept_add_task : Place → (tdr gpa level page : ℕ) → Task
 sept_add_task p tdr gpa level page = record { place = p; tree = sept_add_tree p.machine tdr gpa level page; meaning = OfCall (add_sept p.machine tdr gpa level page) }

@@ -1,14 +1,11 @@
 -- The leaf that reads an entry of a TD's secure EPT means its row.
-use Rattle.std.proofs.Common.{ℕ, ◌%◌, ◌^◌, ◌<◌, ◌≤◌, Bool, ◌==◌, nat_lt, nat_le, List, [], ◌∷◌, ◌++◌, refl, subst}
+use Rattle.std.proofs.Common.{ℕ, ◌^◌, ◌<◌, ◌≤◌, List, [], ◌∷◌, ◌++◌, refl, subst}
 use Rattle.std.proofs.lemmas.Bool.{ltb-true, leb-true}
 use Rattle.std.proofs.lemmas.List.{append-nil}
 use Rattle.td_words.specs.declared.names.Mode.TheVariants.{Shared, Exclusive}
 use Rattle.td_words.specs.declared.machines.Machine.{Machine}
-use Rattle.td_words.specs.declared.refusals.Status.{Status}
-use Rattle.td_words.specs.declared.refusals.Status.TheVariants.{OperandInvalid}
 use Rattle.td_words.specs.declared.replies.Reply.{Reply}
 use Rattle.td_words.specs.declared.replies.Reply.TheVariants.{Done}
-use Rattle.flat_core.specs.Arguments.{level_size}
 use Rattle.flat_core.specs.World.{World}
 use Rattle.flat_core.specs.Processor.{Held}
 use Rattle.flat_core.specs.Row.{Item}
@@ -26,7 +23,7 @@ use Rattle.leaf_parts.proofs.Begun.{locks-stay}
 use Rattle.leaf_parts.proofs.Checks.{checks-mean}
 use Rattle.sept_parts.specs.SeptTrees.{td_find_tree}
 use Rattle.sept_parts.proofs.SeptBegun.{row-find-means}
-use Rattle.mem_build.specs.SeptReadTrees.{sept_read_task}
+use Rattle.mem_build.specs.SeptReadTrees.{sept_read_arguments, sept_read_task}
 
 module _ (m : Machine) (c : Instant) (t gpa level : ℕ) (in_page : t < m.pages) (limit : m.pages ≤ 1024) (la : Lawful m c.state.world) (sh : Shows m c.memory.words c.memory.slots c.state) (small : gpa < 2 ^ 47) (few : level ≤ 3) where
   abbrev w : World
@@ -44,14 +41,11 @@ module _ (m : Machine) (c : Instant) (t gpa level : ℕ) (in_page : t < m.pages)
       (append-nil (walk w t gpa level))
       (row-find-means m c k t in_page limit la sh (record { op = Shared; tree = Exclusive }) begun_ops tt gpa level small few (λ found. answers (Done (entry_value found.entry))) [] (λ y page has. answered _))
 
-abbrev arguments : Machine → (t gpa level : ℕ) → List (Bool × Status)
-arguments m t gpa level = (nat_lt t m.pages, OperandInvalid 1) ∷ (nat_lt gpa (2 ^ 47), OperandInvalid 2) ∷ (nat_le level 3, OperandInvalid 3) ∷ (gpa % level_size level == 0, OperandInvalid 2) ∷ []
-
 pub sept_read-means : (p : Place) (t gpa level : ℕ) → IsMachine p.machine → MeansRow (sept_read_task p t gpa level)
 sept_read-means p t gpa level limits = record {
   means = λ c at.
       (let m : Machine = p.machine in
-      checks-mean m c (work_of (OfCall (read_sept m t gpa level))) [] (arguments m t gpa level) (td_find_tree m.pages t (record { op = Shared; tree = Exclusive }) begun_ops gpa level (λ found. answers (Done (entry_value found.entry))))
+      checks-mean m c (work_of (OfCall (read_sept m t gpa level))) [] (sept_read_arguments m t gpa level) (td_find_tree m.pages t (record { op = Shared; tree = Exclusive }) begun_ops gpa level (λ found. answers (Done (entry_value found.entry))))
       (td_shared c.state.world t begun_ops ++ tree_exclusive t ∷ walk c.state.world t gpa level)
       (λ a. entry-read m c t gpa level (ltb-true t m.pages a.0) limits.pages.1 at.lawful at.shown (ltb-true gpa (2 ^ 47) a.1.0) (leb-true level 3 a.1.1.0)));
 }

@@ -3,15 +3,10 @@
 ghost use Rattle.td_words.specs.Limits.{IsMachine};
 
 use leaf_engine::{Act, Hand, Place, Plan, Stop, Told, Verdict, Write};
-use leaf_parts::{hkid_slot, owner_word, raised, says_host};
-use sept_entry::Entry;
-use sept_parts::{Found, GPAS, Modes, is_aligned, is_state_among, td_find};
-use sept_walk::index;
+use leaf_parts::{hkid_slot, host_page};
+use sept_parts::{Found, GPAS, Mapping, Modes, found_in, is_aligned, map_write, td_find};
 use td_words::places::{TDR_CHILDREN, TDR_HKID};
-use td_words::{
-    EntryState, LockName, Machine, Mode, OpState, PageKind, Status, lock_address, pamt_address,
-    word_address,
-};
+use td_words::{EntryState, Machine, Mode, OpState, PageKind, Status, word_address};
 
 /// MEM.PAGE.ADD TDR GPA PAGE SOURCE: a host page with the source's words becomes a TD's private
 /// page at a GPA, and that it was added there is measured.
@@ -51,6 +46,24 @@ impl PageAdd {
             },
         }
     }
+
+    ghost use Rattle.std.specs.Prelude.{◌^◌, ◌<◌};
+    ghost use Rattle.sept_parts.specs.MapTrees.{private_mapping};
+
+    /// What it maps: a page that the guest may use at once.
+    fn mapping(&self) -> Mapping
+        requires { (self.now.given.tdr < 2 ^ 16) × (self.now.given.page < 2 ^ 16) }
+        ensures { result ≡ private_mapping self.now.given.tdr self.now.given.gpa self.now.given.page }
+    {
+        Mapping {
+            tdr: self.given.tdr as u16,
+            gpa: self.given.gpa,
+            level: 0,
+            page: self.given.page as u16,
+            kind: PageKind::Reg,
+            state: EntryState::Mapped,
+        }
+    }
 }
 
 impl Plan for PageAdd {
@@ -78,44 +91,25 @@ impl Plan for PageAdd {
         )
     }
 
-    // The copy, the entry, the page's metadata, the child count, and the hasher out of its slot and
-    // back with the page's record.
+    // The copy, what maps the page, and the hasher out of its slot and back with the page's record.
     fn write(&self, act: Act, _told: &[u64], number: usize, hand: &mut Hand) -> Option<Write> {
         let machine = self.place.machine;
         let given = self.given;
         let slot = hkid_slot(machine, act.hkid)?;
-        let tdr = given.tdr as u16;
-        let page = given.page as u16;
-        let write = match number {
-            0 => {
-                let from = given.source as u16;
-                Write::Copy { from, to: page }
-            }
-            1 => {
-                let state = EntryState::Mapped;
-                let entry = Entry {
-                    state,
-                    page,
-                    mark: 0,
-                };
-                Write::store(word_address(act.page, index(0, given.gpa)), entry.pack())
-            }
-            2 => Write::store(pamt_address(page), owner_word(PageKind::Reg, tdr)),
-            3 => Write::store(
-                word_address(tdr, TDR_CHILDREN),
-                raised(machine.pages, act.children),
-            ),
-            4 => {
-                *hand = None;
-                Write::Swap(slot)
-            }
-            5 => {
-                measure(hand, given.gpa);
-                Write::Swap(slot)
-            }
+        if number == 0 {
+            let from = given.source as u16;
+            let to = given.page as u16;
+            return Some(Write::Copy { from, to });
+        }
+        if number < 4 {
+            return map_write(machine, self.mapping(), act.page, act.children, number - 1);
+        }
+        match number {
+            4 => *hand = None,
+            5 => measure(hand, given.gpa),
             _ => return None,
-        };
-        Some(write)
+        }
+        Some(Write::Swap(slot))
     }
 
     ghost means = { λ l. page_add-means l.place l.given.tdr l.given.gpa l.given.page l.given.source l.machine };
@@ -125,12 +119,13 @@ ghost use Rattle.std.specs.Prelude.{◌≡◌, ◌<◌, length, MatchResult};
 ghost use Rattle.leaf_engine.specs.Decides.{Decides, ending};
 ghost use Rattle.leaf_engine.specs.Inside.{DecisionIn, DecidesEarly, StopIn};
 ghost use Rattle.leaf_parts.specs.Parts.{Goes, Uses};
-ghost use Rattle.mem_build.specs.PageAddTrees.{addition, added_changes, addition_end, arguments_tree, free_tree, host_tree, pages_tree, td_tree};
+ghost use Rattle.leaf_parts.specs.Arguments.{checked};
+ghost use Rattle.mem_build.specs.PageAddTrees.{addition, added_changes, addition_end, page_add_arguments, free_tree, pages_tree, td_tree};
 ghost use Rattle.mem_build.specs.PageAddParts.{AreAllowed};
 
 /// The argument rules.
 fn are_allowed(told: &mut Told, machine: Machine, given: Given) -> Result<(), Stop>
-    ensures goes { Goes machine.pages (λ f. arguments_tree machine given.tdr given.gpa given.page given.source (f tt)) told.old.left.now told.new.left.now result }
+    ensures goes { Goes machine.pages (λ f. checked (page_add_arguments machine given.tdr given.gpa given.page given.source) (f tt)) told.old.left.now told.new.left.now result }
     ensures uses { Uses 0 told.old.left.now told.new.left.now result }
     ensures inside { MatchResult result (λ u. AreAllowed machine given) (λ e. StopIn machine e) }
 {
@@ -191,12 +186,9 @@ ghost use Rattle.mem_build.specs.PageAddParts.{TableOf};
 fn table_of(told: &Told, found: Found) -> Result<u16, Stop>
     ensures { TableOf found result }
 {
-    let state = found.entry.state;
-    told.check(
-        is_state_among(state, &[EntryState::Free]),
-        Status::EptEntryStateIncorrect(state),
-    )?;
-    Ok(found.page)
+    let table = found.page;
+    found_in(told, found, &[EntryState::Free])?;
+    Ok(table)
 }
 
 /// What the TDR tells besides its life state.
@@ -224,18 +216,6 @@ fn host_pages(
     let hkid = told.load(word_address(tdr, TDR_HKID))?;
     let children = told.load(word_address(tdr, TDR_CHILDREN))?;
     Ok(Counts { hkid, children })
-}
-
-/// A page is held alone, and is the host's.
-fn host_page(told: &mut Told, place: Place, page: u16) -> Result<(), Stop>
-    requires { page < place.machine.pages }
-    ensures goes { Goes place.machine.pages (λ f. host_tree page (f tt)) told.old.left.now told.new.left.now result }
-    ensures uses { Uses 2 told.old.left.now told.new.left.now result }
-    ensures inside { MatchResult result (λ u. Unit {0}) (λ e. StopIn place.machine e) }
-{
-    told.lock(LockName::Page(page), lock_address(page), Mode::Exclusive)?;
-    let pamt = told.load(pamt_address(page))?;
-    told.check(says_host(pamt), Status::PageMetadataIncorrect(page))
 }
 
 ghost use Rattle.leaf_engine.specs.Changes as memory;

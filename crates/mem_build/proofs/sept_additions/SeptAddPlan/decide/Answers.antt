@@ -1,30 +1,21 @@
-use Rattle.td_words.specs.declared.names.Mode.TheVariants.{Shared, Exclusive}
+use Rattle.std.proofs.Common.{List, [], ◌∷◌, Result, subst}
 use Rattle.flat_core.specs.Conditions.{growing_ops}
-use Rattle.sept_walk.specs.SecureEpt.{index_at}
-use Rattle.leaf_engine.specs.Trees.{Tree}
-use Rattle.leaf_parts.proofs.Parts.{behind-stop, behind-go, exit}
-use Rattle.sept_parts.specs.declared.finds.Found.{Found}
-use Rattle.sept_parts.specs.SeptTrees.{td_find_tree}
-use Rattle.mem_build.specs.SeptAddTrees.{add_arguments, sept_add_rest}
-use Rattle.mem_build.proofs.Decided.{add-arguments}
+use Rattle.leaf_engine.specs.Changes.{Change, Clear}
+use Rattle.leaf_engine.specs.Decides.{Decides, Ending, ending}
+use Rattle.leaf_engine.specs.declared.plans.Stop.{Stop}
+use Rattle.leaf_parts.proofs.Arguments.{arguments-hold}
+use Rattle.sept_parts.specs.declared.mappings.Mapping.{Mapping}
+use Rattle.sept_parts.specs.MapTrees.{map_changes, td_map_tree}
+use Rattle.mem_build.specs.SeptAddTrees.{sept_add_arguments, sept_mapping}
 use Rattle.mem_build.proofs.sept_additions.SeptAddPlan.decide.Goals as goal
-
-pub returns-in_err-found-clause-decides : goal.returns-in_err-found-clause-decides
-returns-in_err-found-clause-decides c =
-    let l = c.args.self.now in
-    let m = l.place.machine in
-    rw (exit c.from_residual-in_err-found.result c.in_err-found.field-0.0 _ c.from_residual-in_err-found.ensures.1 (λ y h. h))
-    (behind-stop m.pages (λ t. add_arguments m l.tdr l.gpa l.level l.page t)
-    (add-arguments m.pages m l.tdr l.gpa l.level l.page (rw c.from.ensures at c.in_ok-check.ensures) c.in_ok-check-2.ensures (rw c.is_upper.ensures at c.in_ok-check-3.ensures) (rw c.from-2.ensures at c.in_ok-check-4.ensures) c.in_ok-check-5.ensures (rw c.is_aligned.ensures at c.in_ok-check-6.ensures))
-    (λ (f : Found → Tree). td_find_tree m.pages l.tdr (record { op = Shared; tree = Exclusive }) growing_ops l.gpa l.level f) (λ (found : Found). sept_add_rest m.pages l.tdr l.page (index_at l.level l.gpa) found)
-    c.args.told.left.now c.td_find.new.told.left.now c.in_err-found.field-0.0 c.in_err-found.ensures.goes)
 
 pub returns-clause-decides : goal.returns-clause-decides
 returns-clause-decides c =
     let l = c.args.self.now in
     let m = l.place.machine in
-    behind-go m.pages (λ t. add_arguments m l.tdr l.gpa l.level l.page t)
-    (add-arguments m.pages m l.tdr l.gpa l.level l.page (rw c.from.ensures at c.in_ok-check.ensures) c.in_ok-check-2.ensures (rw c.is_upper.ensures at c.in_ok-check-3.ensures) (rw c.from-2.ensures at c.in_ok-check-4.ensures) c.in_ok-check-5.ensures (rw c.is_aligned.ensures at c.in_ok-check-6.ensures))
-    (λ (f : Found → Tree). td_find_tree m.pages l.tdr (record { op = Shared; tree = Exclusive }) growing_ops l.gpa l.level f) (λ (found : Found). sept_add_rest m.pages l.tdr l.page (index_at l.level l.gpa) found)
-    c.args.told.left.now c.td_find.new.told.left.now c.in_ok-found.found _
-    c.in_ok-found.ensures.goes (c.add.ensures.decides (index_at l.level l.gpa))
+    let fills : List Change = Clear l.page ∷ [] in
+    let comes : Mapping → Result Ending Stop = λ x. ending (λ a. Clear l.page ∷ map_changes m.pages x a.page a.children) c.td_map.result in
+    arguments-hold m.pages (sept_add_arguments m l.tdr l.gpa l.level l.page)
+    (rw c.from-pages.ensures at c.in_ok-check.ensures, (c.in_ok-check-2.ensures, (rw c.is_upper.ensures at c.in_ok-check-3.ensures, (rw c.from-pages.ensures at c.in_ok-check-4.ensures, (c.in_ok-check-5.ensures, (rw c.is_aligned-aligned.ensures at c.in_ok-check-6.ensures, tt))))))
+    (td_map_tree m.pages growing_ops fills (sept_mapping l.tdr l.gpa l.level l.page)) c.args.told.left.now (comes (sept_mapping l.tdr l.gpa l.level l.page))
+    (subst (λ (x : Mapping). Decides m.pages (td_map_tree m.pages growing_ops fills x) c.args.told.left.now (comes x)) c.mapping.ensures (c.td_map.ensures.decides fills))
