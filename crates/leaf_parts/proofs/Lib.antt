@@ -1,4 +1,5 @@
 pub mod Parts
+pub mod Arguments
 pub mod Told
 pub mod Lines
 pub mod Keys
@@ -7,8 +8,10 @@ pub mod Begun
 pub mod Checks
 pub mod Owned
 pub mod Aside
+pub mod HostPages
 pub mod Hashers
 pub mod Acted
+pub mod Listed
 pub mod Unheld
 pub mod VpTrees
 pub mod WordBytes

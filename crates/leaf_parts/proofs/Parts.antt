@@ -1,12 +1,14 @@
 -- Parts of leaves: where they stop, and one after another.
-use Rattle.std.proofs.Common.{◌≡◌, ℕ, ◌+◌, ◌≤◌, List, Result, Ok, Err, refl, sym, ap, ◌∙◌, subst, Bool, true, false, arith}
+use Rattle.std.proofs.Common.{◌≡◌, ℕ, ◌+◌, ◌≤◌, List, [], ◌∷◌, Result, Ok, Err, refl, sym, ap, ◌∙◌, subst, Bool, true, false, arith}
 use Rattle.std.specs.Prelude.{MatchResult}
 use Rattle.std.specs.Result.{IsErrAnd}
 use Rattle.td_words.specs.declared.refusals.Status.{Status}
 use Rattle.td_words.specs.declared.replies.Reply.TheVariants.{Refused}
 use Rattle.leaf_engine.specs.declared.plans.Stop.{Stop}
 use Rattle.leaf_engine.specs.declared.plans.Stop.TheVariants as stop
-use Rattle.leaf_engine.specs.Trees.{Tree, needs, feed}
+use Rattle.td_words.specs.Place.{WordPlace, address}
+use Rattle.word_rules.specs.Rules.{Whole}
+use Rattle.leaf_engine.specs.Trees.{Tree, Load, needs, feed}
 use Rattle.leaf_engine.specs.Decides.{Ending, Decides}
 use Rattle.leaf_engine.specs.Inside.{StopEarly}
 use Rattle.leaf_parts.specs.Parts.{Goes, Feeds}
@@ -47,6 +49,16 @@ pub goes-refused : {A : Type 0} (n : ℕ) (tree : (A → Tree) → Tree) (before
     → r ≡ Err e → (b ≡ false) × (e ≡ stop.Refused (Refused s)) → ((f : A → Tree) (v : Result Ending Stop) → Decides n (needs b s (rest f)) after v → Decides n (tree f) before v)
     → Goes n tree before last r
 goes-refused n tree before after last b s e r rest is k h = goes-stop n tree before last r e is (λ f. h f (Err e) (refuses n b s (rest f) after e k.0 k.1))
+
+-- a load
+pub goes-load : (n : ℕ) (q : WordPlace) (before after : List ℕ) (r : Result ℕ Stop) → MatchResult r (λ word. before ≡ word ∷ after) (λ e. (before ≡ []) × (e ≡ stop.Load (address n q)))
+    → Goes n (λ (f : ℕ → Tree). Load Whole q f) before after r
+goes-load n q before after (Ok x) h = λ further v d. rw h d
+goes-load n q before after (Err e) h = λ further. rw (h.0, h.1) refl
+
+pub feeds-load : (q : WordPlace) (before after : List ℕ) (r : Result ℕ Stop) (Q : Stop → Type 0) → MatchResult r (λ word. before ≡ word ∷ after) Q → Feeds (λ (f : ℕ → Tree). Load Whole q f) before after r
+feeds-load q before after (Ok x) Q h = λ further. rw h refl
+feeds-load q before after (Err e) Q h = tt
 
 -- what is left of a tree behind a condition that holds, and behind parts that pass
 pub feed-passes : (b : Bool) (s : Status) (t : Tree) (after : List ℕ) → b ≡ true → feed (needs b s t) after ≡ feed t after

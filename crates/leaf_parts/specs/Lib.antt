@@ -1,4 +1,7 @@
 pub mod Words
 pub mod Parts
+pub mod Arguments
 pub mod Heads
+pub mod HostPages
+pub mod ListTrees
 pub mod Vps
