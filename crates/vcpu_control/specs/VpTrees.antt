@@ -23,8 +23,7 @@ use Rattle.leaf_engine.specs.Trees.{Tree, Lock, Load, needs, acts}
 use Rattle.leaf_engine.specs.Means.{Task, OfCall}
 use Rattle.leaf_parts.specs.declared.heads.Td.{Td}
 use Rattle.leaf_parts.specs.declared.listed_pages.PageList.{PageList}
-use Rattle.leaf_parts.specs.Arguments as arguments
-use Rattle.leaf_parts.specs.Arguments.{checked}
+use Rattle.leaf_parts.specs.Arguments.{checked, two_pages}
 use Rattle.leaf_parts.specs.Heads.{td_head_tree}
 use Rattle.leaf_parts.specs.ListTrees.{listed_tree}
 use Rattle.vcpu_control.specs.Words.{says_page_of, vcpu_told, has_room}
@@ -59,18 +58,14 @@ create_rest pages tdr td page =
     Load Whole (place.Word td.tdcs TDCS_VP_COUNT) (λ count.
     Load Whole (place.Word td.tdcs TDCS_VPS_EXPECTED) (λ expected. create_room pages tdr td.tdcs td.op page count expected))
 
--- two pages, which are not the same
-abbrev pub two_pages : Machine → (tdr page : ℕ) → Tree → Tree
-two_pages m tdr page further = checked (arguments.two_pages m tdr page) further
-
 abbrev pub create_tree : Machine → (tdr page : ℕ) → Tree
-create_tree m tdr page = two_pages m tdr page (td_head_tree m.pages tdr Exclusive (op.Initialized ∷ op.MemoryImport ∷ []) (λ td. create_rest m.pages tdr td page))
+create_tree m tdr page = checked (two_pages m tdr page) (td_head_tree m.pages tdr Exclusive (op.Initialized ∷ op.MemoryImport ∷ []) (λ td. create_rest m.pages tdr td page))
 
 abbrev pub vp_create_task : Place → (tdr page : ℕ) → Task
 vp_create_task p tdr page = record { place = p; tree = create_tree p.machine tdr page; meaning = OfCall (create_vp p.machine tdr page) }
 
 abbrev pub init_tree : Machine → (tdr vp x : ℕ) → Tree
-init_tree m tdr vp x = two_pages m tdr vp (td_head_tree m.pages tdr Shared (op.Initialized ∷ []) (λ td. init_rest tdr vp x))
+init_tree m tdr vp x = checked (two_pages m tdr vp) (td_head_tree m.pages tdr Shared (op.Initialized ∷ []) (λ td. init_rest tdr vp x))
 
 abbrev pub vp_init_task : Place → (tdr vp x : ℕ) → Task
 vp_init_task p tdr vp x = record { place = p; tree = init_tree p.machine tdr vp x; meaning = OfCall (initialize_vp p.machine tdr vp x) }
