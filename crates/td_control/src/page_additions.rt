@@ -54,9 +54,9 @@ impl Plan for AddCx {
     }
 
     fn write(&self, act: Act, _told: &[u64], number: usize, _hand: &mut Hand) -> Option<Write> {
-        let machine = self.place.machine;
+        let _pages = self.place.machine.pages;
         let tdr = self.tdr as u16;
-        control_list(tdr).write(machine, tdr, self.page as u16, act, number)
+        control_list(tdr).write(self.place.machine, tdr, self.page as u16, act, number)
     }
 
     ghost means = { λ l. add-means l.place l.tdr l.page };

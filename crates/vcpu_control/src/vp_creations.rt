@@ -61,9 +61,9 @@ impl Plan for VpCreate {
     }
 
     fn write(&self, act: Act, _told: &[u64], number: usize, _hand: &mut Hand) -> Option<Write> {
-        let machine = self.place.machine;
+        let _pages = self.place.machine.pages;
         let tdr = self.tdr as u16;
-        vp_list(act.page).write(machine, tdr, self.page as u16, act, number)
+        vp_list(act.page).write(self.place.machine, tdr, self.page as u16, act, number)
     }
 
     ghost means = { λ l. vp_create-means l.place l.tdr l.page };
