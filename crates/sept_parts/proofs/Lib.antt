@@ -5,3 +5,5 @@ pub mod SeptBegun
 pub mod SeptPut
 pub mod Filled
 pub mod Nodes
+pub mod MapWrites
+pub mod Maps

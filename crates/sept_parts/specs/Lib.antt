@@ -1,3 +1,4 @@
 pub mod SeptWords
 pub mod SeptTrees
 pub mod SeptPages
+pub mod MapTrees

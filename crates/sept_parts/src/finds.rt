@@ -5,11 +5,11 @@ ghost use Rattle.leaf_engine.specs.Inside.{StopIn};
 ghost use Rattle.leaf_parts.specs.Parts.{Goes, Feeds, Uses};
 ghost use Rattle.sept_parts.specs.SeptTrees.{below_tree, walk_on_tree, walk_tree, find_tree, td_find_tree};
 
-use crate::entries::{entry, is_mapped_on, root_page, tree_lock};
+use crate::entries::{entry, is_mapped_on, is_state_among, root_page, tree_lock};
 use leaf_engine::{Place, Stop, Told};
 use leaf_parts::td_head;
 use sept_entry::Entry;
-use td_words::{Mode, OpState, Status};
+use td_words::{EntryState, Mode, OpState, Status};
 
 /// The level of the root's entries.
 const TOP: u8 = 3;
@@ -19,6 +19,22 @@ const TOP: u8 = 3;
 pub struct Found {
     pub page: u16,
     pub entry: Entry,
+}
+
+ghost use Rattle.std.specs.List.{list_any};
+ghost use Rattle.td_words.specs.declared.refusals.Status.TheVariants.{EptEntryStateIncorrect};
+ghost use Rattle.flat_core.specs.Tree.{same_state};
+ghost use Rattle.leaf_parts.proofs.Parts.{Checked};
+
+/// Its state is one of these.
+pub fn found_in(told: &Told, found: Found, allowed: &[EntryState]) -> Result<(), Stop>
+    ensures { Checked (list_any (λ s. same_state s found.entry.state) allowed.now) (EptEntryStateIncorrect found.entry.state) result }
+{
+    let state = found.entry.state;
+    told.check(
+        is_state_among(state, allowed),
+        Status::EptEntryStateIncorrect(state),
+    )
 }
 
 /// The secure EPT page below the entry of a level that maps a GPA.
