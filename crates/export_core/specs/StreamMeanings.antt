@@ -1,5 +1,5 @@
 -- The leaf that creates a migration stream means its row.
-use Rattle.std.proofs.Common.{◌≡◌, ℕ, zero, suc, ◌+◌, ◌-◌, ◌<◌, ◌≤◌, Bool, true, false, ◌==◌, if◌then◌else◌, nat_lt, not, [], ◌∷◌, length, slice_get, Option, Some, None, refl, ap, ◌∙◌, inl, inr, arith}
+use Rattle.std.proofs.Common.{◌≡◌, ℕ, zero, suc, ◌+◌, ◌-◌, ◌<◌, ◌≤◌, Bool, true, false, ◌==◌, nat_lt, not, [], ◌∷◌, length, slice_get, Some, refl, ap, ◌∙◌, inl, inr, arith}
 use Rattle.std.specs.Prelude.{nat_le}
 use Rattle.std.proofs.lemmas.Bool.{eq-eqb, ltb-true, leb-true, not-true}
 use Rattle.std.proofs.lemmas.Bool.Decides.{nat_tests}
@@ -27,7 +27,7 @@ use Rattle.leaf_parts.specs.ListTrees.{listed_tree}
 use Rattle.leaf_parts.proofs.Acted.{opening}
 use Rattle.leaf_parts.proofs.Begun.{IsTd}
 use Rattle.leaf_parts.proofs.Checks.{spot_of, at-spot, tdcs-load, td-row-means}
-use Rattle.leaf_parts.proofs.Lines.{each-may}
+use Rattle.leaf_parts.proofs.Lines.{each-may, zeros}
 use Rattle.vcpu_control.specs.VpLocks.{td_locks, page_locks, td-held, op-held, held-td, held-op, held-page, alone-page, alone-op}
 use Rattle.vcpu_control.specs.TdcsLists.{last-one, others, one-longer, tdcs_word, ListsInTdcs, listed-means}
 use Rattle.export_core.specs.StreamTrees.{stream_list, stream_counted, stream_rest, stream_create_task}
@@ -103,12 +103,8 @@ module _ (m : Machine) (c : Instant) (t p : ℕ) (la : Lawful m c.state.world) (
         (λ y. rw (itself t, a, y) refl)
 
     -- a word of its own page
-    or-zero : (b : Bool) (o : Option ℕ) → IsAs o 0 → IsAs (if b then Some 0 else o) 0
-    or-zero true o a = refl
-    or-zero false o a = a
-
     new-line : (i : ℕ) → IsAs (in_lines (stream_lines w' p) i) 0
-    new-line i = rw (itself p) (or-zero (i == 0) _ (or-zero (i == 1) _ (or-zero (i == 2) None tt)))
+    new-line i = zeros (stream_lines w' p) (rw (itself p) (refl, (refl, (refl, tt)))) i
 
     -- the locks that it holds
     td : g.has (Locked (OfPage t)) ≡ true
