@@ -1,6 +1,4 @@
 pub mod StreamTrees
-pub mod StreamAdded
-pub mod StreamShows
 pub mod StreamMeanings
 pub mod PauseTrees
 pub mod PauseMeanings

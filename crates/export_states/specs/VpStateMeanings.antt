@@ -30,6 +30,7 @@ use Rattle.leaf_engine.specs.declared.needs.Place.{Place}
 use Rattle.leaf_engine.specs.Changes.{Memory, Put, changed_all}
 use Rattle.leaf_engine.specs.Trees.{Tree, Load, needs}
 use Rattle.leaf_engine.specs.Means.{Instant, Means, MeansRow, Work, work_of, OfCall, hold, acted}
+use Rattle.leaf_parts.specs.Arguments.{two_pages}
 use Rattle.leaf_parts.proofs.Begun.{IsTd, TwoControls, page-in}
 use Rattle.leaf_parts.proofs.Checks.{spot_of, at-spot, at-tdcs, td-row-means, td-page-means}
 use Rattle.leaf_parts.proofs.Vps.{vp-shown, vp-spot}
@@ -222,13 +223,9 @@ module _ (m : Machine) (c : Instant) (t v slot : ℕ) (few : m.pages < 65536) (l
   vp_rest-means : Means m c k (td_locks t Exclusive) (vp_state_tree m.pages t z.tdcs v (registers_tree v slot)) (page_exclusive v ∷ td_page w t v kind.Tdvpr ∷ vp_state_left w t v ∷ counter_room w t 0 ∷ [])
   vp_rest-means = td-page-means m c k (td_locks t Exclusive) sh la few t v kind.Tdvpr in_page left_tree (vp_state_left w t v ∷ counter_room w t 0 ∷ []) left
 
--- two pages, which are not the same
-abbrev arguments : Machine → (t q : ℕ) → List (Bool × Status)
-arguments m t q = (nat_lt t m.pages, OperandInvalid 1) ∷ (nat_lt q m.pages, OperandInvalid 2) ∷ (not (q == t), OperandInvalid 2) ∷ []
-
 pub vp_state-means : (p : Place) (t v slot : ℕ) → p.machine.pages < 65536 → MeansRow (vp_state_task p t v slot)
 vp_state-means p t v slot few = record {
-  means = λ c at. td-row-means p.machine c (work_of (OfCall (export_vp p.machine t v slot))) t at.lawful at.shown (arguments p.machine t v) (λ a. ltb-true t p.machine.pages a.0) Exclusive paused_ops
+  means = λ c at. td-row-means p.machine c (work_of (OfCall (export_vp p.machine t v slot))) t at.lawful at.shown (two_pages p.machine t v) (λ a. ltb-true t p.machine.pages a.0) Exclusive paused_ops
       (λ td. vp_state_tree p.machine.pages t td.tdcs v (registers_tree v slot)) (page_exclusive v ∷ td_page c.state.world t v kind.Tdvpr ∷ vp_state_left c.state.world t v ∷ counter_room c.state.world t 0 ∷ [])
       (λ a y. vp_rest-means p.machine c t v slot few at.lawful at.shown y (ltb-true v p.machine.pages a.1.0) (not-true (v == t) a.1.1.0));
 }

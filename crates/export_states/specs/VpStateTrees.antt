@@ -14,12 +14,12 @@ use Rattle.leaf_engine.specs.declared.plans.Stop.{Stop}
 use Rattle.leaf_engine.specs.Changes.{Change, Put}
 use Rattle.leaf_engine.specs.Trees.{Tree, Lock, Load, needs}
 use Rattle.leaf_engine.specs.Means.{Task, OfCall}
+use Rattle.leaf_parts.specs.Arguments.{checked, two_pages}
 use Rattle.leaf_parts.specs.Heads.{td_head_tree}
 use Rattle.stream_parts.specs.declared.rooms.Room.{Room}
 use Rattle.stream_parts.specs.Rooms.{room_tree, session_tree, mig_epoch_tree}
 use Rattle.access_core.specs.RtmrTrees.{register_at}
 use Rattle.vcpu_control.specs.Words.{says_page_of}
-use Rattle.vcpu_control.specs.VpTrees.{two_pages}
 use Rattle.export_states.specs.declared.states.Stated.{Stated}
 use Rattle.export_states.specs.declared.states.Exported.{Exported}
 use Rattle.export_states.specs.StateTrees.{payload_tree, state_end, ComesTo}
@@ -57,7 +57,7 @@ vp_state_tree pages tdr tdcs vp further = vp_left_tree tdr tdcs vp (λ session. 
 
 -- all conditions, and then the registers
 abbrev pub vp_asked : Machine → (tdr vp : ℕ) → (Stated → Tree) → Tree
-vp_asked m tdr vp further = two_pages m tdr vp (td_head_tree m.pages tdr Exclusive paused_ops (λ td. vp_state_tree m.pages tdr td.tdcs vp further))
+vp_asked m tdr vp further = checked (two_pages m tdr vp) (td_head_tree m.pages tdr Exclusive paused_ops (λ td. vp_state_tree m.pages tdr td.tdcs vp further))
 
 abbrev pub registers_tree : (vp slot : ℕ) → Stated → Tree
 registers_tree vp slot x = payload_tree slot 2 (vp_changes vp) (λ y. register_at vp) 8 x

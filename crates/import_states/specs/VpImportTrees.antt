@@ -20,10 +20,10 @@ use Rattle.leaf_engine.specs.declared.needs.Place.{Place}
 use Rattle.leaf_engine.specs.Changes.{Change, Put}
 use Rattle.leaf_engine.specs.Trees.{Tree, Lock, Load, needs, done}
 use Rattle.leaf_engine.specs.Means.{Task, OfCall}
+use Rattle.leaf_parts.specs.Arguments.{checked, two_pages}
 use Rattle.leaf_parts.specs.Heads.{td_head_tree}
 use Rattle.stream_parts.specs.declared.rooms.Room.{Room}
 use Rattle.vcpu_control.specs.Words.{says_page_of, vcpu_told}
-use Rattle.vcpu_control.specs.VpTrees.{two_pages}
 use Rattle.import_parts.specs.InputTrees.{input_tree, tag_tree, session_same_tree, epoch_same_tree, counter_due_tree}
 use Rattle.import_parts.specs.WordPuts.{put_words}
 
@@ -59,7 +59,7 @@ vp_import_tree pages tdr tdcs vp x further = vp_there_tree tdr vp (vp_due_tree p
 
 -- the arguments, and the bundle
 abbrev pub vp_given_tree : Machine → Input → (tdr vp slot : ℕ) → Tree → Tree
-vp_given_tree m x tdr vp slot further = two_pages m tdr vp (input_tree x slot (2 ∷ []) further)
+vp_given_tree m x tdr vp slot further = checked (two_pages m tdr vp) (input_tree x slot (2 ∷ []) further)
 
 abbrev pub vp_import_asked : Machine → Input → (tdr vp slot : ℕ) → (Room → Tree) → Tree
 vp_import_asked m x tdr vp slot further = vp_given_tree m x tdr vp slot (td_head_tree m.pages tdr Exclusive vp_state_ops (λ td. vp_import_tree m.pages tdr td.tdcs vp x further))

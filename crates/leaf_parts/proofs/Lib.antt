@@ -11,6 +11,7 @@ pub mod Aside
 pub mod HostPages
 pub mod Hashers
 pub mod Acted
+pub mod Listed
 pub mod Unheld
 pub mod VpTrees
 pub mod WordBytes

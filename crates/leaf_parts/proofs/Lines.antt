@@ -1,5 +1,5 @@
 -- Lines of words and of what words are, one by one.
-use Rattle.std.proofs.Common.{◌≡◌, ℕ, ◌+◌, ◌-◌, false, ◌==◌, ◌&&◌, nat_lt, nat_le, List, [], ◌∷◌}
+use Rattle.std.proofs.Common.{◌≡◌, ℕ, ◌+◌, ◌-◌, false, ◌==◌, ◌&&◌, nat_lt, nat_le, List, [], ◌∷◌, refl}
 use Rattle.std.proofs.lemmas.Bool.{eqb-true}
 use Rattle.word_rules.specs.Lines.{Line, At, Run, in_lines}
 use Rattle.word_rules.specs.Cells.{IsAs}
@@ -25,3 +25,14 @@ pub each-may : (P : Class → Type 0) (ls : List (Line Class)) → AllMay P ls �
 each-may P [] h i = h
 each-may P (At n c ∷ rest) h i = by_test (i == n) (λ e. rw e h.0) (λ e. rw e (each-may P rest h.1 i))
 each-may P (Run n k f ∷ rest) h i = by_test (nat_le n i && nat_lt i (n + k)) (λ e. rw e (h.0 (i - n))) (λ e. rw e (each-may P rest h.1 i))
+
+-- lines of zeros
+abbrev pub AllZero : List (Line ℕ) → Type 0
+AllZero [] = Unit {0}
+AllZero (At n x ∷ rest) = (x ≡ 0) × AllZero rest
+AllZero (Run n k xs ∷ rest) = ((j : ℕ) → IsAs (xs j) 0) × AllZero rest
+
+pub zeros : (ls : List (Line ℕ)) → AllZero ls → (i : ℕ) → IsAs (in_lines ls i) 0
+zeros [] h i = tt
+zeros (At n x ∷ rest) h i = by_test (i == n) (λ e. rw (e, h.0) refl) (λ e. rw e (zeros rest h.1 i))
+zeros (Run n k xs ∷ rest) h i = by_test (nat_le n i && nat_lt i (n + k)) (λ e. rw e (h.0 (i - n))) (λ e. rw e (zeros rest h.1 i))

@@ -3,4 +3,5 @@ pub mod Parts
 pub mod Arguments
 pub mod Heads
 pub mod HostPages
+pub mod ListTrees
 pub mod Vps

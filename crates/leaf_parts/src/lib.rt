@@ -7,12 +7,14 @@
 
 mod heads;
 mod host_pages;
+mod listed_pages;
 mod vp_words;
 mod word_bytes;
 mod words;
 
 pub use heads::{Td, life_in, op_in, root, td_head, tdcs, tdr_head};
 pub use host_pages::{host_page, taken_page};
+pub use listed_pages::PageList;
 pub use vp_words::{VpWord, vps_apart};
 pub use word_bytes::put_bytes;
 pub use words::{

@@ -10,6 +10,7 @@ use Rattle.leaf_engine.specs.declared.plans.Act.{Act}
 use Rattle.leaf_engine.specs.Changes.{Change, Put, Clear}
 use Rattle.leaf_engine.specs.Trees.{feed, changes_of}
 use Rattle.leaf_engine.specs.Means.{Task, MeansRow}
+use Rattle.leaf_parts.specs.ListTrees.{list_changes}
 use Rattle.leaf_parts.specs.Words.{is_hkid}
 use Rattle.td_words.specs.declared.names.Access.TheVariants as access
 use Rattle.flat_core.specs.Tree.{word_of_gpa}
@@ -35,7 +36,7 @@ use Rattle.mem_remove.specs.MetadataTrees.{rdmd_task}
 use Rattle.mem_remove.specs.TrackTrees.{track_task, track_changes}
 use Rattle.mem_remove.specs.RangeTrees.{range_block_task, block_changes, range_unblock_task, unblock_changes}
 use Rattle.mem_remove.specs.RemoveTrees.{page_remove_task, remove_changes}
-use Rattle.export_core.specs.StreamTrees.{stream_create_task, stream_changes}
+use Rattle.export_core.specs.StreamTrees.{stream_create_task, stream_list}
 use Rattle.export_core.specs.WriteTrees.{block_write_task, unblock_write_task}
 use Rattle.export_core.specs.PauseTrees.{pause_task, abort_task, op_changes}
 use Rattle.export_core.specs.RestoreTrees.{restore_task}
@@ -54,14 +55,14 @@ use Rattle.key_table.specs.CacheTrees.{cache_task, cache_changes}
 use Rattle.key_table.specs.ReclaimTrees.{reclaim_task, give_back}
 use Rattle.td_control.specs.CreationTrees.{create_task, create_changes}
 use Rattle.td_control.specs.KeyTrees.{configure_task, configure_changes}
-use Rattle.td_control.specs.AddTrees.{add_task, add_changes}
+use Rattle.td_control.specs.AddTrees.{add_task, control_list}
 use Rattle.td_control.specs.InitTrees.{init_task, init_changes}
 use Rattle.td_control.specs.FinalTrees.{finalize_task, final_changes}
 use Rattle.td_control.specs.ReadTrees.{read_task}
 use Rattle.key_table.specs.FlushTrees.{flush_task}
 use Rattle.key_table.specs.EndTrees.{free_task, end_changes}
-use Rattle.vcpu_control.specs.VpTrees.{vp_create_task, vp_init_task}
-use Rattle.vcpu_control.specs.VpChanges as vp
+use Rattle.vcpu_control.specs.VpTrees.{vp_create_task, vp_init_task, vp_list}
+use Rattle.vcpu_control.specs.VpTrees as vp
 use Rattle.sept_parts.specs.MapTrees.{map_changes}
 use Rattle.mem_build.specs.SeptAddTrees.{sept_add_task, sept_mapping}
 use Rattle.mem_build.specs.PageAddTrees.{page_add_task, addition, added_changes}
@@ -168,13 +169,13 @@ plan_changes (plan.CacheWb l) told a = cache_changes l.place.machine told
 plan_changes (plan.Reclaim l) told a = give_back l.tdr l.page (l.page == l.tdr) a.children
 plan_changes (plan.Create l) told a = create_changes l.tdr l.hkid
 plan_changes (plan.KeyConfig l) told a = configure_changes l.tdr
-plan_changes (plan.AddCx l) told a = add_changes l.place.machine.pages l.tdr l.page a.count a.children
+plan_changes (plan.AddCx l) told a = list_changes (control_list l.tdr) l.place.machine.pages l.tdr l.page a.count a.children
 plan_changes (plan.Init l) told a = init_changes l.place.machine a.page a.hkid
 plan_changes (plan.Rd l) told a = []
 plan_changes (plan.FlushDone l) told a = end_changes l.place.machine l.tdr a.hkid (FlushedOf l.tdr false) life.Blocked
 plan_changes (plan.FreeId l) told a = end_changes l.place.machine l.tdr a.hkid Unassigned life.Teardown
 plan_changes (plan.Finalize l) told a = final_changes l.place.machine a.page a.hkid
-plan_changes (plan.VpCreate l) told a = vp.create_changes l.place.machine.pages l.tdr a.page l.page a.count a.children
+plan_changes (plan.VpCreate l) told a = list_changes (vp_list a.page) l.place.machine.pages l.tdr l.page a.count a.children
 plan_changes (plan.VpInit l) told a = vp.init_changes l.vp l.value
 plan_changes (plan.VpFlush l) told a = flush_changes l.vp
 plan_changes (plan.SeptAdd l) told a = Clear l.page ∷ map_changes l.place.machine.pages (sept_mapping l.tdr l.gpa l.level l.page) a.page a.children
@@ -185,7 +186,7 @@ plan_changes (plan.PageRemove l) told a = remove_changes l.tdr a.page (index_at 
 plan_changes (plan.RangeBlock l) told a = block_changes l.tdr l.level a.page (index_at l.level l.gpa) a.named a.state a.epoch
 plan_changes (plan.RangeUnblock l) told a = unblock_changes a.page (index_at l.level l.gpa) a.named a.state
 plan_changes (plan.Track l) told a = track_changes a.page a.epoch
-plan_changes (plan.StreamCreate l) told a = stream_changes l.place.machine.pages l.tdr a.page l.page a.count a.children
+plan_changes (plan.StreamCreate l) told a = list_changes (stream_list a.page) l.place.machine.pages l.tdr l.page a.count a.children
 plan_changes (plan.BlockW l) told a = changes_of (feed (block_write_task l.place l.tdr l.gpa).tree told)
 plan_changes (plan.UnblockW l) told a = changes_of (feed (unblock_write_task l.place l.tdr l.gpa).tree told)
 plan_changes (plan.Pause l) told a = op_changes op.PausedExport a.page

@@ -3,14 +3,13 @@
 ghost use Rattle.std.specs.Prelude.{◌≡◌, ◌<◌, length};
 ghost use Rattle.leaf_engine.specs.Decides.{Decides, ending};
 ghost use Rattle.leaf_engine.specs.Inside.{DecisionIn, DecidesEarly};
-ghost use Rattle.td_control.specs.AddTrees.{control_at, room_tree, add_changes};
+ghost use Rattle.leaf_parts.specs.ListTrees.{list_changes};
+ghost use Rattle.td_control.specs.AddTrees.{control_list, room_tree};
 
 use leaf_engine::{Act, Hand, Place, Plan, Stop, Told, Verdict, Write};
-use leaf_parts::{owner_word, raised, says_host, tdr_head};
-use td_words::places::{TDR_CHILDREN, TDR_ROOT, TDR_TDCS, TDR_TDCX_COUNT};
-use td_words::{
-    LifeState, LockName, Mode, PageKind, Status, lock_address, pamt_address, word_address,
-};
+use leaf_parts::{PageList, tdr_head};
+use td_words::places::{TDR_TDCS, TDR_TDCX_COUNT};
+use td_words::{LifeState, PageKind, Status, word_address};
 
 /// MNG.ADDCX TDR PAGE: a host page becomes a TD's next TDCX page.
 #[derive(Drop)]
@@ -39,7 +38,7 @@ impl Plan for AddCx {
 
     ghost task = { λ l. add_task l.place l.tdr l.page };
 
-    ghost changes = { λ l told a. add_changes l.place.machine.pages l.tdr l.page a.count a.children };
+    ghost changes = { λ l told a. list_changes (control_list l.tdr) l.place.machine.pages l.tdr l.page a.count a.children };
 
     ghost shown = { λ l told a. nat_lt l.tdr l.place.machine.pages && nat_lt l.page l.place.machine.pages && nat_lt a.count 2 };
 
@@ -54,51 +53,37 @@ impl Plan for AddCx {
         add(told, self.place, tdr, self.page as u16)
     }
 
-    // The number of TDCX pages is the act; then its page is told, the child count is raised, and the
-    // page is cleared and taken.
     fn write(&self, act: Act, _told: &[u64], number: usize, _hand: &mut Hand) -> Option<Write> {
-        let pages = self.place.machine.pages;
+        let _pages = self.place.machine.pages;
         let tdr = self.tdr as u16;
-        let page = self.page as u16;
-        let write = match number {
-            0 => Write::store(word_address(tdr, TDR_TDCX_COUNT), act.count + 1),
-            1 => Write::store(word_address(tdr, control_at(act.count)), self.page),
-            2 => Write::store(word_address(tdr, TDR_CHILDREN), raised(pages, act.children)),
-            3 => Write::Zero(page),
-            4 => Write::store(pamt_address(page), owner_word(PageKind::Tdcx, tdr)),
-            _ => return None,
-        };
-        Some(write)
+        control_list(tdr).write(self.place.machine, tdr, self.page as u16, act, number)
     }
 
     ghost means = { λ l. add-means l.place l.tdr l.page };
 }
 
-/// What comes after the head: there is room, and the page is the host's and is taken.
+/// What comes after the head: there is room for another TDCX page.
 fn add(told: Told, place: Place, tdr: u16, page: u16) -> Result<Verdict, Stop>
     requires { (tdr < place.machine.pages) × (page < place.machine.pages) }
-    ensures decides { Decides place.machine.pages (room_tree place.machine.pages tdr page) told.entry.left.now (ending (λ a. add_changes place.machine.pages tdr page a.count a.children) result) }
+    ensures decides { Decides place.machine.pages (room_tree place.machine.pages tdr page) told.entry.left.now (ending (λ a. list_changes (control_list tdr) place.machine.pages tdr page a.count a.children) result) }
     ensures inside { DecisionIn place.machine (λ a. a.count < 2) result }
     ensures early { DecidesEarly 4 (length told.entry.left.now) result }
 {
     let mut told = told;
     let count = told.load(word_address(tdr, TDR_TDCX_COUNT))?;
     told.check(count < 2, Status::TdcxNumIncorrect(2))?;
-    told.lock(LockName::Page(page), lock_address(page), Mode::Exclusive)?;
-    let pamt = told.load(pamt_address(page))?;
-    told.check(says_host(pamt), Status::PageMetadataIncorrect(page))?;
-    let children = told.load(word_address(tdr, TDR_CHILDREN))?;
-    let act = Act {
-        count,
-        children,
-        ..Act::NONE
-    };
-    Ok(Verdict::done(act))
+    control_list(tdr).take(told, place, tdr, page, count)
 }
 
-/// Where the next TDCX page is told, after so many.
-fn control_at(count: u64) -> u16
-    ensures { (result ≡ control_at count) × (result < 512) }
+/// The TD's TDCX pages, as its TDR page lists them: TDCS, and behind it the root.
+fn control_list(tdr: u16) -> PageList
+    ensures { result ≡ control_list tdr }
 {
-    if count == 0 { TDR_TDCS } else { TDR_ROOT }
+    PageList {
+        kind: PageKind::Tdcx,
+        page: tdr,
+        first: TDR_TDCS,
+        counted: TDR_TDCX_COUNT,
+        index: None,
+    }
 }

@@ -1,46 +1,41 @@
 -- Behind the beginning of its row the leaf that creates a virtual processor means the row.
-use Rattle.std.proofs.Common.{◌≡◌, ℕ, ◌+◌, ◌<◌, ◌≤◌, true, false, ◌==◌, ◌&&◌, [], ◌∷◌, length, refl, ap, ◌∙◌, inl, inr, arith}
-use Rattle.std.specs.Prelude.{nat_lt, not}
-use Rattle.std.proofs.lemmas.Bool.{eq-eqb, ltb-true, lt-ltb, not-true}
+use Rattle.std.proofs.Common.{◌≡◌, ℕ, ◌+◌, ◌-◌, ◌<◌, ◌≤◌, Bool, true, false, ◌==◌, ◌&&◌, if◌then◌else◌, List, [], ◌∷◌, ◌++◌, length, Option, Some, None, refl, ap, ◌∙◌, inl, inr, arith}
+use Rattle.std.specs.Prelude.{nat_le, nat_lt, not}
+use Rattle.std.proofs.lemmas.Bool.{eq-eqb, ltb-true, lt-ltb, leb-true, not-true}
+use Rattle.std.proofs.lemmas.Bool.Decides.{nat_tests}
 use Rattle.td_words.specs.declared.names.PageKind.TheVariants as kind
 use Rattle.td_words.specs.declared.names.OpState.{OpState}
 use Rattle.td_words.specs.declared.names.OpState.TheVariants as op
 use Rattle.td_words.specs.declared.names.Mode.TheVariants.{Exclusive}
 use Rattle.td_words.specs.declared.calls.Call.TheVariants as call
 use Rattle.td_words.specs.declared.machines.Machine.{Machine}
-use Rattle.td_words.specs.declared.places.TheConstants.{TDR_CHILDREN, TDCS_VPS_EXPECTED}
-use Rattle.td_words.specs.declared.replies.Value.TheVariants as value
-use Rattle.td_words.specs.declared.replies.Reply.TheVariants.{Done}
-use Rattle.td_words.specs.Packing.{pamt_word}
+use Rattle.td_words.specs.declared.places.TheConstants.{TDCS_VPS_EXPECTED}
 use Rattle.td_words.specs.Place as place
-use Rattle.flat_core.specs.World.{World}
+use Rattle.flat_core.specs.World.{World, put}
 use Rattle.flat_core.specs.Processor.{OfPage, OfOp}
-use Rattle.flat_core.specs.Conditions.{is_host, children, vp_limit, vp_room, host_page, page_exclusive}
-use Rattle.flat_core.specs.Lawful.{Lawful, IsPageOf}
+use Rattle.flat_core.specs.Conditions.{is_host, vp_limit, vp_room, host_page, page_exclusive}
+use Rattle.flat_core.specs.Effects.{add_vp}
+use Rattle.flat_core.specs.Lawful.{Lawful, ArePagesOf}
 use Rattle.flat_core.specs.VpRows.{create_vp}
+use Rattle.flat_core.proofs.Tests.{by_test, host_kind}
 use Rattle.word_rules.specs.Guards.{Grip, Locked, Meets}
-use Rattle.word_rules.specs.Rules.{Class, VcpuWord, Association, Unused, TdcsWord, Whole, KeepsNothing, writes, owes}
+use Rattle.word_rules.specs.Rules.{Class, VcpuWord, Association, Unused, Whole, KeepsNothing, owes}
 use Rattle.word_rules.specs.Lines.{in_lines}
-use Rattle.word_rules.specs.Spots.{spot, guard_at, or_unused, vp_classes, is_current, is_empty}
-use Rattle.word_rules.specs.Permissions.{Respects, Owes}
-use Rattle.word_rules.specs.Cells.{Shows}
+use Rattle.word_rules.specs.Spots.{guard_at, or_unused, vp_classes}
+use Rattle.word_rules.specs.Cells.{Shows, IsAs, lock_word, one_of_parity, entered_of_parity, vp_lines}
 use Rattle.act_rules.proofs.Rows.{rows-respect}
-use Rattle.flat_core.proofs.Tests.{by_test}
-use Rattle.leaf_engine.specs.Changes.{Memory, Put, Clear, changed}
-use Rattle.leaf_engine.specs.Trees.{Tree, Load, acts, only}
-use Rattle.leaf_engine.specs.Means.{Instant, Means, Work, Acts, MayOweAll, work_of, OfCall, hold}
-use Rattle.leaf_parts.specs.Words.{raised}
+use Rattle.leaf_engine.specs.Trees.{Load}
+use Rattle.leaf_engine.specs.Means.{Instant, Means, Work, work_of, OfCall, hold}
+use Rattle.leaf_parts.specs.ListTrees.{listed_tree}
 use Rattle.leaf_parts.proofs.Acted.{opening}
-use Rattle.leaf_parts.proofs.Told.{kind-is, tdcs-spot}
-use Rattle.leaf_parts.proofs.Begun.{IsTd}
-use Rattle.leaf_parts.proofs.Lines.{each-may}
-use Rattle.leaf_parts.proofs.Vps.{vp-class, vp-spot}
-use Rattle.vcpu_control.specs.VpChanges.{create_changes}
-use Rattle.vcpu_control.specs.VpTrees.{create_page, create_room, create_rest}
-use Rattle.vcpu_control.specs.VpLocks.{td_locks, page_locks, td-held, op-held, held-td, held-op, held-page, alone-page, alone-op}
-use Rattle.leaf_parts.proofs.Checks.{spot_of, at-spot, at-tdr, at-tdcs, host-page-means, tdr-load, tdcs-load}
-use Rattle.vcpu_control.specs.CreateShows.{created}
 use Rattle.leaf_parts.proofs.Aside.{apart}
+use Rattle.leaf_parts.proofs.Begun.{IsTd}
+use Rattle.leaf_parts.proofs.Checks.{spot_of, at-spot, tdcs-load}
+use Rattle.leaf_parts.proofs.Lines.{each-may}
+use Rattle.leaf_parts.proofs.Vps.{vp-line, vp-class, vp-spot}
+use Rattle.vcpu_control.specs.VpTrees.{vp_list, create_room, create_rest}
+use Rattle.vcpu_control.specs.VpLocks.{td_locks, page_locks, td-held, op-held, held-td, held-op, held-page, alone-page, alone-op}
+use Rattle.vcpu_control.specs.TdcsLists.{last-one, others, one-longer, tdcs_word, ListsInTdcs, listed-means}
 
 -- room
 
@@ -71,9 +66,6 @@ module _ (m : Machine) (c : Instant) (t p : ℕ) (la : Lawful m c.state.world) (
   abbrev w : World
   w = c.state.world
 
-  abbrev w' : World
-  w' = (create_vp m t p).act w
-
   abbrev k : Work
   k = work_of (OfCall (create_vp m t p))
 
@@ -86,116 +78,93 @@ module _ (m : Machine) (c : Instant) (t p : ℕ) (la : Lawful m c.state.world) (
   other : (p == t) ≡ false
   other = not-true (p == t) differ
 
-  in_page : p < m.pages
-  in_page = ltb-true p m.pages page
-
-  tdr_in : t < m.pages
-  tdr_in = ltb-true t m.pages tdr_page
-
   -- its TDCS
   abbrev d : ℕ
   d = x.controls.tdcs
 
-  tdcs_in : d < m.pages
-  tdcs_in = x.controls.tdcs_in
-
   limit : vp_limit (w.tds.ops t) (w.tds.vps_expected t) ≤ 8
   limit = limit_small (w.tds.ops t) (w.tds.vps_expected t) (la.tds.vps_expected t)
 
-  -- what it holds
-  td : g.has (Locked (OfPage t)) ≡ true
-  td = held-td t p Exclusive c.kept other
+  itself : (q : ℕ) → (q == q) ≡ true
+  itself q = eq-eqb q q refl
 
-  op_held : g.has (Locked (OfOp t)) ≡ true
-  op_held = held-op t p Exclusive c.kept other
+  -- the world once it is listed, and its act
+  abbrev listed : World
+  listed = add_vp t p w
 
-  op_alone : g.sole (Locked (OfOp t)) ≡ true
-  op_alone = alone-op t p c.kept
-
-  own : g.sole (Locked (OfPage p)) ≡ true
-  own = alone-page t p Exclusive c.kept other
-
-  own_held : g.has (Locked (OfPage p)) ≡ true
-  own_held = held-page t p Exclusive c.kept other
+  abbrev w' : World
+  w' = k.act w
 
   module _ (room : nat_lt n (vp_limit (w.tds.ops t) (w.tds.vps_expected t)) ≡ true) (host : is_host w p ≡ true) where
     nda : w.pages.kinds p ≡ kind.Nda
-    nda = kind-is (w.pages.kinds p) kind.Nda host
+    nda = host_kind (w.pages.kinds p) host
 
     eight : n < 8
     eight = room_few n (vp_limit (w.tds.ops t) (w.tds.vps_expected t)) limit room
 
-    respects : Respects g w w'
-    respects = rows-respect (opening m) 0 (call.VpCreate t p) g w la
-        (tdr_page, (page, (differ, (rw x.alive.kind refl, (rw x.configured refl, (x.two, (x.op, (room, (host, tt)))))))))
-        (td, ((op_held, op_alone), ((own_held, own), tt)))
+    -- none of the others is in guest at another epoch than before, and the new one isn't in guest
+    not-entered : (u b : ℕ) (vs : List ℕ) → ArePagesOf w.pages u kind.Tdvpr vs → entered_of_parity b (put w.vps.entered p None) vs ≡ entered_of_parity b w.vps.entered vs
+    not-entered u b [] h = refl
+    not-entered u b (v ∷ vs) h = (let o : (v == p) ≡ false = apart w.pages.kinds v p kind.Tdvpr kind.Nda h.0.kind nda (λ e. cc) in rw o (ap (λ (z : ℕ). one_of_parity b (w.vps.entered v) + z) (not-entered u b vs h.1)))
 
-    itself : (p == p) ≡ true
-    itself = eq-eqb p p refl
+    one-more : (b : ℕ) (vs : List ℕ) → entered_of_parity b (put w.vps.entered p None) (vs ++ p ∷ []) ≡ entered_of_parity b (put w.vps.entered p None) vs
+    one-more b [] = rw (itself p) refl
+    one-more b (v ∷ vs) = ap (λ (z : ℕ). one_of_parity b (put w.vps.entered p None v) + z) (one-more b vs)
 
-    d-p : (d == p) ≡ false
-    d-p = apart w.pages.kinds d p kind.Tdcx kind.Nda x.controls.tdcs_page.kind nda (λ e. cc)
+    entered-same : (b : ℕ) → entered_of_parity b (put w.vps.entered p None) (w.tds.vps t ++ p ∷ []) ≡ entered_of_parity b w.vps.entered (w.tds.vps t)
+    entered-same b = one-more b (w.tds.vps t) ∙ not-entered t b (w.tds.vps t) (la.tds.vps t x.alive)
 
-    t-p : (t == p) ≡ false
-    t-p = apart w.pages.kinds t p kind.Tdr kind.Nda x.alive.kind nda (λ e. cc)
+    -- a word of TDCS that neither names it nor counts it
+    other-word : (i : ℕ) → (i == 15) ≡ false → (i == 40 + n) ≡ false → tdcs_word c.state listed t i ≡ tdcs_word c.state w t i
+    other-word i a b = by_test (nat_le 40 i)
+        (λ y. (let long : 40 ≤ i = leb-true 40 i y in
+        let o : (i - 40 == n) ≡ false = grind (arith, nat_tests) in rw (itself t, a, entered-same (i - 6), y, others p (w.tds.vps t) (i - 40) o) refl))
+        (λ y. rw (itself t, a, entered-same (i - 6), y) refl)
 
-    -- what the pages are after the act
-    new-kind : w'.pages.kinds p ≡ kind.Tdvpr
-    new-kind = rw itself refl
+    -- a word of its own page
+    or-zero : (b : Bool) (o : Option ℕ) → IsAs o 0 → IsAs (if b then Some 0 else o) 0
+    or-zero true o a = refl
+    or-zero false o a = a
 
-    new-owner : w'.pages.owners p ≡ t
-    new-owner = rw itself refl
+    new-line : (i : ℕ) → IsAs (in_lines (vp_lines w' p) i) (if i == 0 then n else 0)
+    new-line i = by_test (i == 0)
+        (λ e. rw (itself p, e) refl)
+        (λ e. rw (itself p, e) (or-zero (i == 1) _ (or-zero (i == 2) _ (or-zero (i == 3) _ (or-zero (i == 4) _ (or-zero (i == 5) _ (or-zero (nat_le 8 i && nat_lt i 16) None tt)))))))
 
-    after-tdcs : IsPageOf w'.pages t d kind.Tdcx
-    after-tdcs = record { kind = rw d-p x.controls.tdcs_page.kind; owner = rw d-p x.controls.tdcs_page.owner }
+    -- the locks that it holds
+    td : g.has (Locked (OfPage t)) ≡ true
+    td = held-td t p Exclusive c.kept other
 
-    tdr-kind : w'.pages.kinds t ≡ kind.Tdr
-    tdr-kind = rw t-p x.alive.kind
+    op_held : g.has (Locked (OfOp t)) ≡ true
+    op_held = held-op t p Exclusive c.kept other
 
-    tdr-owner : w'.pages.owners t ≡ t
-    tdr-owner = rw t-p x.own
+    own : g.sole (Locked (OfPage p)) ≡ true
+    own = alone-page t p Exclusive c.kept other
 
-    its-act : Acts m c (work_of (OfCall (create_vp m t p))) (page_locks t p Exclusive) (only (Done value.Nothing)) [] (create_changes m.pages t d p n (children w t))
-    its-act = record {
-      answers = record { reply_is = refl; cached_is = refl; enters_is = refl; notes_are = refl; tells_are = refl; bundles_are = refl };
-      fills_allowed = tt;
-      respects = respects;
-      locks_stay = ((refl, λ y. y), ((refl, λ y. record { alive = record { kind = tdr-kind; life = y.alive.life }; has_tdcs = y.has_tdcs }), ((refl, λ y. y), tt)));
-      shows = created m c.state c.memory t p sh la x.alive x.controls host eight in_page;
+    in-list : ListsInTdcs c (vp_list d) t p n listed
+    in-list = record {
+      apart = grind (arith, nat_tests);
+      named = vp-line listed (lock_word c.state.lps c.state.lp_count) t n eight ∙ rw (itself t) (last-one p (w.tds.vps t));
+      more = rw (itself t) (ap Some (one-longer p (w.tds.vps t)));
+      others = other-word;
+      elsewhere = λ u alive o i. rw (o, not-entered u (i - 6) (w.tds.vps u) (la.tds.vps u alive)) refl;
+      vps = λ q i o. rw o refl;
+      streams = λ q i o. refl;
+      new = λ i. rw x.alive.life (new-line i);
+      first_class = λ current empty. vp-class current empty n eight;
+      count_class = λ current empty. refl;
+      page = λ its i. at-spot g w' (place.Word p i) (spot_of (or_unused (in_lines vp_classes i)) t p) (λ z. owes z KeepsNothing) (vp-spot w' t p i its) (vp-owed g t p i td op_held own);
+      respects = rows-respect (opening m) 0 (call.VpCreate t p) g w la
+          (tdr_page, (page, (differ, (rw x.alive.kind refl, (rw x.configured refl, (x.two, (x.op, (room, (host, tt)))))))))
+          (td, ((op_held, alone-op t p c.kept), ((held-page t p Exclusive c.kept other, own), tt)));
     }
 
-    new-owed : (i : ℕ) → Owes g w' (place.Word p i) KeepsNothing
-    new-owed i = at-spot g w' (place.Word p i) (spot_of (or_unused (in_lines vp_classes i)) t p) (λ z. owes z KeepsNothing) (vp-spot w' t p i (record { kind = new-kind; owner = new-owner })) (vp-owed g t p i td op_held own)
-
-    owed : (mem : Memory) → MayOweAll m g w' mem
-        (Clear p ∷ Put (place.Pamt p) (pamt_word (record { kind = kind.Tdvpr; owner = t; epoch = 0 })) ∷ Put (place.Word p 0) n ∷ Put (place.Word d 15) (n + 1) ∷ Put (place.Word t 2) (raised m.pages (children w t)) ∷ [])
-    owed mem =
-        let listed : Owes g w' (place.Word d 15) KeepsNothing = at-tdcs g w' t d 15 (x.controls.root ∷ []) (λ z. owes z KeepsNothing) x.controls.list after-tdcs (inr (inl (td, (op_alone, tt)))) in
-        let counted : Owes g w' (place.Word t 2) KeepsNothing = at-tdr g w' t 2 (λ z. owes z KeepsNothing) tdr-kind tdr-owner (inr (inl (td, (op_alone, tt)))) in
-        let inside : 15 < 512 = omega arith in
-        let kids : 2 < 512 = omega arith in
-        let first : 0 < 512 = omega arith in
-        ((in_page, λ i b. new-owed i), ((in_page, (KeepsNothing, inl (own, tt), tt)), (((in_page, first), (KeepsNothing, new-owed 0, tt)), (((tdcs_in, inside), (KeepsNothing, listed, tt)), (((tdr_in, kids), (KeepsNothing, counted, tt)), tt)))))
-
-    listed-spot : spot w (place.Word d (40 + n)) ≡ spot_of TdcsWord t d
-    listed-spot = tdcs-spot w t (40 + n) d (x.controls.root ∷ []) x.controls.list x.controls.tdcs_page ∙ ap (λ (x : Class). spot_of x t d) (vp-class (is_current w t) (is_empty w t) n eight)
-
-    its-end : Means m c k (page_locks t p Exclusive) (acts (Done value.Nothing) (create_changes m.pages t d p n (children w t))) []
-    its-end = (
-      its-act,
-      (
-        ((tdcs_in, omega (arith, eight)), (KeepsNothing, at-spot g w (place.Word d (40 + n)) (spot_of TdcsWord t d) (λ z. writes z KeepsNothing) listed-spot (inr (inl (td, (op_alone, tt)))), tt)),
-        owed (changed (Put (place.Word d (40 + n)) p) c.memory),
-      ),
-    )
-
-  -- the child count, and the page
-  abbrev kids_tree : Tree
-  kids_tree = Load Whole (place.Word t TDR_CHILDREN) (λ kids. acts (Done value.Nothing) (create_changes m.pages t x.controls.tdcs p (length (c.state.world.tds.vps t)) kids))
-
-  paged : nat_lt n (vp_limit (w.tds.ops t) (w.tds.vps_expected t)) ≡ true → Means m c k (td_locks t Exclusive) (create_page m.pages t d p n) (page_exclusive p ∷ host_page w p ∷ [])
-  paged room = host-page-means m c k (td_locks t Exclusive) sh p in_page kids_tree []
-      (λ host. tdr-load m c k (page_locks t p Exclusive) sh t 2 (children w t) x.alive.kind x.own tdr_in (omega arith) refl (inr (inl (td, (op_alone, tt)))) (λ kids. acts (Done value.Nothing) (create_changes m.pages t d p n kids)) [] (its-end room host))
+  paged : nat_lt n (vp_limit (w.tds.ops t) (w.tds.vps_expected t)) ≡ true → Means m c k (td_locks t Exclusive) (listed_tree (vp_list d) m.pages t p n) (page_exclusive p ∷ host_page w p ∷ [])
+  paged room =
+      let eight : n < 8 = room_few n (vp_limit (w.tds.ops t) (w.tds.vps_expected t)) limit room in
+      listed-means m c t p la sh (op.Initialized ∷ op.MemoryImport ∷ []) x (ltb-true t m.pages tdr_page) (ltb-true p m.pages page) other (vp_list d) refl n listed (create_vp m t p) refl
+      (record { reply_is = refl; cached_is = refl; enters_is = refl; notes_are = refl; tells_are = refl; bundles_are = refl })
+      (record { control = x.controls.tdcs_in; listed = omega (arith, eight); total = omega arith; told = omega arith }) (in-list room)
 
   -- the number there is, and the expected one
   pub create_rest-means : Means m c k (td_locks t Exclusive) (create_rest m.pages t (record { tdcs = d; op = w.tds.ops t }) p) (vp_room w t ∷ page_exclusive p ∷ host_page w p ∷ [])

@@ -7,8 +7,7 @@ use Rattle.td_words.specs.declared.names.VcpuState.{VcpuState}
 use Rattle.td_words.specs.declared.names.VcpuState.TheVariants as vcpu
 use Rattle.td_words.specs.declared.names.Mode.TheVariants.{Shared}
 use Rattle.td_words.specs.declared.machines.Machine.{Machine}
-use Rattle.td_words.specs.declared.refusals.Status.{Status}
-use Rattle.td_words.specs.declared.refusals.Status.TheVariants.{OperandInvalid, VcpuStateIncorrect, VcpuAssociated}
+use Rattle.td_words.specs.declared.refusals.Status.TheVariants.{VcpuStateIncorrect, VcpuAssociated}
 use Rattle.td_words.specs.declared.places.TheConstants.{TDR_ROOT, VP_STATE, VP_LAST_EPOCH, VP_POSITION}
 use Rattle.td_words.specs.NameNumber.{vcpu_number}
 use Rattle.td_words.specs.Place as place
@@ -37,7 +36,7 @@ use Rattle.leaf_parts.proofs.Told.{page-back, tdcs-spot}
 use Rattle.leaf_parts.proofs.Vps.{vp-shown, vp-spot}
 use Rattle.vcpu_control.specs.Words.{vcpu_told}
 use Rattle.vcpu_control.specs.VpLocks.{td_locks, page_locks, held-td, held-op, held-page, alone-page}
-use Rattle.vcpu_control.specs.EnterTrees.{lp_told, enter_changes, enter_answer, enter_guest, enter_epoch, enter_associated, enter_rest, EntryMeans}
+use Rattle.vcpu_control.specs.EnterTrees.{lp_told, enter_changes, enter_answer, enter_guest, enter_epoch, enter_associated, enter_rest, entry_arguments, EntryMeans}
 use Rattle.vcpu_control.specs.EnterShows.{entered}
 
 vcpu_again : (s : VcpuState) → vcpu_told (vcpu_number s) ≡ s
@@ -175,12 +174,9 @@ module _ (m : Machine) (c : Instant) (me t v most : ℕ) (few : m.pages < 65536)
       td-page-means m c k (td_locks t Shared) sh la few t v kind.Tdvpr in_page (tree.Load Whole (place.Word v VP_STATE) (λ state. tree.needs (same_vp_state (vcpu_told state) vcpu.Ready) (VcpuStateIncorrect (vcpu_told state)) (enter_associated m.pages me t d v most)))
       (vp_in w v vcpu.Ready ∷ not_elsewhere w me v ∷ epoch_shared t ∷ []) ready
 
-abbrev arguments : Machine → (t v most : ℕ) → List (Bool × Status)
-arguments m t v most = (nat_lt t m.pages, OperandInvalid 1) ∷ (nat_lt v m.pages, OperandInvalid 2) ∷ (nat_le 1 most && nat_lt most (2 ^ 16), OperandInvalid 3) ∷ (not (v == t), OperandInvalid 2) ∷ []
-
 pub entry-means : EntryMeans
 entry-means p t v most few = record {
-  means = λ c at. td-row-means p.machine c (work_of (OfCall (enter_vp p.machine p.lp t v most))) t at.lawful at.shown (arguments p.machine t v most) (λ a. ltb-true t p.machine.pages a.0) Shared running_ops
+  means = λ c at. td-row-means p.machine c (work_of (OfCall (enter_vp p.machine p.lp t v most))) t at.lawful at.shown (entry_arguments p.machine t v most) (λ a. ltb-true t p.machine.pages a.0) Shared running_ops
       (λ td. enter_rest p.machine.pages p.lp t td.tdcs v most) (page_exclusive v ∷ td_page c.state.world t v kind.Tdvpr ∷ vp_in c.state.world v vcpu.Ready ∷ not_elsewhere c.state.world p.lp v ∷ epoch_shared t ∷ [])
       (λ a y. enter_rest-means p.machine c p.lp t v most few at.lawful at.shown y (ltb-true v p.machine.pages a.1.0) (not-true (v == t) a.1.1.1.0)
       (λ here. outside-none c.state p.lp v at.facts (subst (λ (n : ℕ). (c.state.lps n).guest ≡ None) at.processor at.maker.0) here));

@@ -1,10 +1,11 @@
 -- VP.ENTER as a decision over the words that it is told.
-use Rattle.std.specs.Prelude.{ℕ, zero, suc, ◌+◌, ◌%◌, ◌^◌, ◌<◌, ◌==◌, ◌&&◌, not, nat_lt, nat_le, Option, Some, None, List, [], ◌∷◌}
+use Rattle.std.specs.Prelude.{ℕ, zero, suc, ◌+◌, ◌%◌, ◌^◌, ◌<◌, ◌==◌, ◌&&◌, not, nat_lt, nat_le, Option, Some, None, Bool, List, [], ◌∷◌}
 use Rattle.td_words.specs.declared.names.PageKind.TheVariants as kind
 use Rattle.td_words.specs.declared.names.VcpuState.TheVariants as vcpu
 use Rattle.td_words.specs.declared.names.Mode.TheVariants.{Shared, Exclusive}
 use Rattle.td_words.specs.declared.machines.Machine.{Machine}
 use Rattle.td_words.specs.declared.places.TheConstants.{TDR_ROOT, TDCS_EPOCH_LOCK, TDCS_EPOCH, TDCS_ENTERED, VP_INDEX, VP_STATE, VP_ASSOCIATED, VP_LAST_EPOCH, VP_POSITION}
+use Rattle.td_words.specs.declared.refusals.Status.{Status}
 use Rattle.td_words.specs.declared.refusals.Status.TheVariants.{OperandInvalid, PageMetadataIncorrect, VcpuStateIncorrect, VcpuAssociated}
 use Rattle.td_words.specs.declared.replies.Value.TheVariants as value
 use Rattle.td_words.specs.declared.replies.Reply.TheVariants.{Done}
@@ -19,6 +20,7 @@ use Rattle.leaf_engine.specs.Changes.{Change, Put, Raise}
 use Rattle.leaf_engine.specs.Trees.{Answer, Tree, Lock, Load, End, needs}
 use Rattle.leaf_engine.specs.Means.{Task, OfCall, MeansRow}
 use Rattle.leaf_parts.specs.Words.{page_told}
+use Rattle.leaf_parts.specs.Arguments.{checked}
 use Rattle.leaf_parts.specs.Heads.{td_head_tree}
 use Rattle.vcpu_control.specs.Words.{says_page_of, vcpu_told}
 
@@ -77,15 +79,13 @@ enter_rest pages me tdr tdcs vp most =
     needs (same_vp_state (vcpu_told state) vcpu.Ready) (VcpuStateIncorrect (vcpu_told state)) (enter_associated pages me tdr tdcs vp most)))))
 
 -- two pages, which are not the same, and a number of operations
-abbrev pub entry_arguments : Machine → (tdr vp most : ℕ) → Tree → Tree
-entry_arguments m tdr vp most further =
-    needs (nat_lt tdr m.pages) (OperandInvalid 1)
-    (needs (nat_lt vp m.pages) (OperandInvalid 2)
-    (needs (nat_le 1 most && nat_lt most (2 ^ 16)) (OperandInvalid 3)
-    (needs (not (vp == tdr)) (OperandInvalid 2) further)))
+abbrev pub entry_arguments : Machine → (tdr vp most : ℕ) → List (Bool × Status)
+entry_arguments m tdr vp most =
+    (nat_lt tdr m.pages, OperandInvalid 1) ∷ (nat_lt vp m.pages, OperandInvalid 2) ∷ (nat_le 1 most && nat_lt most (2 ^ 16), OperandInvalid 3)
+    ∷ (not (vp == tdr), OperandInvalid 2) ∷ []
 
 abbrev pub enter_tree : Machine → (me tdr vp most : ℕ) → Tree
-enter_tree m me tdr vp most = entry_arguments m tdr vp most (td_head_tree m.pages tdr Shared running_ops (λ td. enter_rest m.pages me tdr td.tdcs vp most))
+enter_tree m me tdr vp most = checked (entry_arguments m tdr vp most) (td_head_tree m.pages tdr Shared running_ops (λ td. enter_rest m.pages me tdr td.tdcs vp most))
 
 abbrev pub vp_enter_task : Place → (tdr vp most : ℕ) → Task
 vp_enter_task p tdr vp most = record { place = p; tree = enter_tree p.machine p.lp tdr vp most; meaning = OfCall (enter_vp p.machine p.lp tdr vp most) }

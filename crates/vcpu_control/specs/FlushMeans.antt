@@ -5,8 +5,6 @@ use Rattle.td_words.specs.declared.names.PageKind.TheVariants as kind
 use Rattle.td_words.specs.declared.names.LifeState.TheVariants as life
 use Rattle.td_words.specs.declared.names.Mode.TheVariants.{Shared, Exclusive}
 use Rattle.td_words.specs.declared.machines.Machine.{Machine}
-use Rattle.td_words.specs.declared.refusals.Status.{Status}
-use Rattle.td_words.specs.declared.refusals.Status.TheVariants.{OperandInvalid}
 use Rattle.td_words.specs.Place as place
 use Rattle.flat_core.specs.World.{World}
 use Rattle.flat_core.specs.Processor.{OfPage, Held}
@@ -26,6 +24,7 @@ use Rattle.lock_words.specs.Grips.{holds, holds_alone}
 use Rattle.leaf_engine.specs.Changes.{Memory, changed_all}
 use Rattle.leaf_engine.specs.Trees as tree
 use Rattle.leaf_engine.specs.Means.{Instant, Means, Work, work_of, OfCall, hold}
+use Rattle.leaf_parts.specs.Arguments.{two_pages}
 use Rattle.leaf_parts.specs.Heads.{root_tree, life_tree}
 use Rattle.leaf_parts.proofs.Aside.{aside, back, kept-but, control-kept}
 use Rattle.leaf_parts.proofs.Begun.{page_lock, root-means, life-means, life-is, holds-newest}
@@ -129,16 +128,13 @@ module _ (m : Machine) (c : Instant) (me t v : ℕ) (few : m.pages < 65536) (la 
   flush_rest-means =
       td-page-means m c k (page_lock t Shared ∷ []) sh la few t v kind.Tdvpr in_page (tree.Load Whole (place.Word v 2) (λ word. flush_at me t v (lp_told word))) (associated_vp w v ∷ not_elsewhere w me v ∷ []) associated
 
-abbrev arguments : Machine → (t v : ℕ) → List (Bool × Status)
-arguments m t v = (nat_lt t m.pages, OperandInvalid 1) ∷ (nat_lt v m.pages, OperandInvalid 2) ∷ (not (v == t), OperandInvalid 2) ∷ []
-
 pub flush-means : FlushMeans
 flush-means p t v few = record {
   means = λ c at.
       let w = c.state.world in
       let k = work_of (OfCall (flush_vp p.machine p.lp t v)) in
       let last = page_exclusive v ∷ td_page w t v kind.Tdvpr ∷ associated_vp w v ∷ not_elsewhere w p.lp v ∷ [] in
-      checks-mean p.machine c k [] (arguments p.machine t v) (root_tree t Shared (life_tree t (life.KeysConfigured ∷ []) (flush_rest p.lp t v))) (page_shared t ∷ root w t ∷ life_in w t (life.KeysConfigured ∷ []) ∷ last)
+      checks-mean p.machine c k [] (two_pages p.machine t v) (root_tree t Shared (life_tree t (life.KeysConfigured ∷ []) (flush_rest p.lp t v))) (page_shared t ∷ root w t ∷ life_in w t (life.KeysConfigured ∷ []) ∷ last)
       (λ a. let in_page = ltb-true t p.machine.pages a.0 in
       root-means p.machine c k t in_page at.lawful at.shown Shared (life_tree t (life.KeysConfigured ∷ []) (flush_rest p.lp t v)) (life_in w t (life.KeysConfigured ∷ []) ∷ last)
       (λ is. life-means p.machine c k t in_page at.lawful at.shown is (page_lock t Shared ∷ []) (holds-newest t Shared c.kept) (life.KeysConfigured ∷ []) (flush_rest p.lp t v) last

@@ -18,9 +18,9 @@ use Rattle.leaf_engine.specs.declared.needs.Place.{Place}
 use Rattle.leaf_engine.specs.Changes.{Change, Put}
 use Rattle.leaf_engine.specs.Trees.{Answer, Tree, Lock, Load, End, needs}
 use Rattle.leaf_engine.specs.Means.{Task, OfCall, MeansRow}
+use Rattle.leaf_parts.specs.Arguments.{checked, two_pages}
 use Rattle.leaf_parts.specs.Heads.{root_tree, life_tree}
 use Rattle.vcpu_control.specs.Words.{says_page_of}
-use Rattle.vcpu_control.specs.VpTrees.{two_pages}
 use Rattle.vcpu_control.specs.EnterTrees.{lp_told}
 
 -- the association's word is the act
@@ -46,7 +46,7 @@ flush_rest me tdr vp =
     (Load Whole (place.Word vp VP_ASSOCIATED) (λ word. flush_at me tdr vp (lp_told word)))))
 
 abbrev pub flush_tree : Machine → (me tdr vp : ℕ) → Tree
-flush_tree m me tdr vp = two_pages m tdr vp (root_tree tdr Shared (life_tree tdr (life.KeysConfigured ∷ []) (flush_rest me tdr vp)))
+flush_tree m me tdr vp = checked (two_pages m tdr vp) (root_tree tdr Shared (life_tree tdr (life.KeysConfigured ∷ []) (flush_rest me tdr vp)))
 
 abbrev pub vp_flush_task : Place → (tdr vp : ℕ) → Task
 vp_flush_task p tdr vp = record { place = p; tree = flush_tree p.machine p.lp tdr vp; meaning = OfCall (flush_vp p.machine p.lp tdr vp) }

@@ -26,7 +26,7 @@ use Rattle.leaf_engine.specs.Means.{Instant, Means, work_of, OfCall, hold}
 use Rattle.leaf_parts.proofs.Checks.{spot_of, at-spot, td-page-means}
 use Rattle.leaf_parts.proofs.Vps.{vp-shown, vp-spot}
 use Rattle.vcpu_control.specs.Words.{vcpu_told}
-use Rattle.vcpu_control.specs.VpChanges.{init_changes}
+use Rattle.vcpu_control.specs.VpTrees.{init_changes}
 use Rattle.vcpu_control.specs.VpTrees.{init_rest}
 use Rattle.vcpu_control.specs.VpLocks.{td_locks, page_locks, held-td, held-op, held-page, alone-page}
 use Rattle.vcpu_control.specs.InitShows.{initialized}

@@ -17,7 +17,7 @@ use Rattle.word_rules.specs.Cells.{Shows, IsAs, vp_lines}
 use Rattle.leaf_engine.specs.Changes.{Memory, changed_all}
 use Rattle.leaf_parts.proofs.Aside.{aside, back, kept-but, control-kept}
 use Rattle.leaf_parts.proofs.Vps.{vp-shown}
-use Rattle.vcpu_control.specs.VpChanges.{init_changes}
+use Rattle.vcpu_control.specs.VpTrees.{init_changes}
 
 module _ (m : Machine) (s : State) (mem : Memory) (t v x : ℕ) (sh : Shows m mem.words mem.slots s) (alive : IsAlive s.world.pages s.world.tds t) (its : IsPageOf s.world.pages t v kind.Tdvpr) (in_page : v < m.pages) where
   abbrev after : Memory

@@ -1,11 +1,9 @@
 pub mod Words
-pub mod VpChanges
 pub mod VpTrees
 pub mod VpLocks
 pub mod InitShows
 pub mod InitMeans
-pub mod VpAdded
-pub mod CreateShows
+pub mod TdcsLists
 pub mod CreateMeans
 pub mod VpMeanings
 pub mod EnterTrees

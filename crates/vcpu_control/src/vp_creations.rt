@@ -3,16 +3,14 @@
 ghost use Rattle.std.specs.Prelude.{◌≡◌, ◌<◌, length};
 ghost use Rattle.leaf_engine.specs.Decides.{Decides, ending};
 ghost use Rattle.leaf_engine.specs.Inside.{DecisionIn, DecidesEarly};
-ghost use Rattle.vcpu_control.specs.VpChanges.{create_changes};
-ghost use Rattle.vcpu_control.specs.VpTrees.{create_rest, create_page};
+ghost use Rattle.leaf_parts.specs.ListTrees.{list_changes};
+ghost use Rattle.vcpu_control.specs.VpTrees.{vp_list, create_rest};
 
 use crate::words::has_room;
 use leaf_engine::{Act, Hand, Place, Plan, Stop, Told, Verdict, Write};
-use leaf_parts::{Td, owner_word, raised, says_host, td_head};
-use td_words::places::{TDCS_VP_COUNT, TDCS_VPS, TDCS_VPS_EXPECTED, TDR_CHILDREN, VP_INDEX};
-use td_words::{
-    LimitName, LockName, Mode, OpState, PageKind, Status, lock_address, pamt_address, word_address,
-};
+use leaf_parts::{PageList, Td, td_head};
+use td_words::places::{TDCS_VP_COUNT, TDCS_VPS, TDCS_VPS_EXPECTED, VP_INDEX};
+use td_words::{LimitName, Mode, OpState, PageKind, Status, word_address};
 
 /// VP.CREATE TDR PAGE: a host page becomes the TDVPR page of the TD's next virtual processor.
 #[derive(Drop)]
@@ -41,7 +39,7 @@ impl Plan for VpCreate {
 
     ghost task = { λ l. vp_create_task l.place l.tdr l.page };
 
-    ghost changes = { λ l told a. create_changes l.place.machine.pages l.tdr a.page l.page a.count a.children };
+    ghost changes = { λ l told a. list_changes (vp_list a.page) l.place.machine.pages l.tdr l.page a.count a.children };
 
     ghost shown = { λ l told a. nat_lt l.tdr l.place.machine.pages && nat_lt l.page l.place.machine.pages && nat_lt a.page l.place.machine.pages && nat_lt a.count 8 };
 
@@ -62,25 +60,10 @@ impl Plan for VpCreate {
         add_vp(told, self.place, tdr, td, self.page as u16)
     }
 
-    // The page's place in the TD's list is the act; then the page is cleared, becomes the TDVPR page
-    // of that index, and is counted, among the virtual processors and among the children.
     fn write(&self, act: Act, _told: &[u64], number: usize, _hand: &mut Hand) -> Option<Write> {
-        let pages = self.place.machine.pages;
+        let _pages = self.place.machine.pages;
         let tdr = self.tdr as u16;
-        let page = self.page as u16;
-        let write = match number {
-            0 => {
-                let listed = word_address(act.page, TDCS_VPS + act.count as u16);
-                Write::store(listed, self.page)
-            }
-            1 => Write::Zero(page),
-            2 => Write::store(pamt_address(page), owner_word(PageKind::Tdvpr, tdr)),
-            3 => Write::store(word_address(page, VP_INDEX), act.count),
-            4 => Write::store(word_address(act.page, TDCS_VP_COUNT), act.count + 1),
-            5 => Write::store(word_address(tdr, TDR_CHILDREN), raised(pages, act.children)),
-            _ => return None,
-        };
-        Some(write)
+        vp_list(act.page).write(self.place.machine, tdr, self.page as u16, act, number)
     }
 
     ghost means = { λ l. vp_create-means l.place l.tdr l.page };
@@ -89,7 +72,7 @@ impl Plan for VpCreate {
 /// What comes behind the beginning of the row: there is room for another virtual processor.
 fn add_vp(told: Told, place: Place, tdr: u16, td: Td, page: u16) -> Result<Verdict, Stop>
     requires { (tdr < place.machine.pages) × (td.tdcs < place.machine.pages) × (page < place.machine.pages) }
-    ensures decides { Decides place.machine.pages (create_rest place.machine.pages tdr td page) told.entry.left.now (ending (λ a. create_changes place.machine.pages tdr a.page page a.count a.children) result) }
+    ensures decides { Decides place.machine.pages (create_rest place.machine.pages tdr td page) told.entry.left.now (ending (λ a. list_changes (vp_list a.page) place.machine.pages tdr page a.count a.children) result) }
     ensures inside { DecisionIn place.machine (λ a. (a.page < place.machine.pages) × (a.count < 8)) result }
     ensures early { DecidesEarly 5 (length told.entry.left.now) result }
 {
@@ -100,32 +83,18 @@ fn add_vp(told: Told, place: Place, tdr: u16, td: Td, page: u16) -> Result<Verdi
         has_room(td.op, expected, count),
         Status::Limit(LimitName::Vcpus),
     )?;
-    take_page(told, place, tdr, td.tdcs, page, count)
+    vp_list(td.tdcs).take(told, place, tdr, page, count)
 }
 
-/// The page is the host's, and becomes the TDVPR page of that index.
-fn take_page(
-    told: Told,
-    place: Place,
-    tdr: u16,
-    tdcs: u16,
-    page: u16,
-    count: u64,
-) -> Result<Verdict, Stop>
-    requires { (tdr < place.machine.pages) × (tdcs < place.machine.pages) × (page < place.machine.pages) × (count < 8) }
-    ensures decides { Decides place.machine.pages (create_page place.machine.pages tdr tdcs page count) told.entry.left.now (ending (λ a. create_changes place.machine.pages tdr a.page page a.count a.children) result) }
-    ensures inside { DecisionIn place.machine (λ a. (a.page < place.machine.pages) × (a.count < 8)) result }
-    ensures early { DecidesEarly 3 (length told.entry.left.now) result }
+/// The TD's virtual processors, as TDCS lists them.
+fn vp_list(tdcs: u16) -> PageList
+    ensures { result ≡ vp_list tdcs }
 {
-    let mut told = told;
-    told.lock(LockName::Page(page), lock_address(page), Mode::Exclusive)?;
-    let pamt = told.load(pamt_address(page))?;
-    told.check(says_host(pamt), Status::PageMetadataIncorrect(page))?;
-    let children = told.load(word_address(tdr, TDR_CHILDREN))?;
-    Ok(Verdict::done(Act {
+    PageList {
+        kind: PageKind::Tdvpr,
         page: tdcs,
-        count,
-        children,
-        ..Act::NONE
-    }))
+        first: TDCS_VPS,
+        counted: TDCS_VP_COUNT,
+        index: Some(VP_INDEX),
+    }
 }

@@ -3,7 +3,7 @@
 ghost use Rattle.std.specs.Prelude.{◌≡◌, ℕ, ◌<◌, length};
 ghost use Rattle.leaf_engine.specs.Decides.{Decides, ending};
 ghost use Rattle.leaf_engine.specs.Inside.{DecisionIn, DecidesEarly};
-ghost use Rattle.vcpu_control.specs.VpChanges.{init_changes};
+ghost use Rattle.vcpu_control.specs.VpTrees.{init_changes};
 ghost use Rattle.vcpu_control.specs.VpTrees.{init_rest};
 
 use crate::words::{says_page_of, vcpu_told};

@@ -2,10 +2,10 @@ use Rattle.td_words.specs.declared.names.Mode.TheVariants.{Exclusive}
 use Rattle.flat_core.specs.ExportRows.{stream_ops}
 use Rattle.leaf_engine.specs.Trees.{Tree}
 use Rattle.leaf_parts.specs.declared.heads.Td.{Td}
+use Rattle.leaf_parts.specs.Arguments.{checked, two_pages}
 use Rattle.leaf_parts.specs.Heads.{td_head_tree}
+use Rattle.leaf_parts.proofs.Arguments.{arguments-hold}
 use Rattle.leaf_parts.proofs.Parts.{behind-stop, behind-go, exit}
-use Rattle.vcpu_control.specs.VpTrees.{two_pages}
-use Rattle.vcpu_control.proofs.Decided.{two-pages}
 use Rattle.export_core.specs.StreamTrees.{stream_rest}
 use Rattle.export_core.proofs.stream_creations.StreamCreatePlan.decide.Goals as goal
 
@@ -13,15 +13,15 @@ pub returns-in_err-td-clause-decides : goal.returns-in_err-td-clause-decides
 returns-in_err-td-clause-decides c =
     let l = c.args.self.now in
     rw (exit c.from_residual-in_err-td.result c.in_err-td.field-0.0 _ c.from_residual-in_err-td.ensures.1 (λ y h. h))
-    (behind-stop l.place.machine.pages (two_pages l.place.machine l.tdr l.page)
-    (two-pages l.place.machine.pages l.place.machine l.tdr l.page (rw c.from.ensures at c.in_ok-check.ensures) (rw c.from-2.ensures at c.in_ok-check-2.ensures) c.in_ok-check-3.ensures)
+    (behind-stop l.place.machine.pages (checked (two_pages l.place.machine l.tdr l.page))
+    (arguments-hold l.place.machine.pages (two_pages l.place.machine l.tdr l.page) (rw c.from.ensures at c.in_ok-check.ensures, (rw c.from-2.ensures at c.in_ok-check-2.ensures, (c.in_ok-check-3.ensures, tt))))
     (λ (f : Td → Tree). td_head_tree l.place.machine.pages l.tdr Exclusive stream_ops f) (λ (td : Td). stream_rest l.place.machine.pages l.tdr td.tdcs l.page) c.args.told.left.now c.td_head.new.told.left.now
     c.in_err-td.field-0.0 c.in_err-td.ensures.goes)
 
 pub returns-clause-decides : goal.returns-clause-decides
 returns-clause-decides c =
     let l = c.args.self.now in
-    behind-go l.place.machine.pages (two_pages l.place.machine l.tdr l.page)
-    (two-pages l.place.machine.pages l.place.machine l.tdr l.page (rw c.from.ensures at c.in_ok-check.ensures) (rw c.from-2.ensures at c.in_ok-check-2.ensures) c.in_ok-check-3.ensures)
+    behind-go l.place.machine.pages (checked (two_pages l.place.machine l.tdr l.page))
+    (arguments-hold l.place.machine.pages (two_pages l.place.machine l.tdr l.page) (rw c.from.ensures at c.in_ok-check.ensures, (rw c.from-2.ensures at c.in_ok-check-2.ensures, (c.in_ok-check-3.ensures, tt))))
     (λ (f : Td → Tree). td_head_tree l.place.machine.pages l.tdr Exclusive stream_ops f) (λ (td : Td). stream_rest l.place.machine.pages l.tdr td.tdcs l.page) c.args.told.left.now c.td_head.new.told.left.now
     c.in_ok-td.td _ c.in_ok-td.ensures.goes c.add_stream.ensures.decides

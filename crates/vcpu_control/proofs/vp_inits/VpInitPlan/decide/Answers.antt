@@ -3,25 +3,26 @@ use Rattle.td_words.specs.declared.names.OpState.TheVariants.{Initialized}
 use Rattle.td_words.specs.declared.names.Mode.TheVariants.{Shared}
 use Rattle.leaf_engine.specs.Trees.{Tree}
 use Rattle.leaf_parts.specs.declared.heads.Td.{Td}
+use Rattle.leaf_parts.specs.Arguments.{checked, two_pages}
 use Rattle.leaf_parts.specs.Heads.{td_head_tree}
+use Rattle.leaf_parts.proofs.Arguments.{arguments-hold}
 use Rattle.leaf_parts.proofs.Parts.{behind-stop, behind-go, exit}
-use Rattle.vcpu_control.specs.VpTrees.{init_rest, two_pages}
-use Rattle.vcpu_control.proofs.Decided.{two-pages}
+use Rattle.vcpu_control.specs.VpTrees.{init_rest}
 use Rattle.vcpu_control.proofs.vp_inits.VpInitPlan.decide.Goals as goal
 
 pub returns-in_err-td_head-clause-decides : goal.returns-in_err-td_head-clause-decides
 returns-in_err-td_head-clause-decides c =
     let l = c.args.self.now in
     rw (exit c.from_residual-in_err-td_head.result c.in_err-td_head.field-0.0 _ c.from_residual-in_err-td_head.ensures.1 (λ y h. h))
-    (behind-stop l.place.machine.pages (two_pages l.place.machine l.tdr l.vp)
-    (two-pages l.place.machine.pages l.place.machine l.tdr l.vp (rw c.from.ensures at c.in_ok-check.ensures) (rw c.from-2.ensures at c.in_ok-check-2.ensures) c.in_ok-check-3.ensures)
+    (behind-stop l.place.machine.pages (checked (two_pages l.place.machine l.tdr l.vp))
+    (arguments-hold l.place.machine.pages (two_pages l.place.machine l.tdr l.vp) (rw c.from.ensures at c.in_ok-check.ensures, (rw c.from-2.ensures at c.in_ok-check-2.ensures, (c.in_ok-check-3.ensures, tt))))
     (λ (f : Td → Tree). td_head_tree l.place.machine.pages l.tdr Shared (Initialized ∷ []) f) (λ (td : Td). init_rest l.tdr l.vp l.value) c.args.told.left.now c.td_head.new.told.left.now
     c.in_err-td_head.field-0.0 c.in_err-td_head.ensures.goes)
 
 pub returns-clause-decides : goal.returns-clause-decides
 returns-clause-decides c =
     let l = c.args.self.now in
-    behind-go l.place.machine.pages (two_pages l.place.machine l.tdr l.vp)
-    (two-pages l.place.machine.pages l.place.machine l.tdr l.vp (rw c.from.ensures at c.in_ok-check.ensures) (rw c.from-2.ensures at c.in_ok-check-2.ensures) c.in_ok-check-3.ensures)
+    behind-go l.place.machine.pages (checked (two_pages l.place.machine l.tdr l.vp))
+    (arguments-hold l.place.machine.pages (two_pages l.place.machine l.tdr l.vp) (rw c.from.ensures at c.in_ok-check.ensures, (rw c.from-2.ensures at c.in_ok-check-2.ensures, (c.in_ok-check-3.ensures, tt))))
     (λ (f : Td → Tree). td_head_tree l.place.machine.pages l.tdr Shared (Initialized ∷ []) f) (λ (td : Td). init_rest l.tdr l.vp l.value) c.args.told.left.now c.td_head.new.told.left.now
     c.in_ok-td_head.field-0 _ c.in_ok-td_head.ensures.goes (c.initialize.ensures.decides l.value)
