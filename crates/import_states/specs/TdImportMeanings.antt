@@ -39,7 +39,7 @@ use Rattle.stream_parts.proofs.StreamMeans.{HoldsAlone}
 use Rattle.stream_parts.proofs.Counted.{counter-owed}
 use Rattle.access_core.specs.RtmrShows.{rtmr-class}
 use Rattle.import_parts.specs.InputTrees.{input_checks, tag_tree, epoch_same_tree, is_due, counter_due_tree}
-use Rattle.import_parts.proofs.AloneMeans.{td_locks, td-own}
+use Rattle.stream_parts.proofs.AloneMeans.{td_locks, td-own}
 use Rattle.import_parts.proofs.InputMeans.{session_same-means, epoch_same-means, counter_due-means}
 use Rattle.import_parts.proofs.WordPuts.{puts-owed}
 use Rattle.import_states.specs.TdImportTrees.{td_import_changes, td_due_tree, td_import_end, import_td_task}

@@ -8,6 +8,7 @@ pub mod Checks
 pub mod Owned
 pub mod Aside
 pub mod Hashers
+pub mod Stored
 pub mod Acted
 pub mod Unheld
 pub mod VpTrees

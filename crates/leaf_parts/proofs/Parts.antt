@@ -48,6 +48,11 @@ pub goes-refused : {A : Type 0} (n : ℕ) (tree : (A → Tree) → Tree) (before
     → Goes n tree before last r
 goes-refused n tree before after last b s e r rest is k h = goes-stop n tree before last r e is (λ f. h f (Err e) (refuses n b s (rest f) after e k.0 k.1))
 
+-- a part behind a condition that holds
+pub goes-behind : {A : Type 0} (n : ℕ) (b : Bool) (s : Status) (tree : (A → Tree) → Tree) (before after : List ℕ) (r : Result A Stop) → b ≡ true → Goes n tree before after r → Goes n (λ f. needs b s (tree f)) before after r
+goes-behind n b s tree before after (Ok x) e g = λ further v d. passes n b s (tree further) before v e (g further v d)
+goes-behind n b s tree before after (Err x) e g = λ further. passes n b s (tree further) before (Err x) e (g further)
+
 -- what is left of a tree behind a condition that holds, and behind parts that pass
 pub feed-passes : (b : Bool) (s : Status) (t : Tree) (after : List ℕ) → b ≡ true → feed (needs b s t) after ≡ feed t after
 feed-passes true s t after e = refl
