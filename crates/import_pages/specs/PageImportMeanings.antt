@@ -49,7 +49,8 @@ use Rattle.leaf_engine.specs.Trees.{Tree, Load, needs, done}
 use Rattle.leaf_engine.specs.Means.{Instant, Means, MeansRow, MayFillAll, MayOweAll, MayChange, LocksStay, Work, work_of, OfCall, hold}
 use Rattle.leaf_parts.proofs.Aside.{apart, turned}
 use Rattle.leaf_parts.proofs.Begun.{IsTd, op_lock, page_lock, page-in}
-use Rattle.leaf_parts.proofs.Checks.{AllHold, spot_of, at-spot, host-page-means, td-row-means}
+use Rattle.leaf_parts.specs.Arguments.{AllHold}
+use Rattle.leaf_parts.proofs.Checks.{spot_of, at-spot, host-page-means, td-row-means}
 use Rattle.leaf_parts.proofs.Told.{tdr-shown}
 use Rattle.sept_parts.specs.SeptPages.{HasEntry, HoldsTree}
 use Rattle.sept_parts.specs.SeptTrees.{find_tree}

@@ -15,13 +15,13 @@ use Rattle.td_words.specs.declared.places.TheConstants.{TDR_LIFE, TDR_TDCX_COUNT
 use Rattle.td_words.specs.NameNumber.{life_number, op_number}
 use Rattle.td_words.specs.Place as place
 use Rattle.flat_core.specs.World.{World}
-use Rattle.flat_core.specs.Processor.{OfPage, OfOp, OfKeys, Held}
+use Rattle.flat_core.specs.Processor.{LockId, OfPage, OfOp, OfTree, OfEpoch, OfRtmr, OfKeys, Held}
 use Rattle.flat_core.specs.Row.{Item, Try}
 use Rattle.flat_core.specs.Conditions.{same_kind, root, life_in, tdcx_count, op_in, td_row, tdr_exclusive}
 use Rattle.flat_core.specs.Lawful.{Lawful, IsAlive, IsPageOf, AreControls}
 use Rattle.word_rules.specs.Cells.{Shows}
 use Rattle.lock_words.specs.Grips.{holds, holds_alone}
-use Rattle.lock_words.specs.LockWords.{tdcs_of}
+use Rattle.lock_words.specs.LockWords.{tdcs_of, TdStands, Stands, place_of}
 use Rattle.leaf_engine.specs.Trees.{Tree}
 use Rattle.leaf_engine.specs.Means.{Instant, Work, Means, LocksStay}
 use Rattle.leaf_parts.specs.declared.heads.Td.{Td}
@@ -40,6 +40,23 @@ alone-newest p hs = rw (eq-eqb p p refl) refl
 pub locks-stay : (w : World) (hs : List Held) → LocksStay w w hs
 locks-stay w [] = tt
 locks-stay w (h ∷ hs) = ((refl, λ x. x), locks-stay w hs)
+
+-- and where an act leaves each TD alive, with its TDCX pages
+module _ (w w' : World) (controls : w'.tds.controls ≡ w.tds.controls) (alive : (u : ℕ) → IsAlive w.pages w.tds u → IsAlive w'.pages w'.tds u) where
+  td-stands : (u : ℕ) → TdStands w u → TdStands w' u
+  td-stands u a = record { alive = alive u a.alive; has_tdcs = rw controls (a.has_tdcs) }
+
+  lock-stays : (l : LockId) → (place_of w' l ≡ place_of w l) × (Stands w l → Stands w' l)
+  lock-stays (OfPage p) = (refl, λ a. a)
+  lock-stays (OfOp u) = (rw controls refl, td-stands u)
+  lock-stays (OfTree u) = (rw controls refl, td-stands u)
+  lock-stays (OfEpoch u) = (rw controls refl, td-stands u)
+  lock-stays (OfRtmr u) = (rw controls refl, td-stands u)
+  lock-stays OfKeys = (refl, λ a. a)
+
+  pub locks-kept : (hs : List Held) → LocksStay w w' hs
+  locks-kept [] = tt
+  locks-kept (h ∷ hs) = (lock-stays h.lock, locks-kept hs)
 
 abbrev pub page_lock : ℕ → Mode → Held
 page_lock p mode = record { lock = OfPage p; mode = mode }

@@ -30,20 +30,14 @@ use Rattle.word_rules.specs.Cells.{Shows, IsAs, tdr_lines, td_lock_lines, tdcs_l
 use Rattle.leaf_engine.specs.Trees as tree
 use Rattle.leaf_engine.specs.Means.{Instant, Means, Work, hold}
 use Rattle.leaf_parts.specs.declared.heads.Td.{Td}
+use Rattle.leaf_parts.specs.Arguments.{checked, AllHold}
 use Rattle.leaf_parts.specs.Heads.{td_head_tree, tdr_head_tree}
+use Rattle.leaf_parts.specs.HostPages.{host_page_tree}
 use Rattle.leaf_parts.specs.Words.{says_kind, says_owner, says_host}
 use Rattle.leaf_parts.proofs.Begun.{IsTd, TwoControls, op_lock, page_lock, td-head-means, tdr-head-means, holds-newest}
 use Rattle.leaf_parts.proofs.Told.{kind-is, kind-shown, owner-shown, tdr-shown, tdcs-shown, tdr-spot, tdcs-spot}
 
--- conditions that are judged without a word of memory, as the argument rules
-abbrev pub checked : List (Bool × Status) → tree.Tree → tree.Tree
-checked [] t = t
-checked (c ∷ cs) t = tree.needs c.0 c.1 (checked cs t)
-
-abbrev pub AllHold : List (Bool × Status) → Type 0
-AllHold [] = Unit {0}
-AllHold (c ∷ cs) = (c.0 ≡ true) × AllHold cs
-
+-- arguments
 pub checks-mean : (m : Machine) (c : Instant) (k : Work) (hs : List Held) (cs : List (Bool × Status)) (t : tree.Tree) (rest : List (Item Reply)) → (AllHold cs → Means m c k hs t rest)
     → Means m c k hs (checked cs t) (map (λ d. needs d.0 d.1) cs ++ rest)
 checks-mean m c k hs [] t rest h = h tt
@@ -95,7 +89,7 @@ module _ (m : Machine) (c : Instant) (k : Work) (hs : List Held) (sh : Shows m c
   page-means p in_page says b told further rest h = page-told m c k hs p Exclusive in_page (λ pamt. tree.needs (says pamt) (PageMetadataIncorrect p) further) (needs b (PageMetadataIncorrect p) ∷ rest) (told, λ e. refl, λ e. h e)
 
   pub host-page-means : (p : ℕ) → p < m.pages → (further : tree.Tree) (rest : List (Item Reply)) → (is_host w p ≡ true → Means m c k (page_lock p Exclusive ∷ hs) further rest)
-      → Means m c k hs (tree.Lock (OfPage p) (place.Lock p) Exclusive (tree.Load Whole (place.Pamt p) (λ pamt. tree.needs (says_host pamt) (PageMetadataIncorrect p) further))) (page_exclusive p ∷ host_page w p ∷ rest)
+      → Means m c k hs (host_page_tree p further) (page_exclusive p ∷ host_page w p ∷ rest)
   host-page-means p in_page further rest h = page-means p in_page (λ x. says_host x) (is_host w p) (kind-shown m c.memory.words c.memory.slots c.state sh kind.Nda p in_page) further rest h
 
   pub td-page-means : Lawful m c.state.world → m.pages < 65536 → (t p : ℕ) (j : PageKind) → p < m.pages → (further : tree.Tree) (rest : List (Item Reply)) → (IsPageOf w.pages t p j → Means m c k (page_lock p Exclusive ∷ hs) further rest)

@@ -1,4 +1,5 @@
 pub mod Parts
+pub mod Arguments
 pub mod Told
 pub mod Lines
 pub mod Keys
@@ -7,6 +8,7 @@ pub mod Begun
 pub mod Checks
 pub mod Owned
 pub mod Aside
+pub mod HostPages
 pub mod Hashers
 pub mod Stored
 pub mod Acted

@@ -1,12 +1,14 @@
 -- Parts of leaves: where they stop, and one after another.
-use Rattle.std.proofs.Common.{◌≡◌, ℕ, ◌+◌, ◌≤◌, List, Result, Ok, Err, refl, sym, ap, ◌∙◌, subst, Bool, true, false, arith}
+use Rattle.std.proofs.Common.{◌≡◌, ℕ, ◌+◌, ◌≤◌, List, [], ◌∷◌, Result, Ok, Err, refl, sym, ap, ◌∙◌, subst, Bool, true, false, arith}
 use Rattle.std.specs.Prelude.{MatchResult}
 use Rattle.std.specs.Result.{IsErrAnd}
 use Rattle.td_words.specs.declared.refusals.Status.{Status}
 use Rattle.td_words.specs.declared.replies.Reply.TheVariants.{Refused}
 use Rattle.leaf_engine.specs.declared.plans.Stop.{Stop}
 use Rattle.leaf_engine.specs.declared.plans.Stop.TheVariants as stop
-use Rattle.leaf_engine.specs.Trees.{Tree, needs, feed}
+use Rattle.td_words.specs.Place.{WordPlace, address}
+use Rattle.word_rules.specs.Rules.{Whole}
+use Rattle.leaf_engine.specs.Trees.{Tree, Load, needs, feed}
 use Rattle.leaf_engine.specs.Decides.{Ending, Decides}
 use Rattle.leaf_engine.specs.Inside.{StopEarly}
 use Rattle.leaf_parts.specs.Parts.{Goes, Feeds}
@@ -52,6 +54,16 @@ goes-refused n tree before after last b s e r rest is k h = goes-stop n tree bef
 pub goes-behind : {A : Type 0} (n : ℕ) (b : Bool) (s : Status) (tree : (A → Tree) → Tree) (before after : List ℕ) (r : Result A Stop) → b ≡ true → Goes n tree before after r → Goes n (λ f. needs b s (tree f)) before after r
 goes-behind n b s tree before after (Ok x) e g = λ further v d. passes n b s (tree further) before v e (g further v d)
 goes-behind n b s tree before after (Err x) e g = λ further. passes n b s (tree further) before (Err x) e (g further)
+
+-- a load
+pub goes-load : (n : ℕ) (q : WordPlace) (before after : List ℕ) (r : Result ℕ Stop) → MatchResult r (λ word. before ≡ word ∷ after) (λ e. (before ≡ []) × (e ≡ stop.Load (address n q)))
+    → Goes n (λ (f : ℕ → Tree). Load Whole q f) before after r
+goes-load n q before after (Ok x) h = λ further v d. rw h d
+goes-load n q before after (Err e) h = λ further. rw (h.0, h.1) refl
+
+pub feeds-load : (q : WordPlace) (before after : List ℕ) (r : Result ℕ Stop) (Q : Stop → Type 0) → MatchResult r (λ word. before ≡ word ∷ after) Q → Feeds (λ (f : ℕ → Tree). Load Whole q f) before after r
+feeds-load q before after (Ok x) Q h = λ further. rw h refl
+feeds-load q before after (Err e) Q h = tt
 
 -- what is left of a tree behind a condition that holds, and behind parts that pass
 pub feed-passes : (b : Bool) (s : Status) (t : Tree) (after : List ℕ) → b ≡ true → feed (needs b s t) after ≡ feed t after

@@ -13,8 +13,8 @@ use Rattle.flat_core.specs.Lawful.{Lawful}
 use Rattle.word_rules.specs.Cells.{Shows}
 use Rattle.leaf_engine.specs.Trees.{Tree}
 use Rattle.leaf_engine.specs.Means.{Instant, Means, Work}
-use Rattle.leaf_parts.proofs.Begun.{IsTd, op_lock, page_lock}
 use Rattle.leaf_parts.specs.Arguments.{AllHold, checked}
+use Rattle.leaf_parts.proofs.Begun.{IsTd, op_lock, page_lock}
 use Rattle.leaf_parts.proofs.Checks.{td-row-means}
 use Rattle.leaf_parts.proofs.Told.{tdcs-spot}
 use Rattle.sept_parts.specs.SeptTrees.{tree_lock_tree}
