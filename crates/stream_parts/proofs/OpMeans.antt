@@ -1,7 +1,7 @@
 -- An act that gives a TD another operation state, in which nothing is measured: what words show after it, which locks it wants,
 -- that the end of a leaf with this store is that act, and that the call behind the beginning of the rows that hold a TD's map
 -- alone means such a row. What is noted of exports and imports may be other after it, and what has left the machine.
-use Rattle.std.proofs.Common.{◌≡◌, ℕ, ◌<◌, true, false, ◌==◌, nat_lt, List, [], ◌∷◌, ◌++◌, refl, inl, inr, arith}
+use Rattle.std.proofs.Common.{◌≡◌, ℕ, true, false, ◌==◌, nat_lt, List, [], ◌∷◌, ◌++◌, refl, inl, inr, arith}
 use Rattle.std.proofs.lemmas.Bool.{eq-eqb, ltb-true}
 use Rattle.td_words.specs.declared.names.OpState.{OpState}
 use Rattle.td_words.specs.declared.machines.Machine.{Machine}

@@ -13,7 +13,7 @@ use Rattle.td_words.specs.declared.refusals.Status.TheVariants.{OperandInvalid, 
 use Rattle.td_words.specs.declared.replies.Value.TheVariants as value
 use Rattle.td_words.specs.declared.replies.Reply.TheVariants.{Done}
 use Rattle.td_words.specs.NameNumber.{vcpu_number}
-use Rattle.td_words.specs.Place.{WordPlace, IsIn}
+use Rattle.td_words.specs.Place.{IsIn}
 use Rattle.td_words.specs.Place as place
 use Rattle.flat_core.specs.World.{World}
 use Rattle.flat_core.specs.Processor.{LockId, OfPage, OfOp, Held}
