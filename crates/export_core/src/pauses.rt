@@ -66,7 +66,13 @@ impl Plan for Pause {
     }
 
     fn write(&self, act: Act, _told: &[u64], number: usize, hand: &mut Hand) -> Option<Write> {
-        op_write(self.place.machine, act.page, OpState::PausedExport, number, hand)
+        op_write(
+            self.place.machine,
+            act.page,
+            OpState::PausedExport,
+            number,
+            hand,
+        )
     }
 
     ghost means = { λ l. pause-means l.place l.tdr };
@@ -90,7 +96,13 @@ impl Plan for Abort {
     }
 
     fn write(&self, act: Act, _told: &[u64], number: usize, hand: &mut Hand) -> Option<Write> {
-        op_write(self.place.machine, act.page, OpState::Runnable, number, hand)
+        op_write(
+            self.place.machine,
+            act.page,
+            OpState::Runnable,
+            number,
+            hand,
+        )
     }
 
     ghost means = { λ l. abort-means l.place l.tdr };

@@ -111,7 +111,13 @@ impl Plan for ImportAbort {
     }
 
     fn write(&self, act: Act, _told: &[u64], number: usize, hand: &mut Hand) -> Option<Write> {
-        op_write(self.place.machine, act.page, OpState::FailedImport, number, hand)
+        op_write(
+            self.place.machine,
+            act.page,
+            OpState::FailedImport,
+            number,
+            hand,
+        )
     }
 
     ghost means = { λ l. import_abort-means l.place l.tdr l.slot };

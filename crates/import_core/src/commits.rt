@@ -67,7 +67,13 @@ impl Plan for Commit {
     }
 
     fn write(&self, act: Act, _told: &[u64], number: usize, hand: &mut Hand) -> Option<Write> {
-        op_write(self.place.machine, act.page, OpState::LiveImport, number, hand)
+        op_write(
+            self.place.machine,
+            act.page,
+            OpState::LiveImport,
+            number,
+            hand,
+        )
     }
 
     ghost means = { λ l. commit-means l.place l.tdr };
@@ -106,7 +112,13 @@ impl Plan for ImportEnd {
     }
 
     fn write(&self, act: Act, _told: &[u64], number: usize, hand: &mut Hand) -> Option<Write> {
-        op_write(self.place.machine, act.page, OpState::Runnable, number, hand)
+        op_write(
+            self.place.machine,
+            act.page,
+            OpState::Runnable,
+            number,
+            hand,
+        )
     }
 
     ghost means = { λ l. import_end-means l.place l.tdr };

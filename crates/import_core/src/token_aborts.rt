@@ -78,7 +78,13 @@ impl<'a> Plan for AbortByToken<'a> {
     }
 
     fn write(&self, act: Act, _told: &[u64], number: usize, hand: &mut Hand) -> Option<Write> {
-        op_write(self.place.machine, act.page, OpState::Runnable, number, hand)
+        op_write(
+            self.place.machine,
+            act.page,
+            OpState::Runnable,
+            number,
+            hand,
+        )
     }
 
     ghost means = { λ l. abort_by_token-means l.place l.input l.tdr l.slot };

@@ -29,12 +29,7 @@ pub fn td_alone(told: &mut Told, place: Place, tdr: u16, allowed: &[OpState]) ->
 }
 
 /// The decision of a call that gives such a TD another operation state, whichever that is.
-pub fn op_verdict(
-    told: Told,
-    place: Place,
-    tdr: u64,
-    allowed: &[OpState],
-) -> Result<Verdict, Stop>
+pub fn op_verdict(told: Told, place: Place, tdr: u64, allowed: &[OpState]) -> Result<Verdict, Stop>
     ensures decides { (next : Next) → Decides place.machine.pages (op_tree place.machine allowed.now next tdr) told.entry.left.now (ending (λ a. op_changes next a.page) result) }
     ensures inside { DecisionIn place.machine (λ a. a.page < place.machine.pages) result }
     ensures early { DecidesEarly 8 (length told.entry.left.now) result }
