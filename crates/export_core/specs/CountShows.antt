@@ -1,7 +1,7 @@
 -- Words that show a state show the one with other counts of pages dirtied and of unrestored entries of a TD, once both stand in
 -- its TDCS.
-use Rattle.std.proofs.Common.{◌≡◌, ℕ, ◌<◌, false, ◌==◌, List, [], ◌∷◌, Option, refl, sym, subst}
-use Rattle.std.proofs.lemmas.Bool.{eq-eqb, eqb-true}
+use Rattle.std.proofs.Common.{◌≡◌, ℕ, false, ◌==◌, List, Option, refl, sym, subst}
+use Rattle.std.proofs.lemmas.Bool.{eqb-true}
 use Rattle.td_words.specs.declared.machines.Machine.{Machine}
 use Rattle.td_words.specs.declared.places.TheConstants.{TDCS_DIRTIED, TDCS_UNRESTORED}
 use Rattle.td_words.specs.Packing.{Entry}
@@ -16,11 +16,10 @@ use Rattle.flat_core.proofs.Tests.{by_test}
 use Rattle.word_rules.specs.Guards.{Grip}
 use Rattle.word_rules.specs.Permissions.{Respects}
 use Rattle.word_rules.specs.Lines.{in_lines}
-use Rattle.word_rules.specs.Cells.{Shows, IsAs, cell, lock_word, td_lock_lines, tdcs_lines}
+use Rattle.word_rules.specs.Cells.{Shows, IsAs, lock_word, td_lock_lines, tdcs_lines}
 use Rattle.act_rules.proofs.Respected.{effects-respect}
-use Rattle.leaf_parts.proofs.Aside.{ShowsBut, aside, back, kept-but, tdcs-but}
 use Rattle.leaf_parts.proofs.Begun.{TwoControls}
-use Rattle.leaf_parts.proofs.Told.{tdcs-shown}
+use Rattle.leaf_parts.proofs.Stored.{tdcs-changed}
 
 -- these are the counts of all TDs
 abbrev pub counted : (dirtied unrestored : ℕ → ℕ) → World → World
@@ -58,43 +57,16 @@ module _ (m : Machine) (words words' : WordPlace → ℕ) (slots : ℕ → Optio
   abbrev Line : ℕ → Type 0
   Line i = IsAs (in_lines (td_lock_lines locks t (tdcs_lines w' t)) i) (words' (place.Word y.tdcs i))
 
-  other-line : (i : ℕ) → i < 512 → (i == TDCS_DIRTIED) ≡ false → (i == TDCS_UNRESTORED) ≡ false → Line i
-  other-line i b a e =
-      let was : IsAs (in_lines (td_lock_lines locks t (tdcs_lines w t)) i) (words (place.Word y.tdcs i)) = tdcs-shown m words slots s sh t i y.tdcs (y.root ∷ []) y.list y.tdcs_page alive.life y.tdcs_in b in
-      let same : in_lines (td_lock_lines locks t (tdcs_lines w' t)) i ≡ in_lines (td_lock_lines locks t (tdcs_lines w t)) i = rw (a, e) refl in
-      rw (same, h.line i a e) was
-
-  a-line : (i : ℕ) → i < 512 → Line i
-  a-line i b = by_test (i == TDCS_DIRTIED)
-      (λ e. subst Line (sym (eqb-true i TDCS_DIRTIED e)) h.dirtied)
-      (λ a. by_test (i == TDCS_UNRESTORED) (λ e. subst Line (sym (eqb-true i TDCS_UNRESTORED e)) h.unrestored) (λ e. other-line i b a e))
-
-  tdcs-word : (i : ℕ) → i < 512 → IsAs (cell (record s { world = w' }) (place.Word y.tdcs i)) (words' (place.Word y.tdcs i))
-  tdcs-word i b = rw (y.tdcs_page.kind, y.tdcs_page.owner, alive.life, y.list, eq-eqb y.tdcs y.tdcs refl) (a-line i b)
-
-  counted-but : ShowsBut y.tdcs m words (record s { world = w' })
-  counted-but = kept-but w' (aside y.tdcs m words s sh.word) (record {
-    kinds = refl;
-    owners = refl;
-    blocked = refl;
-    key_table = refl;
-    page = λ q o n. record {
-      words = λ i. refl;
-      tdr = λ is i. refl;
-      owned = λ own. record {
-        stands = λ z. z;
-        level = refl;
-        number = refl;
-        entries = λ l e. refl;
-        vp = λ i. refl;
-        stream = λ i. refl;
-        control = λ is z. tdcs-but refl (λ l e. refl) t y.tdcs (y.root ∷ []) y.list o (λ d i. rw ((others (w.pages.owners q) d).0, (others (w.pages.owners q) d).1) refl);
-      };
-    };
-  })
-
   pub counted-shown : Shows m words' slots (record s { world = w' })
-  counted-shown = record { word = back counted-but words' h.lock h.pamt h.key h.page tdcs-word; hasher = sh.hasher }
+  counted-shown = record {
+    word = tdcs-changed m s words t y.tdcs y.root sh.word alive.life y.list y.tdcs_page y.tdcs_in w' (λ u d i. rw ((others u d).0, (others u d).1) refl) words' h.lock h.pamt h.key h.page (λ i was. by_test (i == TDCS_DIRTIED)
+        (λ e. subst Line (sym (eqb-true i TDCS_DIRTIED e)) h.dirtied)
+        (λ a. by_test (i == TDCS_UNRESTORED)
+        (λ e. subst Line (sym (eqb-true i TDCS_UNRESTORED e)) h.unrestored)
+        (λ e. (let same : in_lines (td_lock_lines locks t (tdcs_lines w' t)) i ≡ in_lines (td_lock_lines locks t (tdcs_lines w t)) i = rw (a, e) refl in
+        rw (same, h.line i a e) was))));
+    hasher = sh.hasher;
+  }
 
 -- the TDCX pages of a TD stay where one of its entries is stored
 abbrev pub restated-controls : (m : Machine) (w : World) (t n : ℕ) (e : Entry) → TwoControls m w t → TwoControls m (set_entry t 0 n e w) t

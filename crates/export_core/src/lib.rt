@@ -3,8 +3,8 @@
 //!
 //! Each leaf is a `Plan` of `leaf_engine`, whose tree mirrors its row, with the proof that it means
 //! that row. All begin with the beginning of a TD's rows, which is `leaf_parts`'s; walks are
-//! `sept_parts`'s, and `mem_remove` has what an entry names. A layer above may use the parts of the
-//! beginning that shares the map.
+//! `sept_parts`'s, the change of an operation state is `stream_parts`'s, and `mem_remove` has what an
+//! entry names. A layer above may use the parts of the beginning that shares the map.
 #![tactic(auto)]
 
 mod opened_entries;

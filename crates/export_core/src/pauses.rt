@@ -1,10 +1,8 @@
 //! EXPORT.PAUSE and EXPORT.ABORT.
 
 use leaf_engine::{Act, Hand, Place, Plan, Stop, Told, Verdict, Write};
-use leaf_parts::td_head;
-use sept_parts::tree_lock;
-use td_words::places::TDCS_OP;
-use td_words::{Mode, OpState, Status, word_address};
+use stream_parts::{op_verdict, op_write};
+use td_words::OpState;
 
 /// The operation state in which a TD is exported running.
 const LIVE: [OpState; 1] = [OpState::LiveExport];
@@ -53,7 +51,8 @@ impl Abort {
 impl Plan for Pause {
     ghost use Rattle.std.specs.Prelude.{nat_lt};
     ghost use Rattle.td_words.specs.declared.names.OpState.TheVariants.{PausedExport};
-    ghost use Rattle.export_core.specs.PauseTrees.{pause_task, op_changes};
+    ghost use Rattle.stream_parts.specs.AloneTrees.{op_changes};
+    ghost use Rattle.export_core.specs.PauseTrees.{pause_task};
     ghost use Rattle.export_core.specs.PauseMeanings.{pause-means};
 
     ghost task = { λ l. pause_task l.place l.tdr };
@@ -66,15 +65,14 @@ impl Plan for Pause {
         op_verdict(told, self.place, self.tdr, &LIVE)
     }
 
-    // The act is the store of the operation state.
-    fn write(&self, act: Act, _told: &[u64], number: usize, _hand: &mut Hand) -> Option<Write> {
-        match number {
-            0 => Some(Write::store(
-                word_address(act.page, TDCS_OP),
-                OpState::PausedExport as u64,
-            )),
-            _ => None,
-        }
+    fn write(&self, act: Act, _told: &[u64], number: usize, hand: &mut Hand) -> Option<Write> {
+        op_write(
+            self.place.machine,
+            act.page,
+            OpState::PausedExport,
+            number,
+            hand,
+        )
     }
 
     ghost means = { λ l. pause-means l.place l.tdr };
@@ -83,7 +81,8 @@ impl Plan for Pause {
 impl Plan for Abort {
     ghost use Rattle.std.specs.Prelude.{nat_lt};
     ghost use Rattle.td_words.specs.declared.names.OpState.TheVariants.{Runnable};
-    ghost use Rattle.export_core.specs.PauseTrees.{abort_task, op_changes};
+    ghost use Rattle.stream_parts.specs.AloneTrees.{op_changes};
+    ghost use Rattle.export_core.specs.PauseTrees.{abort_task};
     ghost use Rattle.export_core.specs.PauseMeanings.{abort-means};
 
     ghost task = { λ l. abort_task l.place l.tdr };
@@ -96,38 +95,15 @@ impl Plan for Abort {
         op_verdict(told, self.place, self.tdr, &ABORTABLE)
     }
 
-    // The act is the store of the operation state.
-    fn write(&self, act: Act, _told: &[u64], number: usize, _hand: &mut Hand) -> Option<Write> {
-        match number {
-            0 => Some(Write::store(word_address(act.page, TDCS_OP), OpState::Runnable as u64)),
-            _ => None,
-        }
+    fn write(&self, act: Act, _told: &[u64], number: usize, hand: &mut Hand) -> Option<Write> {
+        op_write(
+            self.place.machine,
+            act.page,
+            OpState::Runnable,
+            number,
+            hand,
+        )
     }
 
     ghost means = { λ l. abort-means l.place l.tdr };
-}
-
-ghost use Rattle.std.specs.Prelude.{◌<◌, length};
-ghost use Rattle.td_words.specs.declared.names.OpState.{OpState};
-ghost use Rattle.leaf_engine.specs.Decides.{Decides, ending};
-ghost use Rattle.leaf_engine.specs.Inside.{DecisionIn, DecidesEarly};
-ghost use Rattle.export_core.specs.PauseTrees.{op_tree, op_changes};
-
-/// The TD is in one of these operation states and its map is held alone, so that it may get another.
-fn op_verdict(told: Told, place: Place, tdr: u64, allowed: &[OpState]) -> Result<Verdict, Stop>
-    ensures decides { (next : OpState) → Decides place.machine.pages (op_tree place.machine allowed.now next tdr) told.entry.left.now (ending (λ a. op_changes next a.page) result) }
-    ensures inside { DecisionIn place.machine (λ a. a.page < place.machine.pages) result }
-    ensures early { DecidesEarly 8 (length told.entry.left.now) result }
-{
-    let mut told = told;
-    told.check(
-        tdr < u64::from(place.machine.pages),
-        Status::OperandInvalid(1),
-    )?;
-    let td = td_head(&mut told, place, tdr as u16, Mode::Exclusive, allowed)?;
-    tree_lock(&mut told, place, td.tdcs, Mode::Exclusive)?;
-    Ok(Verdict::done(Act {
-        page: td.tdcs,
-        ..Act::NONE
-    }))
 }

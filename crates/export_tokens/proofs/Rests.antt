@@ -1,16 +1,9 @@
--- What comes behind each part of a token's tree; and a part behind a condition that holds.
-use Rattle.std.proofs.Common.{◌≡◌, ℕ, ◌+◌, ◌-◌, ◌^◌, Bool, true, nat_lt, List, Result, Ok, Err}
+-- What comes behind each part of a token's tree.
+use Rattle.std.proofs.Common.{ℕ, ◌+◌, ◌-◌, ◌^◌, nat_lt}
 use Rattle.td_words.specs.declared.names.Counter.TheVariants.{MigEpoch}
-use Rattle.td_words.specs.declared.names.Mode.TheVariants.{Exclusive}
-use Rattle.td_words.specs.declared.refusals.Status.{Status}
 use Rattle.td_words.specs.declared.refusals.Status.TheVariants.{CounterLimit}
 use Rattle.arrayvec.specs.ArrayVec.{ArrayVec}
-use Rattle.leaf_engine.specs.declared.plans.Stop.{Stop}
 use Rattle.leaf_engine.specs.Trees.{Tree, needs}
-use Rattle.leaf_parts.specs.declared.heads.Td.{Td}
-use Rattle.leaf_parts.specs.Parts.{Goes}
-use Rattle.leaf_parts.proofs.Parts.{passes}
-use Rattle.sept_parts.specs.SeptTrees.{tree_lock_tree}
 use Rattle.stream_parts.specs.declared.rooms.Room.{Room}
 use Rattle.stream_parts.specs.Streams.{pages_tree}
 use Rattle.stream_parts.specs.Rooms.{room_tree, session_tree}
@@ -24,11 +17,8 @@ paged d room f pages = f (record { tdcs = d; room = room; pages = pages })
 abbrev pub roomed : (n tdcs : ℕ) → (Streams → Tree) → Room → Tree
 roomed n d f room = pages_tree n d (paged d room f)
 
-abbrev pub locked : (n tdcs : ℕ) → (Streams → Tree) → Unit {0} → Tree
-locked n d f u = room_tree n d 0 (roomed n d f)
-
-abbrev pub headed : (n t : ℕ) → (Streams → Tree) → Td → Tree
-headed n t f td = tree_lock_tree t td.tdcs Exclusive (locked n td.tdcs f tt)
+abbrev pub headed : (n : ℕ) → (Streams → Tree) → (tdcs : ℕ) → Tree
+headed n f d = room_tree n d 0 (roomed n d f)
 
 abbrev pub tested : (ℕ → Tree) → ℕ → Tree
 tested f epoch = needs (nat_lt epoch (2 ^ 32 - 2)) (CounterLimit MigEpoch) (f (epoch + 1))
@@ -50,7 +40,3 @@ dirty_next s u f = none_dirty_tree s.tdcs s.pages.items (total_next s tt f)
 
 abbrev pub start_next : Streams → (TokenWords → Tree) → Tree
 start_next s f = none_missing_tree s.tdcs (dirty_next s tt f)
-
-pub goes-behind : {A : Type 0} (n : ℕ) (b : Bool) (s : Status) (tree : (A → Tree) → Tree) (before after : List ℕ) (r : Result A Stop) → b ≡ true → Goes n tree before after r → Goes n (λ f. needs b s (tree f)) before after r
-goes-behind n b s tree before after (Ok x) e g = λ further v d. passes n b s (tree further) before v e (g further v d)
-goes-behind n b s tree before after (Err x) e g = λ further. passes n b s (tree further) before (Err x) e (g further)

@@ -1,3 +1,2 @@
 pub mod TokenTrees
-pub mod TokenShows
 pub mod TokenMeanings

@@ -6,7 +6,6 @@ use Rattle.td_words.specs.declared.names.PageKind.TheVariants as kind
 use Rattle.td_words.specs.declared.names.OpState.{OpState}
 use Rattle.td_words.specs.declared.names.OpState.TheVariants as op
 use Rattle.td_words.specs.declared.names.Counter.TheVariants.{MigEpoch}
-use Rattle.td_words.specs.declared.names.Mode.TheVariants.{Shared, Exclusive}
 use Rattle.td_words.specs.declared.machines.Machine.{Machine}
 use Rattle.td_words.specs.declared.refusals.Status.{Status}
 use Rattle.td_words.specs.declared.refusals.Status.TheVariants.{OperandInvalid, CounterLimit, StateMissing, DirtyPages}
@@ -17,7 +16,6 @@ use Rattle.td_words.specs.Place as place
 use Rattle.flat_core.specs.World.{World}
 use Rattle.flat_core.specs.Processor.{Held}
 use Rattle.flat_core.specs.Row.{Item}
-use Rattle.flat_core.specs.Conditions.{tree_exclusive}
 use Rattle.flat_core.specs.Effects.{set_op}
 use Rattle.flat_core.specs.Lawful.{Lawful, IsPageOf, is_exporting}
 use Rattle.flat_core.specs.ExportRows.{abortable_ops}
@@ -32,13 +30,12 @@ use Rattle.leaf_engine.specs.declared.needs.Place.{Place}
 use Rattle.leaf_engine.specs.Changes.{Memory, Put, changed}
 use Rattle.leaf_engine.specs.Trees.{Tree, Load, needs}
 use Rattle.leaf_engine.specs.Means.{Instant, Means, MeansRow, Work, work_of, OfCall, hold}
-use Rattle.leaf_parts.proofs.Begun.{IsTd, TwoControls, op_lock, page_lock, page-in}
-use Rattle.leaf_parts.proofs.Checks.{td-row-means, tdcs-load, at-tdcs}
+use Rattle.leaf_parts.proofs.Aside.{AllShown}
+use Rattle.leaf_parts.proofs.Begun.{IsTd, TwoControls, locks-kept, page-in}
+use Rattle.leaf_parts.proofs.Checks.{tdcs-load, at-tdcs}
 use Rattle.leaf_parts.proofs.Hashers.{hashers-but}
-use Rattle.leaf_parts.proofs.Told.{tdcs-spot}
+use Rattle.leaf_parts.proofs.Stored.{tdcs-stored}
 use Rattle.leaf_parts.proofs.Vps.{vps-back}
-use Rattle.sept_parts.specs.SeptTrees.{tree_lock_tree}
-use Rattle.sept_parts.proofs.SeptLocks.{tree_held}
 use Rattle.stream_parts.specs.declared.rooms.Room.{Room}
 use Rattle.stream_parts.specs.Streams.{pages_tree, sum_tree}
 use Rattle.stream_parts.specs.Rooms.{room_tree, session_tree}
@@ -46,10 +43,10 @@ use Rattle.stream_parts.proofs.StreamSums.{sum-fits}
 use Rattle.stream_parts.proofs.StreamWords.{abortable, page-of}
 use Rattle.stream_parts.proofs.StreamMeans.{HoldsHead, HoldsAlone, tdcs-means, pages-means, sum-means, room-means, session-means, mig_epoch-means}
 use Rattle.stream_parts.proofs.Counted.{bundle-counted, counter-owed}
+use Rattle.stream_parts.proofs.AloneMeans.{alone_locks, alone-head, alone-own, alone-row-means}
 use Rattle.export_tokens.specs.declared.tokens.Streams.{Streams}
 use Rattle.export_tokens.specs.declared.tokens.TokenWords.{TokenWords}
 use Rattle.export_tokens.specs.TokenTrees.{next_epoch_tree, missing_in, none_missing_tree, none_dirty_tree, total_tree, token_made, token_end, token_task}
-use Rattle.export_tokens.specs.TokenShows.{epoch-shown, op-shown}
 
 -- a TD that is paused for its export is being exported
 paused : (s : OpState) → list_any (λ a. op_number a == op_number s) paused_ops ≡ true → is_exporting s ≡ true
@@ -69,20 +66,17 @@ module _ (m : Machine) (c : Instant) (t : ℕ) (la : Lawful m c.state.world) (sh
   abbrev p : ℕ
   p = stream_page c.state.world t 0
 
-  abbrev td_locks : List Held
-  td_locks = op_lock t Exclusive ∷ page_lock t Shared ∷ []
-
   abbrev held : List Held
-  held = tree_held t Exclusive ∷ op_lock t Exclusive ∷ page_lock t Shared ∷ []
+  held = alone_locks t
 
   abbrev g : Grip
   g = hold c held
 
   own : HoldsAlone (held ++ c.kept) t
-  own = record { tdr = rw (eq-eqb t t refl) refl; op = rw (eq-eqb t t refl) refl; alone = rw (eq-eqb t t refl) refl }
+  own = alone-own t c.kept
 
   head : HoldsHead (held ++ c.kept) t
-  head = record { tdr = own.tdr; op = own.op }
+  head = alone-head t c.kept
 
   its-stream : IsPageOf w.pages t p kind.Migsc
   its-stream = page-of m w t 0 la x.alive first
@@ -99,7 +93,10 @@ module _ (m : Machine) (c : Instant) (t : ℕ) (la : Lawful m c.state.world) (sh
   abbrev its-words : ℕ → TokenWords
   its-words epoch = record { tdcs = x.controls.tdcs; room = its-room; epoch = epoch; session = c.state.world.tds.sessions t; total = bundles_so_far c.state.world t }
 
-  -- the act is the store of the migration epoch
+  -- the migration epoch is stored, which is the act
+  epoch-shown : (epoch : ℕ) → AllShown m (changed (Put (place.Word d 10) epoch) c.memory).words (record (c.state) { world = set_mig_epoch t epoch c.state.world })
+  epoch-shown epoch = tdcs-stored m c.state c.memory.words t d z.root sh.word x.alive.life z.list z.tdcs_page z.tdcs_in (set_mig_epoch t epoch w) (λ u n i. rw n refl) 10 epoch (rw (eq-eqb t t refl) refl) (λ i n. rw n refl)
+
   may-act : IsIn m (place.Word d 10) × Writes g w (place.Word d 10) KeepsNothing
   may-act = ((z.tdcs_in, omega arith), at-tdcs g w t d 10 (z.root ∷ []) (λ a. writes a KeepsNothing) z.list z.tdcs_page (inr (inl (own.tdr, (own.alone, tt)))))
 
@@ -112,19 +109,10 @@ module _ (m : Machine) (c : Instant) (t : ℕ) (la : Lawful m c.state.world) (sh
 
     -- the beginning
     begun-means : (further : Streams → Tree) (rest : List (Item Reply)) → Mean (further its-streams) rest
-        → Means m c k td_locks (tree_lock_tree t d Exclusive (room_tree m.pages d 0 (λ room. pages_tree m.pages d (λ pages. further (record { tdcs = d; room = room; pages = pages }))))) (tree_exclusive t ∷ counter_room w t 0 ∷ rest)
-    begun-means further rest end = (
-      refl,
-      refl,
-      record {
-        in_machine = (z.tdcs_in, omega arith);
-        at = rw z.list refl;
-        stands = record { alive = x.alive; has_tdcs = rw z.list refl };
-        allowed = rw (tdcs-spot w t 1 z.tdcs (z.root ∷ []) z.list z.tdcs_page) (inl (rw (eq-eqb t t refl) refl, tt));
-      },
-      room-means m c k held t la sh x.alive z own 0 first (λ room. pages_tree m.pages d (λ pages. further (record { tdcs = d; room = room; pages = pages }))) rest
-          (λ room. pages-means m c k held t la sh x.alive z own (λ pages. further (record { tdcs = d; room = its-room; pages = pages })) rest end),
-    )
+        → Mean (room_tree m.pages d 0 (λ room. pages_tree m.pages d (λ pages. further (record { tdcs = d; room = room; pages = pages })))) (counter_room w t 0 ∷ rest)
+    begun-means further rest end =
+        room-means m c k held t la sh x.alive z own 0 first (λ room. pages_tree m.pages d (λ pages. further (record { tdcs = d; room = room; pages = pages }))) rest
+        (λ room. pages-means m c k held t la sh x.alive z own (λ pages. further (record { tdcs = d; room = its-room; pages = pages })) rest end)
 
     -- the words of its header
     total-means : (epoch : ℕ) (further : TokenWords → Tree) (rest : List (Item Reply)) → Mean (further (its-words epoch)) rest → Mean (total_tree its-streams epoch further) rest
@@ -174,22 +162,22 @@ module _ (m : Machine) (c : Instant) (t : ℕ) (la : Lawful m c.state.world) (sh
     told = changed (Put (place.Word x.controls.tdcs 10) epoch) c.memory
 
     epoch-begun : Shows m told.words told.slots (record (c.state) { world = begun })
-    epoch-begun = record { word = epoch-shown m c.state c.memory.words t d z.root sh.word x.alive.life z.list z.tdcs_page z.tdcs_in epoch; hasher = sh.hasher }
+    epoch-begun = record { word = epoch-shown epoch; hasher = sh.hasher }
 
     epoch-end : Means m c (k slot 0) held (token_end slot 0 (its-words epoch)) []
-    epoch-end = (
+    epoch-end = (let w' : World = (export_token m t slot 0).act w in (
       record {
         answers = record { reply_is = refl; cached_is = refl; enters_is = refl; notes_are = refl; tells_are = refl; bundles_are = refl };
         fills_allowed = tt;
         respects = token-exported g w m t slot 0 own.tdr own.alone;
-        locks_stay = ((refl, λ a. record { alive = record { kind = a.alive.kind; life = a.alive.life }; has_tdcs = a.has_tdcs }), ((refl, λ a. record { alive = record { kind = a.alive.kind; life = a.alive.life }; has_tdcs = a.has_tdcs }), ((refl, λ a. a), tt)));
+        locks_stay = locks-kept w w' refl (λ u a. record { kind = a.kind; life = a.life }) held;
         shows = bundle-counted m (record (c.state) { world = begun }) told t 0 (token_made slot 0 (its-words epoch)) epoch-begun x.alive.life its-stream stream-in;
       },
       (
         (may-act.0, (KeepsNothing, may-act.1, tt)),
-        (((stream-in, omega arith), (KeepsNothing, counter-owed g ((export_token m t slot 0).act w) t p own.tdr own.alone (record { kind = its-stream.kind; owner = its-stream.owner }), tt)), tt),
+        (((stream-in, omega arith), (KeepsNothing, counter-owed g w' t p own.tdr own.alone (record { kind = its-stream.kind; owner = its-stream.owner }), tt)), tt),
       ),
-    )
+    ))
 
   -- a start token's end
   module _ (slot n : ℕ) where
@@ -207,8 +195,8 @@ module _ (m : Machine) (c : Instant) (t : ℕ) (la : Lawful m c.state.world) (sh
 
     export-ended : Shows m told-last.words told-last.slots (record (c.state) { world = ended })
     export-ended = record {
-      word = op-shown m (record (c.state) { world = last }) (changed (Put (place.Word x.controls.tdcs 10) start_epoch) c.memory).words t d z.root
-          (epoch-shown m c.state c.memory.words t d z.root sh.word x.alive.life z.list z.tdcs_page z.tdcs_in start_epoch) x.alive.life z.list z.tdcs_page z.tdcs_in op.PostExport;
+      word = tdcs-stored m (record (c.state) { world = last }) (changed (Put (place.Word x.controls.tdcs 10) start_epoch) c.memory).words t d z.root
+          (epoch-shown start_epoch) x.alive.life z.list z.tdcs_page z.tdcs_in ended (λ u n i. rw n refl) 4 5 (rw itself refl) (λ i n. rw n refl);
       hasher = hashers-but m w ended t c.memory.slots told-last.slots la x.alive refl (λ u e. rw e refl) (λ h e. refl) (rw (x.configured, itself) tt) sh.hasher;
     }
 
@@ -218,7 +206,7 @@ module _ (m : Machine) (c : Instant) (t : ℕ) (la : Lawful m c.state.world) (sh
         answers = record { reply_is = refl; cached_is = refl; enters_is = refl; notes_are = refl; tells_are = refl; bundles_are = refl };
         fills_allowed = tt;
         respects = token-exported g w m t slot (suc n) own.tdr own.alone;
-        locks_stay = ((refl, λ a. record { alive = record { kind = a.alive.kind; life = a.alive.life }; has_tdcs = a.has_tdcs }), ((refl, λ a. record { alive = record { kind = a.alive.kind; life = a.alive.life }; has_tdcs = a.has_tdcs }), ((refl, λ a. a), tt)));
+        locks_stay = locks-kept w w' refl (λ u a. record { kind = a.kind; life = a.life }) held;
         shows = bundle-counted m (record (c.state) { world = ended }) told-last t 0 (token_made slot (suc n) (its-words start_epoch)) export-ended x.alive.life its-stream stream-in;
       },
       (
@@ -236,9 +224,9 @@ arguments m t start = (nat_lt t m.pages, OperandInvalid 1) ∷ (nat_lt start 2, 
 pub token-means : (p : Place) (t slot start : ℕ) → MeansRow (token_task p t slot start)
 token-means p t slot zero = record {
   means = λ c at. (let m : Machine = p.machine in let w : World = c.state.world in
-      td-row-means m c (work_of (OfCall (export_token m t slot 0))) t at.lawful at.shown (arguments m t 0) (λ a. ltb-true t m.pages a.0) Exclusive abortable_ops
-      (λ td. tree_lock_tree t td.tdcs Exclusive (room_tree m.pages td.tdcs 0 (λ room. pages_tree m.pages td.tdcs (λ pages. next_epoch_tree td.tdcs (λ epoch. total_tree (record { tdcs = td.tdcs; room = room; pages = pages }) epoch (token_end slot 0))))))
-      (tree_exclusive t ∷ counter_room w t 0 ∷ mig_epoch_room w t ∷ [])
+      alone-row-means m c (work_of (OfCall (export_token m t slot 0))) t at.lawful at.shown (arguments m t 0) (λ a. ltb-true t m.pages a.0) abortable_ops
+      (λ d. room_tree m.pages d 0 (λ room. pages_tree m.pages d (λ pages. next_epoch_tree d (λ epoch. total_tree (record { tdcs = d; room = room; pages = pages }) epoch (token_end slot 0)))))
+      (counter_room w t 0 ∷ mig_epoch_room w t ∷ [])
       (λ a x. (let first : 1 ≤ length (w.tds.streams t) = at.lawful.sessions.first_stream t (abortable (w.tds.ops t) x.op) in
       begun-means m c t at.lawful at.shown abortable_ops x first slot 0 (λ s. next_epoch_tree s.tdcs (λ epoch. total_tree s epoch (token_end slot 0))) (mig_epoch_room w t ∷ [])
       (next-means m c t at.lawful at.shown abortable_ops x first slot 0 (λ epoch. total_tree (its-streams m c t at.lawful at.shown abortable_ops x first) epoch (token_end slot 0)) []
@@ -247,9 +235,9 @@ token-means p t slot zero = record {
 }
 token-means p t slot (suc n) = record {
   means = λ c at. (let m : Machine = p.machine in let w : World = c.state.world in
-      td-row-means m c (work_of (OfCall (export_token m t slot (suc n)))) t at.lawful at.shown (arguments m t (suc n)) (λ a. ltb-true t m.pages a.0) Exclusive paused_ops
-      (λ td. tree_lock_tree t td.tdcs Exclusive (room_tree m.pages td.tdcs 0 (λ room. pages_tree m.pages td.tdcs (λ pages. none_missing_tree td.tdcs (none_dirty_tree td.tdcs pages.items (total_tree (record { tdcs = td.tdcs; room = room; pages = pages }) start_epoch (token_end slot (suc n))))))))
-      (tree_exclusive t ∷ counter_room w t 0 ∷ none_missing w t ∷ none_dirty w t ∷ [])
+      alone-row-means m c (work_of (OfCall (export_token m t slot (suc n)))) t at.lawful at.shown (arguments m t (suc n)) (λ a. ltb-true t m.pages a.0) paused_ops
+      (λ d. room_tree m.pages d 0 (λ room. pages_tree m.pages d (λ pages. none_missing_tree d (none_dirty_tree d pages.items (total_tree (record { tdcs = d; room = room; pages = pages }) start_epoch (token_end slot (suc n)))))))
+      (counter_room w t 0 ∷ none_missing w t ∷ none_dirty w t ∷ [])
       (λ a x. (let first : 1 ≤ length (w.tds.streams t) = at.lawful.sessions.first_stream t (paused (w.tds.ops t) x.op) in
       begun-means m c t at.lawful at.shown paused_ops x first slot (suc n) (λ s. none_missing_tree s.tdcs (none_dirty_tree s.tdcs s.pages.items (total_tree s start_epoch (token_end slot (suc n))))) (none_missing w t ∷ none_dirty w t ∷ [])
       (missing-means m c t at.lawful at.shown paused_ops x first slot (suc n) (none_dirty_tree x.controls.tdcs (w.tds.streams t) (total_tree (its-streams m c t at.lawful at.shown paused_ops x first) start_epoch (token_end slot (suc n)))) (none_dirty w t ∷ [])

@@ -3,7 +3,6 @@ use Rattle.std.specs.Prelude.{ℕ, zero, suc, ◌+◌, ◌-◌, ◌^◌, ◌==�
 use Rattle.td_words.specs.declared.names.OpState.{OpState}
 use Rattle.td_words.specs.declared.names.OpState.TheVariants as op
 use Rattle.td_words.specs.declared.names.Counter.TheVariants.{MigEpoch}
-use Rattle.td_words.specs.declared.names.Mode.TheVariants.{Exclusive}
 use Rattle.td_words.specs.declared.machines.Machine.{Machine}
 use Rattle.td_words.specs.declared.places.TheConstants.{TDCS_OP, TDCS_DIRTIED, TDCS_MIG_EPOCH, TDCS_TD_EXPORTED, TDCS_VPS_EXPORTED, TDCS_VP_COUNT, STREAM_COUNTER, STREAM_CLEANED}
 use Rattle.td_words.specs.declared.refusals.Status.TheVariants.{OperandInvalid, CounterLimit, StateMissing, DirtyPages}
@@ -20,20 +19,18 @@ use Rattle.leaf_engine.specs.Changes.{Change, Put}
 use Rattle.leaf_engine.specs.Trees.{Tree, Load, End, only, needs}
 use Rattle.leaf_engine.specs.Means.{Task, OfCall}
 use Rattle.leaf_parts.specs.Words.{vps_told}
-use Rattle.leaf_parts.specs.Heads.{td_head_tree}
-use Rattle.sept_parts.specs.SeptTrees.{tree_lock_tree}
 use Rattle.stream_parts.specs.Streams.{pages_tree, sum_tree}
 use Rattle.stream_parts.specs.Rooms.{room_tree, session_tree, mig_epoch_tree}
+use Rattle.stream_parts.specs.AloneTrees.{td_alone_tree}
 use Rattle.export_tokens.specs.declared.tokens.Streams.{Streams}
 use Rattle.export_tokens.specs.declared.tokens.TokenWords.{TokenWords}
 
 -- the beginning of both tokens' rows: the map is held alone, and stream 0 has room. The pages of all streams come with it
 abbrev pub streams_tree : Machine → (tdr : ℕ) → List OpState → (Streams → Tree) → Tree
 streams_tree m tdr allowed further =
-    td_head_tree m.pages tdr Exclusive allowed (λ td.
-    tree_lock_tree tdr td.tdcs Exclusive
-    (room_tree m.pages td.tdcs 0 (λ room.
-    pages_tree m.pages td.tdcs (λ pages. further (record { tdcs = td.tdcs; room = room; pages = pages })))))
+    td_alone_tree m.pages tdr allowed (λ d.
+    room_tree m.pages d 0 (λ room.
+    pages_tree m.pages d (λ pages. further (record { tdcs = d; room = room; pages = pages }))))
 
 -- the migration epoch that a token begins, which isn't the last one
 abbrev pub next_epoch_tree : (tdcs : ℕ) → (ℕ → Tree) → Tree

@@ -9,14 +9,15 @@ ghost use Rattle.export_tokens.specs.TokenTrees.{streams_tree, next_epoch_tree, 
 use arrayvec::ArrayVec;
 use bundles::Bundle;
 use leaf_engine::{Act, Hand, Place, Plan, Stop, Told, Verdict, Write};
-use leaf_parts::{td_head, vps_told};
-use sept_parts::tree_lock;
-use stream_parts::{Room, STREAMS, mig_epoch, room_on, session, stream_pages, stream_sum};
+use leaf_parts::vps_told;
+use stream_parts::{
+    Room, STREAMS, mig_epoch, room_on, session, stream_pages, stream_sum, td_alone,
+};
 use td_words::places::{
     STREAM_CLEANED, STREAM_COUNTER, TDCS_DIRTIED, TDCS_MIG_EPOCH, TDCS_OP, TDCS_TD_EXPORTED,
     TDCS_VP_COUNT, TDCS_VPS_EXPORTED,
 };
-use td_words::{Counter, Header, Machine, Mode, OpState, Status, word_address};
+use td_words::{Counter, Header, Machine, OpState, Status, word_address};
 
 /// The operation states in which an epoch token is made.
 const EXPORTED: [OpState; 2] = [OpState::LiveExport, OpState::PausedExport];
@@ -213,15 +214,10 @@ fn streams_of(told: &mut Told, place: Place, tdr: u16, allowed: &[OpState]) -> R
     ensures inside { MatchResult result (λ s. (s.tdcs < place.machine.pages) × (s.room.page < place.machine.pages) × (s.room.counter < 2 ^ 32 - 1)) (λ e. StopIn place.machine e) }
     ensures pages { MatchResult result (λ s. All (λ p. p < place.machine.pages) s.pages.items × (length s.pages.items ≤ 4)) (λ e. Unit {0}) }
 {
-    let td = td_head(told, place, tdr, Mode::Exclusive, allowed)?;
-    tree_lock(told, place, td.tdcs, Mode::Exclusive)?;
-    let room = room_on(told, place.machine, td.tdcs, 0)?;
-    let pages = stream_pages(told, place.machine, td.tdcs)?;
-    Ok(Streams {
-        tdcs: td.tdcs,
-        room,
-        pages,
-    })
+    let tdcs = td_alone(told, place, tdr, allowed)?;
+    let room = room_on(told, place.machine, tdcs, 0)?;
+    let pages = stream_pages(told, place.machine, tdcs)?;
+    Ok(Streams { tdcs, room, pages })
 }
 
 /// The migration epoch that an epoch token begins.

@@ -12,7 +12,7 @@ use Rattle.leaf_engine.specs.declared.needs.Place.{Place}
 use Rattle.leaf_engine.specs.Trees.{Tree, End, only, needs}
 use Rattle.leaf_engine.specs.Means.{Task, OfCall}
 use Rattle.stream_parts.specs.Rooms.{session_tree}
-use Rattle.import_parts.specs.AloneTrees.{td_alone_tree, op_changes}
+use Rattle.stream_parts.specs.AloneTrees.{td_alone_tree, op_changes}
 use Rattle.import_core.specs.declared.aborts.AbortWords.{AbortWords}
 
 abbrev pub abort_words_tree : Machine → (tdr : ℕ) → (AbortWords → Tree) → Tree

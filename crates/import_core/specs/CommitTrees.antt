@@ -9,14 +9,12 @@ use Rattle.leaf_engine.specs.declared.needs.Place.{Place}
 use Rattle.leaf_engine.specs.Trees.{Tree, needs, done}
 use Rattle.leaf_engine.specs.Means.{Task, OfCall}
 use Rattle.leaf_parts.specs.Heads.{td_head_tree}
-use Rattle.import_parts.specs.AloneTrees.{td_alone_tree, op_changes}
-
-abbrev pub commit_tree : Machine → (tdr : ℕ) → Tree
-commit_tree m tdr = needs (nat_lt tdr m.pages) (OperandInvalid 1) (td_alone_tree m.pages tdr commit_ops (λ d. done [] (op_changes op.LiveImport d)))
+use Rattle.stream_parts.specs.AloneTrees.{op_changes, op_task}
 
 abbrev pub commit_task : Place → (tdr : ℕ) → Task
-commit_task p tdr = record { place = p; tree = commit_tree p.machine tdr; meaning = OfCall (commit_import p.machine tdr) }
+commit_task p tdr = op_task p commit_ops op.LiveImport tdr (commit_import p.machine tdr)
 
+-- where no page comes any more, the map needn't be held
 abbrev pub import_end_tree : Machine → (tdr : ℕ) → Tree
 import_end_tree m tdr = needs (nat_lt tdr m.pages) (OperandInvalid 1) (td_head_tree m.pages tdr Exclusive late_ops (λ td. done [] (op_changes op.Runnable td.tdcs)))
 

@@ -10,11 +10,11 @@ use Rattle.flat_core.specs.ImportRows.{sent_ops, abort_by_token}
 use Rattle.leaf_engine.specs.declared.needs.Place.{Place}
 use Rattle.leaf_engine.specs.Trees.{done}
 use Rattle.leaf_engine.specs.Means.{MeansRow, Work, work_of, OfCall}
+use Rattle.stream_parts.specs.AloneTrees.{op_changes}
+use Rattle.stream_parts.proofs.AloneMeans.{alone_locks, alone-own, alone-row-means}
+use Rattle.stream_parts.proofs.OpMeans.{op-ended}
 use Rattle.import_parts.specs.InputTrees.{input_checks, due_tree, tag_tree}
-use Rattle.import_parts.specs.AloneTrees.{op_changes}
-use Rattle.import_parts.proofs.AloneMeans.{alone_locks, alone-own, alone-row-means}
 use Rattle.import_parts.proofs.InputMeans.{session_same-means}
-use Rattle.import_parts.proofs.OpMeans.{op-ended}
 use Rattle.import_core.specs.TokenAbortTrees.{given_up_tree, abort_by_token_task}
 
 pub abort_by_token-means : (p : Place) (b : Option Incoming) (t slot : ℕ) → MeansRow (abort_by_token_task p b t slot)
@@ -30,7 +30,7 @@ abort_by_token-means p b t slot = record {
           refl,
           λ e. refl,
           λ e.
-              op-ended m c t sent_ops at.lawful at.shown y op.Runnable refl (λ w. w.hidden.given) (λ w. w.outgoing) (alone_locks t) (alone-own t c.kept) (abort_by_token m b t slot).items [] refl,
+              op-ended m c t sent_ops at.lawful at.shown y op.Runnable refl (λ w. w) (alone_locks t) (alone-own t c.kept) (abort_by_token m b t slot).items [] refl,
         ),
       ))));
 }

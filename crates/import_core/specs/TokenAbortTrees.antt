@@ -9,8 +9,8 @@ use Rattle.flat_core.specs.ImportRows.{sent_ops, abort_by_token}
 use Rattle.leaf_engine.specs.declared.needs.Place.{Place}
 use Rattle.leaf_engine.specs.Trees.{Tree, done}
 use Rattle.leaf_engine.specs.Means.{Task, OfCall}
-use Rattle.import_parts.specs.InputTrees.{session_same_tree, due_tree, tag_tree}
-use Rattle.import_parts.specs.AloneTrees.{input_alone_tree, op_changes}
+use Rattle.stream_parts.specs.AloneTrees.{op_changes}
+use Rattle.import_parts.specs.InputTrees.{input_alone_tree, session_same_tree, due_tree, tag_tree}
 
 -- its header is of the TD's session and under counter 0, and its tag is right
 abbrev pub given_up_tree : (tdcs : ℕ) → ClearHeader → Input → Tree → Tree

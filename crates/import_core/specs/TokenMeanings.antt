@@ -28,7 +28,7 @@ use Rattle.stream_parts.specs.Streams.{sum_tree}
 use Rattle.stream_parts.proofs.StreamSums.{sum-fits}
 use Rattle.stream_parts.proofs.StreamMeans.{HoldsAlone, pages-means, sum-means, mig_epoch-means}
 use Rattle.import_parts.specs.InputTrees.{input_checks, counter_due_tree, tag_tree}
-use Rattle.import_parts.proofs.AloneMeans.{alone_locks, alone-head, alone-own, alone-row-means}
+use Rattle.stream_parts.proofs.AloneMeans.{alone_locks, alone-head, alone-own, alone-row-means}
 use Rattle.import_parts.proofs.InputMeans.{session_same-means, counter_due-means}
 use Rattle.import_core.specs.TokenTrees.{token_epoch_tree, total_same_tree, token_due_tree, import_token_end, import_token_task}
 use Rattle.import_core.specs.TokenShows.{token-ended}

@@ -1,7 +1,7 @@
 -- The words that an imported token leaves show its act.
 use Rattle.std.proofs.Common.{◌≡◌, ℕ, ◌+◌, ◌<◌, Bool, true, false, ◌==◌, List, [], ◌∷◌, ◌++◌, length, refl, inl, inr, arith}
 use Rattle.std.specs.List.{list_any}
-use Rattle.std.proofs.lemmas.Bool.{eq-eqb, eqb-true}
+use Rattle.std.proofs.lemmas.Bool.{eq-eqb}
 use Rattle.td_words.specs.declared.names.PageKind.TheVariants as kind
 use Rattle.td_words.specs.declared.names.OpState.{OpState}
 use Rattle.td_words.specs.declared.names.OpState.TheVariants as op
@@ -9,57 +9,33 @@ use Rattle.td_words.specs.declared.machines.Machine.{Machine}
 use Rattle.td_words.specs.declared.replies.Reply.{Reply}
 use Rattle.td_words.specs.declared.replies.Value.TheVariants as value
 use Rattle.td_words.specs.NameNumber.{op_number}
-use Rattle.td_words.specs.Place.{WordPlace, IsIn}
+use Rattle.td_words.specs.Place.{IsIn}
 use Rattle.td_words.specs.Place as place
 use Rattle.flat_core.specs.World.{World}
-use Rattle.flat_core.specs.Processor.{LockId, Held}
+use Rattle.flat_core.specs.Processor.{Held}
 use Rattle.flat_core.specs.Effects.{set_op}
 use Rattle.flat_core.specs.Lawful.{Lawful, IsPageOf}
 use Rattle.flat_core.specs.Sessions.{stream_page, stream_counter, count_bundle, set_mig_epoch}
 use Rattle.flat_core.specs.ImportRows.{import_token_ops, op_then}
 use Rattle.flat_core.specs.Row.{Item, call_row}
-use Rattle.flat_core.specs.Event.{State}
-use Rattle.flat_core.proofs.Tests.{by_test}
 use Rattle.word_rules.specs.Guards.{Grip}
-use Rattle.word_rules.specs.Lines.{in_lines}
 use Rattle.word_rules.specs.Rules.{KeepsNothing, writes, owes}
 use Rattle.word_rules.specs.Permissions.{Writes, Respects}
-use Rattle.word_rules.specs.Cells.{Shows, is_built, lock_word, td_lock_lines, tdcs_lines}
+use Rattle.word_rules.specs.Cells.{Shows, is_built}
 use Rattle.word_rules.proofs.Conflicts.{respects-compose}
 use Rattle.act_rules.proofs.Respected.{leaves, all-same, effects-respect}
 use Rattle.leaf_engine.specs.Changes.{Memory, Put, changed}
 use Rattle.leaf_engine.specs.Trees.{done}
 use Rattle.leaf_engine.specs.Means.{Instant, Means, MayOwe, Work, work_of, OfCall, hold}
-use Rattle.leaf_parts.proofs.Aside.{AllShown, all-kept, control-kept}
-use Rattle.leaf_parts.proofs.Begun.{IsTd, page-in}
+use Rattle.leaf_parts.proofs.Begun.{IsTd, locks-kept, page-in}
 use Rattle.leaf_parts.proofs.Checks.{at-tdcs}
 use Rattle.leaf_parts.proofs.Hashers.{hashers-but}
+use Rattle.leaf_parts.proofs.Stored.{tdcs-stored}
 use Rattle.stream_parts.proofs.StreamWords.{page-of}
 use Rattle.stream_parts.proofs.StreamMeans.{HoldsAlone}
-use Rattle.stream_parts.proofs.Counted.{counter-owed}
-use Rattle.export_tokens.specs.TokenShows.{epoch-shown, op-shown}
-use Rattle.import_parts.proofs.AloneMeans.{alone_locks, alone-own}
-use Rattle.import_parts.proofs.OpMeans.{locks-kept, input-counted}
+use Rattle.stream_parts.proofs.Counted.{counter-owed, input-counted}
+use Rattle.stream_parts.proofs.AloneMeans.{alone_locks, alone-own}
 use Rattle.import_core.specs.TokenTrees.{import_token_changes}
-
--- an operation state that is stored as it was
-kept-line : (w : World) (locks : LockId → ℕ) (t u i : ℕ) → in_lines (td_lock_lines locks u (tdcs_lines (set_op t (w.tds.ops t) w) u)) i ≡ in_lines (td_lock_lines locks u (tdcs_lines w u)) i
-kept-line w locks t u i = by_test (u == t) (λ y. rw (y, eqb-true u t y) refl) (λ n. rw n refl)
-
-op-kept : (m : Machine) (words : WordPlace → ℕ) (s : State) (t : ℕ) → AllShown m words s → AllShown m words (record s { world = set_op t (s.world.tds.ops t) s.world })
-op-kept m words s t sh = all-kept m words s (set_op t (s.world.tds.ops t) s.world) sh refl refl refl refl (λ q. record {
-  words = λ i. refl;
-  tdr = λ is i. refl;
-  owned = λ own. record {
-    stands = λ z. z;
-    level = refl;
-    number = refl;
-    entries = λ l e. refl;
-    vp = λ i. refl;
-    stream = λ i. refl;
-    control = λ is z. control-kept refl (λ l e. refl) (λ f i. kept-line s.world (lock_word s.lps s.lp_count) t (s.world.pages.owners q) i);
-  };
-})
 
 -- nothing is measured of a TD that is being imported
 unbuilt : (start : Bool) (s : OpState) → list_any (λ a. op_number a == op_number s) (import_token_ops start) ≡ true → is_built s ≡ false
@@ -107,9 +83,6 @@ module _ (m : Machine) (c : Instant) (t : ℕ) (start : Bool) (la : Lawful m c.s
   abbrev told : Memory
   told = changed (Put (place.Word x.controls.tdcs 10) epoch) c.memory
 
-  epoch-begun : AllShown m told.words (record (c.state) { world = begun })
-  epoch-begun = epoch-shown m c.state c.memory.words t d x.controls.root sh.word x.alive.life x.controls.list x.controls.tdcs_page x.controls.tdcs_in epoch
-
   respects : Respects g w counted
   respects = respects-compose.both g w ended counted
       (respects-compose.both g w begun ended
@@ -123,7 +96,7 @@ module _ (m : Machine) (c : Instant) (t : ℕ) (start : Bool) (la : Lawful m c.s
   epoch-ended : start ≡ false → Shows m told.words told.slots (record (c.state) { world = set_op t (c.state.world.tds.ops t) begun })
   epoch-ended e =
       let same : World = set_op t (c.state.world.tds.ops t) begun in record {
-        word = op-kept m told.words (record (c.state) { world = begun }) t epoch-begun;
+        word = tdcs-stored m c.state c.memory.words t d x.controls.root sh.word x.alive.life x.controls.list x.controls.tdcs_page x.controls.tdcs_in same (λ u n i. rw n refl) 10 epoch (rw itself refl) (λ i n. rw (n, itself) refl);
         hasher = hashers-but m w same t c.memory.slots told.slots la x.alive refl (λ u n. rw n refl) (λ h n. refl) (rw (x.configured, itself, unbuilt start (w.tds.ops t) x.op) tt) sh.hasher;
       }
 
@@ -132,8 +105,9 @@ module _ (m : Machine) (c : Instant) (t : ℕ) (start : Bool) (la : Lawful m c.s
 
   start-ended : Shows m told-last.words told-last.slots (record (c.state) { world = set_op t op.PostImport begun })
   start-ended =
-      let last : World = set_op t op.PostImport begun in record {
-        word = op-shown m (record (c.state) { world = begun }) told.words t d x.controls.root epoch-begun x.alive.life x.controls.list x.controls.tdcs_page x.controls.tdcs_in op.PostImport;
+      let last : World = set_op t op.PostImport begun in
+      let first-stored = tdcs-stored m c.state c.memory.words t d x.controls.root sh.word x.alive.life x.controls.list x.controls.tdcs_page x.controls.tdcs_in begun (λ u n i. rw n refl) 10 epoch (rw itself refl) (λ i n. rw n refl) in record {
+        word = tdcs-stored m (record (c.state) { world = begun }) told.words t d x.controls.root first-stored x.alive.life x.controls.list x.controls.tdcs_page x.controls.tdcs_in last (λ u n i. rw n refl) 4 8 (rw itself refl) (λ i n. rw n refl);
         hasher = hashers-but m w last t c.memory.slots told-last.slots la x.alive refl (λ u n. rw n refl) (λ h n. refl) (rw (x.configured, itself) tt) sh.hasher;
       }
 
@@ -154,7 +128,7 @@ token-ended m c t false la sh x first epoch items = (
     answers = record { reply_is = refl; cached_is = refl; enters_is = refl; notes_are = refl; tells_are = refl; bundles_are = refl };
     fills_allowed = tt;
     respects = respects m c t false la sh x first epoch;
-    locks_stay = locks-kept c.state.world (counted m c t false la sh x first epoch) refl refl refl (alone_locks t);
+    locks_stay = locks-kept c.state.world (counted m c t false la sh x first epoch) refl (λ u a. record { kind = a.kind; life = a.life }) (alone_locks t);
     shows = input-counted m (record (c.state) { world = ended m c t false la sh x first epoch }) (told m c t false la sh x first epoch) t 0 (epoch-ended m c t false la sh x first epoch refl) x.alive.life (its-stream m c t false la sh x first epoch) (stream-in m c t false la sh x first epoch);
   },
   (
@@ -167,7 +141,7 @@ token-ended m c t true la sh x first epoch items = (
     answers = record { reply_is = refl; cached_is = refl; enters_is = refl; notes_are = refl; tells_are = refl; bundles_are = refl };
     fills_allowed = tt;
     respects = respects m c t true la sh x first epoch;
-    locks_stay = locks-kept c.state.world (counted m c t true la sh x first epoch) refl refl refl (alone_locks t);
+    locks_stay = locks-kept c.state.world (counted m c t true la sh x first epoch) refl (λ u a. record { kind = a.kind; life = a.life }) (alone_locks t);
     shows = input-counted m (record (c.state) { world = ended m c t true la sh x first epoch }) (told-last m c t true la sh x first epoch) t 0 (start-ended m c t true la sh x first epoch) x.alive.life (its-stream m c t true la sh x first epoch) (stream-in m c t true la sh x first epoch);
   },
   (

@@ -18,8 +18,7 @@ use Rattle.leaf_engine.specs.Means.{Task, OfCall}
 use Rattle.stream_parts.specs.declared.rooms.Room.{Room}
 use Rattle.stream_parts.specs.Streams.{pages_tree, sum_tree}
 use Rattle.stream_parts.specs.Rooms.{mig_epoch_tree}
-use Rattle.import_parts.specs.InputTrees.{session_same_tree, counter_due_tree, tag_tree}
-use Rattle.import_parts.specs.AloneTrees.{input_alone_tree}
+use Rattle.import_parts.specs.InputTrees.{input_alone_tree, session_same_tree, counter_due_tree, tag_tree}
 
 -- the migration epoch is the one that the token begins
 abbrev pub token_epoch_tree : (tdcs : ℕ) → ClearHeader → Tree → Tree

@@ -6,11 +6,9 @@ ghost use Rattle.leaf_parts.specs.Parts.{Goes, Feeds};
 ghost use Rattle.import_core.specs.AbortTrees.{abort_words_tree};
 
 use bundles::Bundle;
-use import_parts::td_alone;
 use leaf_engine::{Act, Hand, Place, Plan, Stop, Told, Verdict, Write};
-use stream_parts::session;
-use td_words::places::TDCS_OP;
-use td_words::{Header, OpState, Status, word_address};
+use stream_parts::{op_write, session, td_alone};
+use td_words::{Header, OpState, Status};
 
 /// The operation states in which an import can be given up.
 const GIVEN_UP: [OpState; 3] = [
@@ -93,7 +91,7 @@ fn abort_header(session: u16) -> Header
 impl Plan for ImportAbort {
     ghost use Rattle.std.specs.Prelude.{nat_lt};
     ghost use Rattle.td_words.specs.declared.names.OpState.TheVariants.{FailedImport};
-    ghost use Rattle.import_parts.specs.AloneTrees.{op_changes};
+    ghost use Rattle.stream_parts.specs.AloneTrees.{op_changes};
     ghost use Rattle.import_core.specs.AbortTrees.{import_abort_task};
     ghost use Rattle.import_core.specs.AbortMeanings.{import_abort-means};
 
@@ -112,15 +110,14 @@ impl Plan for ImportAbort {
         }))
     }
 
-    // The act is the store of the operation state.
-    fn write(&self, act: Act, _told: &[u64], number: usize, _hand: &mut Hand) -> Option<Write> {
-        match number {
-            0 => Some(Write::store(
-                word_address(act.page, TDCS_OP),
-                OpState::FailedImport as u64,
-            )),
-            _ => None,
-        }
+    fn write(&self, act: Act, _told: &[u64], number: usize, hand: &mut Hand) -> Option<Write> {
+        op_write(
+            self.place.machine,
+            act.page,
+            OpState::FailedImport,
+            number,
+            hand,
+        )
     }
 
     ghost means = { λ l. import_abort-means l.place l.tdr l.slot };

@@ -1,10 +1,9 @@
 //! IMPORT.COMMIT and IMPORT.END.
 
-use import_parts::td_alone;
 use leaf_engine::{Act, Hand, Place, Plan, Stop, Told, Verdict, Write};
 use leaf_parts::td_head;
-use td_words::places::TDCS_OP;
-use td_words::{Mode, OpState, Status, word_address};
+use stream_parts::{op_verdict, op_write};
+use td_words::{Mode, OpState, Status};
 
 /// The operation state in which an import is committed.
 const WHOLE: [OpState; 1] = [OpState::PostImport];
@@ -53,7 +52,7 @@ impl ImportEnd {
 impl Plan for Commit {
     ghost use Rattle.std.specs.Prelude.{nat_lt};
     ghost use Rattle.td_words.specs.declared.names.OpState.TheVariants.{LiveImport};
-    ghost use Rattle.import_parts.specs.AloneTrees.{op_changes};
+    ghost use Rattle.stream_parts.specs.AloneTrees.{op_changes};
     ghost use Rattle.import_core.specs.CommitTrees.{commit_task};
     ghost use Rattle.import_core.specs.CommitMeanings.{commit-means};
 
@@ -64,24 +63,17 @@ impl Plan for Commit {
     ghost shown = { λ l told a. nat_lt a.page l.place.machine.pages };
 
     fn decide(&self, told: Told) -> Result<Verdict, Stop> {
-        let mut told = told;
-        told.check(
-            self.tdr < u64::from(self.place.machine.pages),
-            Status::OperandInvalid(1),
-        )?;
-        let tdcs = td_alone(&mut told, self.place, self.tdr as u16, &WHOLE)?;
-        Ok(Verdict::done(Act {
-            page: tdcs,
-            ..Act::NONE
-        }))
+        op_verdict(told, self.place, self.tdr, &WHOLE)
     }
 
-    // The act is the store of the operation state.
-    fn write(&self, act: Act, _told: &[u64], number: usize, _hand: &mut Hand) -> Option<Write> {
-        match number {
-            0 => Some(Write::store(word_address(act.page, TDCS_OP), OpState::LiveImport as u64)),
-            _ => None,
-        }
+    fn write(&self, act: Act, _told: &[u64], number: usize, hand: &mut Hand) -> Option<Write> {
+        op_write(
+            self.place.machine,
+            act.page,
+            OpState::LiveImport,
+            number,
+            hand,
+        )
     }
 
     ghost means = { λ l. commit-means l.place l.tdr };
@@ -90,7 +82,7 @@ impl Plan for Commit {
 impl Plan for ImportEnd {
     ghost use Rattle.std.specs.Prelude.{nat_lt};
     ghost use Rattle.td_words.specs.declared.names.OpState.TheVariants.{Runnable};
-    ghost use Rattle.import_parts.specs.AloneTrees.{op_changes};
+    ghost use Rattle.stream_parts.specs.AloneTrees.{op_changes};
     ghost use Rattle.import_core.specs.CommitTrees.{import_end_task};
     ghost use Rattle.import_core.specs.CommitMeanings.{import_end-means};
 
@@ -119,12 +111,14 @@ impl Plan for ImportEnd {
         }))
     }
 
-    // The act is the store of the operation state.
-    fn write(&self, act: Act, _told: &[u64], number: usize, _hand: &mut Hand) -> Option<Write> {
-        match number {
-            0 => Some(Write::store(word_address(act.page, TDCS_OP), OpState::Runnable as u64)),
-            _ => None,
-        }
+    fn write(&self, act: Act, _told: &[u64], number: usize, hand: &mut Hand) -> Option<Write> {
+        op_write(
+            self.place.machine,
+            act.page,
+            OpState::Runnable,
+            number,
+            hand,
+        )
     }
 
     ghost means = { λ l. import_end-means l.place l.tdr };

@@ -3,7 +3,7 @@
 //!
 //! Each leaf is a `Plan` of `leaf_engine`, whose tree mirrors its row, with the proof that it means
 //! that row; and one that makes a bundle gives it, from the words that it was told. One that takes a
-//! bundle is made with it. What they share stands in `import_parts`.
+//! bundle is made with it. What they share stands in `import_parts` and `stream_parts`.
 #![tactic(auto)]
 
 mod aborts;

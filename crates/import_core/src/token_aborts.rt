@@ -10,8 +10,8 @@ ghost use Rattle.import_core.specs.TokenAbortTrees.{given_up_tree};
 use import_parts::{header_of, input_alone, is_due, session_same, tag_holds};
 use incoming::Incoming;
 use leaf_engine::{Act, Hand, Place, Plan, Stop, Told, Verdict, Write};
-use td_words::places::TDCS_OP;
-use td_words::{Header, Machine, OpState, Status, word_address};
+use stream_parts::op_write;
+use td_words::{Header, Machine, OpState, Status};
 
 /// The operation state of a TD whose export has its start token.
 const SENT: [OpState; 1] = [OpState::PostExport];
@@ -48,7 +48,7 @@ impl<'a> AbortByToken<'a> {
 impl<'a> Plan for AbortByToken<'a> {
     ghost use Rattle.std.specs.Prelude.{nat_lt};
     ghost use Rattle.td_words.specs.declared.names.OpState.TheVariants.{Runnable};
-    ghost use Rattle.import_parts.specs.AloneTrees.{op_changes};
+    ghost use Rattle.stream_parts.specs.AloneTrees.{op_changes};
     ghost use Rattle.import_core.specs.TokenAbortTrees.{abort_by_token_task};
     ghost use Rattle.import_core.specs.TokenAbortMeanings.{abort_by_token-means};
 
@@ -77,12 +77,14 @@ impl<'a> Plan for AbortByToken<'a> {
         }))
     }
 
-    // The act is the store of the operation state.
-    fn write(&self, act: Act, _told: &[u64], number: usize, _hand: &mut Hand) -> Option<Write> {
-        match number {
-            0 => Some(Write::store(word_address(act.page, TDCS_OP), OpState::Runnable as u64)),
-            _ => None,
-        }
+    fn write(&self, act: Act, _told: &[u64], number: usize, hand: &mut Hand) -> Option<Write> {
+        op_write(
+            self.place.machine,
+            act.page,
+            OpState::Runnable,
+            number,
+            hand,
+        )
     }
 
     ghost means = { λ l. abort_by_token-means l.place l.input l.tdr l.slot };

@@ -1,4 +1,2 @@
-pub mod AloneMeans
-pub mod OpMeans
 pub mod InputMeans
 pub mod WordPuts

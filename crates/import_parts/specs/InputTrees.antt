@@ -2,9 +2,10 @@
 use Rattle.std.specs.Prelude.{ℕ, ◌-◌, ◌%◌, ◌^◌, ◌==◌, ◌&&◌, nat_lt, nat_le, Bool, List, [], ◌∷◌}
 use Rattle.std.specs.List.{list_any}
 use Rattle.td_words.specs.declared.names.HeaderField.TheVariants as field
+use Rattle.td_words.specs.declared.names.OpState.{OpState}
 use Rattle.td_words.specs.declared.places.TheConstants.{STREAM_COUNTER}
 use Rattle.td_words.specs.declared.refusals.Status.{Status}
-use Rattle.td_words.specs.declared.refusals.Status.TheVariants.{NoBundle, BundleHeader, BundleCounter, BundleTag}
+use Rattle.td_words.specs.declared.refusals.Status.TheVariants.{OperandInvalid, NoBundle, BundleHeader, BundleCounter, BundleTag}
 use Rattle.td_words.specs.Place as place
 use Rattle.flat_core.specs.World.{ClearHeader}
 use Rattle.flat_core.specs.Inputs.{Input, most_stream, most_index, most_info, most_gpa, has_no_fault, fault_shown}
@@ -13,6 +14,7 @@ use Rattle.leaf_engine.specs.Trees.{Tree, Load, needs}
 use Rattle.stream_parts.specs.declared.rooms.Room.{Room}
 use Rattle.stream_parts.specs.Streams.{page_tree}
 use Rattle.stream_parts.specs.Rooms.{session_tree, mig_epoch_tree}
+use Rattle.stream_parts.specs.AloneTrees.{td_alone_tree}
 
 -- there is one in the slot, it has the form of one, and its type is one of these
 abbrev pub input_checks : Input → (slot : ℕ) → List ℕ → List (Bool × Status)
@@ -24,6 +26,10 @@ input_tree x slot kinds further =
     needs x.there (NoBundle slot)
     (needs (has_no_fault x.fault) (BundleHeader (fault_shown x.fault))
     (needs (list_any (λ k. k == x.header.kind) kinds) (BundleHeader field.Kind) further))
+
+-- behind the argument and the bundle a TD's map is held alone
+abbrev pub input_alone_tree : (pages : ℕ) → Input → (tdr slot : ℕ) → (kinds : List ℕ) → List OpState → (ℕ → Tree) → Tree
+input_alone_tree pages x tdr slot kinds allowed further = needs (nat_lt tdr pages) (OperandInvalid 1) (input_tree x slot kinds (td_alone_tree pages tdr allowed further))
 
 -- whether the fields of a header have values that its form allows: those that depend on the type, and the others
 abbrev pub fits_type : ClearHeader → Bool

@@ -1,3 +1,2 @@
-pub mod AloneTrees
 pub mod InputTrees
 pub mod WordPuts

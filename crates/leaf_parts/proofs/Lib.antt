@@ -10,6 +10,7 @@ pub mod Owned
 pub mod Aside
 pub mod HostPages
 pub mod Hashers
+pub mod Stored
 pub mod Acted
 pub mod Listed
 pub mod Unheld

@@ -50,6 +50,11 @@ pub goes-refused : {A : Type 0} (n : ℕ) (tree : (A → Tree) → Tree) (before
     → Goes n tree before last r
 goes-refused n tree before after last b s e r rest is k h = goes-stop n tree before last r e is (λ f. h f (Err e) (refuses n b s (rest f) after e k.0 k.1))
 
+-- a part behind a condition that holds
+pub goes-behind : {A : Type 0} (n : ℕ) (b : Bool) (s : Status) (tree : (A → Tree) → Tree) (before after : List ℕ) (r : Result A Stop) → b ≡ true → Goes n tree before after r → Goes n (λ f. needs b s (tree f)) before after r
+goes-behind n b s tree before after (Ok x) e g = λ further v d. passes n b s (tree further) before v e (g further v d)
+goes-behind n b s tree before after (Err x) e g = λ further. passes n b s (tree further) before (Err x) e (g further)
+
 -- a load
 pub goes-load : (n : ℕ) (q : WordPlace) (before after : List ℕ) (r : Result ℕ Stop) → MatchResult r (λ word. before ≡ word ∷ after) (λ e. (before ≡ []) × (e ≡ stop.Load (address n q)))
     → Goes n (λ (f : ℕ → Tree). Load Whole q f) before after r

@@ -38,7 +38,8 @@ use Rattle.mem_remove.specs.RangeTrees.{range_block_task, block_changes, range_u
 use Rattle.mem_remove.specs.RemoveTrees.{page_remove_task, remove_changes}
 use Rattle.export_core.specs.StreamTrees.{stream_create_task, stream_list}
 use Rattle.export_core.specs.WriteTrees.{block_write_task, unblock_write_task}
-use Rattle.export_core.specs.PauseTrees.{pause_task, abort_task, op_changes}
+use Rattle.stream_parts.specs.AloneTrees.{op_changes}
+use Rattle.export_core.specs.PauseTrees.{pause_task, abort_task}
 use Rattle.export_core.specs.RestoreTrees.{restore_task}
 use Rattle.export_sessions.specs.SessionTrees.{immutable_task}
 use Rattle.export_tokens.specs.TokenTrees.{token_task, token_changes}

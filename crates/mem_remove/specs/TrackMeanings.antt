@@ -1,6 +1,6 @@
 -- The leaf that advances a TD's epoch means its row.
-use Rattle.std.proofs.Common.{◌≡◌, ℕ, ◌+◌, ◌<◌, ◌≤◌, true, ◌==◌, nat_lt, List, [], ◌∷◌, ◌++◌, refl, inr, inl, arith}
-use Rattle.std.proofs.lemmas.Bool.{eq-eqb, eqb-true, ltb-true}
+use Rattle.std.proofs.Common.{◌≡◌, ℕ, ◌+◌, ◌≤◌, true, ◌==◌, nat_lt, List, [], ◌∷◌, ◌++◌, refl, inr, inl, arith}
+use Rattle.std.proofs.lemmas.Bool.{eq-eqb, ltb-true}
 use Rattle.td_words.specs.declared.names.Mode.TheVariants.{Shared, Exclusive}
 use Rattle.td_words.specs.declared.machines.Machine.{Machine}
 use Rattle.td_words.specs.declared.places.TheConstants.{TDCS_EPOCH}
@@ -14,20 +14,17 @@ use Rattle.flat_core.specs.Lawful.{Lawful}
 use Rattle.flat_core.specs.MemRows.{advance_epoch}
 use Rattle.flat_core.specs.Tracking.{epoch_room, previous_epoch_left}
 use Rattle.flat_core.specs.Event.{State}
-use Rattle.flat_core.proofs.Tests.{by_test}
 use Rattle.word_rules.specs.Rules.{Whole, KeepsNothing, writes}
-use Rattle.word_rules.specs.Cells.{Shows, IsAs, cell}
+use Rattle.word_rules.specs.Cells.{Shows}
 use Rattle.lock_words.specs.Grips.{holds, holds_alone}
-use Rattle.lock_words.specs.LockWords.{TdStands}
 use Rattle.act_rules.proofs.Respected.{effects-respect}
 use Rattle.leaf_engine.specs.declared.needs.Place.{Place}
 use Rattle.leaf_engine.specs.Changes.{Memory, changed_all}
 use Rattle.leaf_engine.specs.Trees.{Load, done, needs}
 use Rattle.leaf_engine.specs.Means.{Instant, Means, MeansRow, MayChange, Work, work_of, OfCall, hold}
-use Rattle.leaf_parts.proofs.Aside.{ShowsBut, aside, back, kept-but, tdcs-but}
-use Rattle.leaf_parts.proofs.Begun.{IsTd, TwoControls, op_lock, page_lock}
+use Rattle.leaf_parts.proofs.Begun.{IsTd, TwoControls, locks-kept, op_lock, page_lock}
 use Rattle.leaf_parts.proofs.Checks.{td-row-means, at-tdcs}
-use Rattle.leaf_parts.proofs.Told.{tdcs-shown}
+use Rattle.leaf_parts.proofs.Stored.{tdcs-stored}
 use Rattle.mem_remove.specs.NamedMeanings.{epoch_held, epoch-lock-means}
 use Rattle.mem_remove.specs.TrackedMeanings.{epoch-told-means, previous-means}
 use Rattle.mem_remove.specs.TrackTrees.{track_changes, track_epoch, track_rest, track_task}
@@ -46,28 +43,9 @@ module _ (m : Machine) (s : State) (mem : Memory) (t : ℕ) (sh : Shows m mem.wo
   abbrev after : Memory
   after = changed_all (track_changes y.tdcs (w.tds.epochs t)) mem
 
-  tdcs-word : (i : ℕ) → i < 512 → IsAs (cell (record s { world = w' }) (place.Word y.tdcs i)) (after.words (place.Word y.tdcs i))
-  tdcs-word i b =
-      let was = tdcs-shown m mem.words mem.slots s sh t i y.tdcs (y.root ∷ []) y.list y.tdcs_page x.alive.life y.tdcs_in b in
-      rw (y.tdcs_page.kind, y.tdcs_page.owner, x.alive.life, y.list, eq-eqb y.tdcs y.tdcs refl, eq-eqb t t refl)
-      (by_test (i == 5) (λ e. rw (e, eqb-true i 5 e) refl) (λ five. rw five (rw five at was)))
-
-  advanced-but : ShowsBut y.tdcs m mem.words (record s { world = w' })
-  advanced-but = kept-but w' (aside y.tdcs m mem.words s sh.word) (record {
-    kinds = refl;
-    owners = refl;
-    blocked = refl;
-    key_table = refl;
-    page = λ q o n. record {
-      words = λ i. refl;
-      tdr = λ is i. refl;
-      owned = λ h. record { stands = λ z. z; level = refl; number = refl; entries = λ l e. refl; vp = λ i. refl; stream = λ i. refl; control = λ is z. tdcs-but refl (λ l e. refl) t y.tdcs (y.root ∷ []) y.list o (λ d i. rw d refl) };
-    };
-  })
-
   pub advanced : Shows m after.words after.slots (record s { world = w' })
   advanced = record {
-    word = back advanced-but after.words (λ r. refl) (λ r. refl) (λ k. refl) (λ r i o. rw o refl) tdcs-word;
+    word = tdcs-stored m s mem.words t y.tdcs y.root sh.word x.alive.life y.list y.tdcs_page y.tdcs_in w' (λ u n i. rw n refl) 5 (w.tds.epochs t + 1) (rw (eq-eqb t t refl) refl) (λ i n. rw n refl);
     hasher = sh.hasher;
   }
 
@@ -110,9 +88,6 @@ module _ (m : Machine) (c : Instant) (t : ℕ) (la : Lawful m c.state.world) (sh
   begun : 1 ≤ e
   begun = la.tds.epoch_begun t (λ o. let no = rw o at x.op in cc)
 
-  stands-on : TdStands v t → TdStands v' t
-  stands-on a = record { alive = record { kind = a.alive.kind; life = a.alive.life }; has_tdcs = a.has_tdcs }
-
   may-change : MayChange m (hold c held) v v' c.memory (track_changes z.tdcs e)
   may-change = (
     ((z.tdcs_in, omega arith), (KeepsNothing, at-tdcs (hold c held) v t z.tdcs 5 (z.root ∷ []) (λ a. writes a KeepsNothing) z.list z.tdcs_page (inr (inr (inl (tdr-held, (op-held, (epoch-alone, tt)))))), tt)),
@@ -125,7 +100,7 @@ module _ (m : Machine) (c : Instant) (t : ℕ) (la : Lawful m c.state.world) (sh
       answers = record { reply_is = refl; cached_is = refl; enters_is = refl; notes_are = refl; tells_are = refl; bundles_are = refl };
       fills_allowed = tt;
       respects = (effects-respect (hold c held) v).epoch t (e + 1) (record { tdr = tdr-held; op = op-held }) epoch-alone;
-      locks_stay = ((refl, stands-on), ((refl, stands-on), ((refl, λ a. a), tt)));
+      locks_stay = locks-kept v v' refl (λ u a. record { kind = a.kind; life = a.life }) held;
       shows = advanced m c.state c.memory t sh x;
     },
     may-change,

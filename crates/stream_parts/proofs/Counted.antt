@@ -78,14 +78,11 @@ module _ (m : Machine) (s : State) (words : WordPlace → ℕ) (slots : ℕ → 
     hasher = sh.hasher;
   }
 
--- its counter
-module _ (m : Machine) (s : State) (mem : Memory) (t k : ℕ) (made : Made) (sh : Shows m mem.words mem.slots s) (alive : (life_number (s.world.tds.lives t) == life_number life.Teardown) ≡ false)
+-- its counter: a bundle came in, and one was made
+module _ (m : Machine) (s : State) (mem : Memory) (t k : ℕ) (sh : Shows m mem.words mem.slots s) (alive : (life_number (s.world.tds.lives t) == life_number life.Teardown) ≡ false)
     (its : IsPageOf s.world.pages t (stream_page s.world t k) kind.Migsc) (in_page : stream_page s.world t k < m.pages) where
   abbrev p : ℕ
   p = stream_page s.world t k
-
-  abbrev w' : World
-  w' = count_bundle t k (add_bundle made s.world)
 
   abbrev after : Memory
   after = changed (Put (place.Word (stream_page s.world t k) 0) (stream_counter s.world t k + 1)) mem
@@ -93,5 +90,13 @@ module _ (m : Machine) (s : State) (mem : Memory) (t k : ℕ) (made : Made) (sh 
   itself : (p == p) ≡ true
   itself = eq-eqb p p refl
 
-  pub bundle-counted : Shows m after.words after.slots (record s { world = w' })
-  bundle-counted = stream-stored m s mem.words mem.slots t p sh alive its in_page w'.streams w'.outgoing 0 (stream_counter s.world t k + 1) (rw itself refl) (λ i n. rw n refl) (λ q i o. rw o refl)
+  counter-stored : (out : Outgoing) → Shows m after.words after.slots (record s { world = with_streams ((count_bundle t k s.world).streams) out s.world })
+  counter-stored out = stream-stored m s mem.words mem.slots t p sh alive its in_page ((count_bundle t k s.world).streams) out 0 (stream_counter s.world t k + 1) (rw itself refl) (λ i n. rw n refl) (λ q i o. rw o refl)
+
+  pub input-counted : Shows m after.words after.slots (record s { world = count_bundle t k s.world })
+  input-counted = counter-stored s.world.outgoing
+
+pub bundle-counted : (m : Machine) (s : State) (mem : Memory) (t k : ℕ) (made : Made) → Shows m mem.words mem.slots s → (life_number (s.world.tds.lives t) == life_number life.Teardown) ≡ false
+    → IsPageOf s.world.pages t (stream_page s.world t k) kind.Migsc → stream_page s.world t k < m.pages
+    → let after = changed (Put (place.Word (stream_page s.world t k) 0) (stream_counter s.world t k + 1)) mem in Shows m after.words after.slots (record s { world = count_bundle t k (add_bundle made s.world) })
+bundle-counted m s mem t k made sh alive its in_page = counter-stored m s mem t k sh alive its in_page ((add_bundle made s.world).outgoing)

@@ -3,3 +3,5 @@ pub mod StreamWords
 pub mod StreamMeans
 pub mod Counted
 pub mod Unmade
+pub mod AloneMeans
+pub mod OpMeans

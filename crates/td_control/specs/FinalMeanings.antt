@@ -13,7 +13,7 @@ use Rattle.td_words.specs.declared.refusals.Status.TheVariants.{OperandInvalid, 
 use Rattle.td_words.specs.declared.replies.Value.TheVariants as value
 use Rattle.td_words.specs.declared.replies.Reply.TheVariants.{Done}
 use Rattle.td_words.specs.NameNumber.{vcpu_number}
-use Rattle.td_words.specs.Place.{WordPlace, IsIn}
+use Rattle.td_words.specs.Place.{IsIn}
 use Rattle.td_words.specs.Place as place
 use Rattle.flat_core.specs.World.{World}
 use Rattle.flat_core.specs.Processor.{LockId, OfPage, OfOp, Held}
@@ -26,7 +26,7 @@ use Rattle.word_rules.specs.Lines.{in_lines}
 use Rattle.word_rules.specs.Rules.{TdcsWord, Whole, KeepsNothing}
 use Rattle.word_rules.specs.Spots.{or_unused, tdcs_classes, is_current, is_empty, slot_of}
 use Rattle.word_rules.specs.Permissions.{MayAt, Owes, Reads}
-use Rattle.word_rules.specs.Cells.{Shows, IsAs, cell, lock_word, td_lock_lines, tdcs_lines}
+use Rattle.word_rules.specs.Cells.{Shows, IsAs, lock_word, td_lock_lines, tdcs_lines}
 use Rattle.lock_words.specs.Grips.{holds, holds_alone}
 use Rattle.act_rules.proofs.Rows.{rows-respect}
 use Rattle.leaf_engine.specs.declared.needs.Place.{Place}
@@ -35,14 +35,14 @@ use Rattle.leaf_engine.specs.Trees.{Tree, needs, acts}
 use Rattle.leaf_engine.specs.Means.{Instant, IsHkid, Means, MeansRow, MayChange, Work, work_of, OfCall, hold}
 use Rattle.leaf_parts.specs.Vps.{vps_tree, apart_in}
 use Rattle.leaf_parts.proofs.Acted.{opening}
-use Rattle.leaf_parts.proofs.Aside.{ShowsBut, aside, back, kept-but, tdcs-but}
-use Rattle.leaf_parts.proofs.Begun.{page_lock, op_lock, IsTd, TwoControls}
+use Rattle.leaf_parts.proofs.Begun.{page_lock, op_lock, locks-kept, IsTd, TwoControls}
 use Rattle.leaf_parts.proofs.Checks.{td-row-means, tdr-load}
 use Rattle.leaf_parts.proofs.Hashers.{initialized, hasher-told, hashers-but}
 use Rattle.leaf_parts.proofs.Keys.{hkid-in}
+use Rattle.leaf_parts.proofs.Stored.{tdcs-changed}
 use Rattle.leaf_parts.proofs.Vps.{vp-shown, vp-spot}
 use Rattle.leaf_parts.proofs.VpTrees.{none-apart, vps-mean}
-use Rattle.leaf_parts.proofs.Told.{tdcs-spot, tdcs-shown}
+use Rattle.leaf_parts.proofs.Told.{tdcs-spot}
 use Rattle.td_control.specs.FinalTrees.{word_in_hand, end_changes, final_changes, ready_vp, ready_tree, finalize_task}
 
 -- another word of TDCS than MRTD's
@@ -124,28 +124,10 @@ module _ (m : Machine) (s : State) (mem : Memory) (t : ℕ) (sh : Shows m mem.wo
       (λ b. subst (λ (v : ℕ). IsAs (in_lines (td_lock_lines locks t (tdcs_lines w' t)) i) v) (sym (same-told i old a b))
       (subst (λ (c : Option ℕ). IsAs c old) (sym (same-lines i a b)) was)))
 
-  tdcs-word : (i : ℕ) → i < 512 → IsAs (cell (record s { world = w' }) (place.Word y.tdcs i)) (after.words (place.Word y.tdcs i))
-  tdcs-word i b =
-      let was = tdcs-shown m mem.words mem.slots s sh t i y.tdcs (y.root ∷ []) y.list y.tdcs_page x.alive.life y.tdcs_in b in
-      rw (y.tdcs_page.kind, y.tdcs_page.owner, x.alive.life, y.list, its-page) (lines-told i (mem.words (place.Word y.tdcs i)) was)
-
-  -- the words of another page
-  final-but : ShowsBut y.tdcs m mem.words (record s { world = w' })
-  final-but = kept-but w' (aside y.tdcs m mem.words s sh.word) (record {
-    kinds = refl;
-    owners = refl;
-    blocked = refl;
-    key_table = refl;
-    page = λ q o n. record {
-      words = λ i. refl;
-      tdr = λ is i. refl;
-      owned = λ own. record { stands = λ z. z; level = refl; number = refl; entries = λ l e. refl; vp = λ i. refl; stream = λ i. refl; control = λ is z. tdcs-but refl (λ l e. refl) t y.tdcs (y.root ∷ []) y.list o (λ d i. rw d refl) };
-    };
-  })
-
   pub finalized : Shows m after.words after.slots (record s { world = w' })
   finalized = record {
-    word = back final-but after.words (λ r. refl) (λ r. refl) (λ k. refl) (λ r i o. rw o refl) tdcs-word;
+    word = tdcs-changed m s mem.words t y.tdcs y.root sh.word x.alive.life y.list y.tdcs_page y.tdcs_in w' (λ u n i. rw n refl) after.words (λ r. refl) (λ r. refl) (λ k. refl) (λ r i o. rw o refl)
+        (λ i was. rw its-page (lines-told i (mem.words (place.Word y.tdcs i)) was));
     hasher = hashers-but m w w' t mem.slots after.slots la x.alive refl (λ u n. rw n refl) (λ k n. rw n refl) (rw (x.configured, itself) tt) sh.hasher;
   }
 
@@ -215,7 +197,7 @@ module _ (m : Machine) (c : Instant) (t : ℕ) (in_page : nat_lt t m.pages ≡ t
       fills_allowed = tt;
       respects = rows-respect (opening m) 0 (call.MrFinalize t) (hold c both) v la (in_page, (rw x.alive.kind refl, (rw x.configured refl, (x.two, (x.op, (all, tt))))))
           (tdr-held, ((op-held, op-alone), tt));
-      locks_stay = ((refl, λ a. record { alive = record { kind = a.alive.kind; life = a.alive.life }; has_tdcs = a.has_tdcs }), ((refl, λ a. a), tt));
+      locks_stay = locks-kept v v' refl (λ u a. record { kind = a.kind; life = a.life }) both;
       shows = finalized m c.state c.memory t sh la empty x;
     },
     may-change,

@@ -1,42 +1,43 @@
 -- The leaf that begins a TD's measurement means its row.
 use Rattle.std.proofs.Common.{◌≡◌, ℕ, ◌<◌, true, ◌==◌, nat_lt, List, [], ◌∷◌, ◌++◌, Option, refl, sym, subst, inl, inr, arith}
 use Rattle.std.specs.List.{list_any}
-use Rattle.std.proofs.lemmas.Bool.{eq-eqb, eqb-true, ltb-true, lt-ltb}
+use Rattle.std.proofs.lemmas.Bool.{eq-eqb, ltb-true, lt-ltb}
 use Rattle.td_words.specs.declared.names.OpState.TheVariants as op
 use Rattle.td_words.specs.declared.names.LifeState.TheVariants as life
 use Rattle.td_words.specs.declared.names.Mode.TheVariants.{Shared, Exclusive}
 use Rattle.td_words.specs.declared.machines.Machine.{Machine}
 use Rattle.td_words.specs.declared.calls.Call.TheVariants as call
+use Rattle.td_words.specs.declared.places.TheConstants.{TDCS_OP}
 use Rattle.td_words.specs.declared.refusals.Status.TheVariants.{OperandInvalid}
 use Rattle.td_words.specs.declared.replies.Value.TheVariants as value
 use Rattle.td_words.specs.declared.replies.Reply.TheVariants.{Done}
 use Rattle.td_words.specs.NameNumber.{life_number}
-use Rattle.td_words.specs.Place.{WordPlace, IsIn}
 use Rattle.td_words.specs.Place as place
 use Rattle.flat_core.specs.World.{World}
-use Rattle.flat_core.specs.Processor.{LockId, OfPage, OfOp, Held}
+use Rattle.flat_core.specs.Processor.{OfPage, OfOp, Held}
+use Rattle.flat_core.specs.Effects.{set_op}
 use Rattle.flat_core.specs.Lawful.{Lawful}
 use Rattle.flat_core.specs.TdRows.{initialize}
 use Rattle.flat_core.specs.Event.{State}
-use Rattle.flat_core.proofs.Tests.{by_test}
 use Rattle.word_rules.specs.Rules.{KeepsNothing, writes}
 use Rattle.word_rules.specs.Permissions.{MayAt}
 use Rattle.word_rules.specs.Spots.{slot_of}
-use Rattle.word_rules.specs.Cells.{Shows, IsAs, cell, lock_word}
+use Rattle.word_rules.specs.Cells.{Shows}
 use Rattle.lock_words.specs.Grips.{holds, holds_alone}
-use Rattle.lock_words.specs.LockWords.{TdStands}
+use Rattle.lock_words.specs.LockWords.{put_word}
 use Rattle.act_rules.proofs.Rows.{rows-respect}
 use Rattle.leaf_engine.specs.declared.needs.Place.{Place}
 use Rattle.leaf_engine.specs.Changes.{Memory, Change, changed_all}
 use Rattle.leaf_engine.specs.Trees.{acts}
 use Rattle.leaf_engine.specs.Means.{Instant, Means, MeansRow, MayChange, Work, work_of, OfCall, hold}
 use Rattle.leaf_parts.proofs.Acted.{opening}
-use Rattle.leaf_parts.proofs.Aside.{ShowsBut, aside, back, kept-but, tdcs-but}
+use Rattle.leaf_parts.proofs.Aside.{AllShown}
 use Rattle.leaf_parts.proofs.Checks.{td-row-means, tdr-load}
 use Rattle.leaf_parts.proofs.Hashers.{hashers-but}
-use Rattle.leaf_parts.proofs.Begun.{page_lock, op_lock, holds-newest, IsTd, TwoControls}
+use Rattle.leaf_parts.proofs.Stored.{tdcs-stored}
+use Rattle.leaf_parts.proofs.Begun.{page_lock, op_lock, holds-newest, locks-kept, IsTd, TwoControls}
 use Rattle.leaf_parts.proofs.Keys.{hkid-in}
-use Rattle.leaf_parts.proofs.Told.{tdcs-spot, tdcs-shown}
+use Rattle.leaf_parts.proofs.Told.{tdcs-spot}
 use Rattle.td_control.specs.InitTrees.{begin_changes, init_changes, begin_tree, init_task}
 
 module _ (m : Machine) (s : State) (mem : Memory) (t : ℕ) (sh : Shows m mem.words mem.slots s) (la : Lawful m s.world) (x : IsTd m s.world t (op.Uninitialized ∷ [])) where
@@ -52,8 +53,9 @@ module _ (m : Machine) (s : State) (mem : Memory) (t : ℕ) (sh : Shows m mem.wo
   abbrev h : ℕ
   h = w.tds.hkids t
 
-  abbrev locks : LockId → ℕ
-  locks = lock_word s.lps s.lp_count
+  -- once the operation state was stored
+  abbrev first : World
+  first = set_op t op.Initialized s.world
 
   abbrev after : Memory
   after = changed_all (begin_changes y.tdcs h) mem
@@ -61,29 +63,12 @@ module _ (m : Machine) (s : State) (mem : Memory) (t : ℕ) (sh : Shows m mem.wo
   itself : (t == t) ≡ true
   itself = eq-eqb t t refl
 
-  -- TDCS
-  tdcs-word : (i : ℕ) → i < 512 → IsAs (cell (record s { world = w' }) (place.Word y.tdcs i)) (after.words (place.Word y.tdcs i))
-  tdcs-word i b =
-      let was = tdcs-shown m mem.words mem.slots s sh t i y.tdcs (y.root ∷ []) y.list y.tdcs_page x.alive.life y.tdcs_in b in
-      rw (y.tdcs_page.kind, y.tdcs_page.owner, x.alive.life, y.list, eq-eqb y.tdcs y.tdcs refl, itself)
-      (by_test (i == 5) (λ e. rw (e, eqb-true i 5 e) refl) (λ five. by_test (i == 4) (λ e. rw (e, eqb-true i 4 e) refl) (λ four. rw (five, four) (rw (five, four) at was))))
-
-  begun-but : ShowsBut y.tdcs m mem.words (record s { world = w' })
-  begun-but = kept-but w' (aside y.tdcs m mem.words s sh.word) (record {
-    kinds = refl;
-    owners = refl;
-    blocked = refl;
-    key_table = refl;
-    page = λ q o n. record {
-      words = λ i. refl;
-      tdr = λ is i. refl;
-      owned = λ h. record { stands = λ z. z; level = refl; number = refl; entries = λ l e. refl; vp = λ i. refl; stream = λ i. refl; control = λ is z. tdcs-but refl (λ l e. refl) t y.tdcs (y.root ∷ []) y.list o (λ d i. rw d refl) };
-    };
-  })
+  first-shown : AllShown m (put_word mem.words (place.Word y.tdcs TDCS_OP) 1) (record s { world = first })
+  first-shown = tdcs-stored m s mem.words t y.tdcs y.root sh.word x.alive.life y.list y.tdcs_page y.tdcs_in first (λ u n i. rw n refl) 4 1 (rw itself refl) (λ i n. rw n refl)
 
   pub begun : Shows m after.words after.slots (record s { world = w' })
   begun = record {
-    word = back begun-but after.words (λ r. refl) (λ r. refl) (λ k. refl) (λ r i o. rw o refl) tdcs-word;
+    word = tdcs-stored m (record s { world = first }) (put_word mem.words (place.Word y.tdcs TDCS_OP) 1) t y.tdcs y.root first-shown x.alive.life y.list y.tdcs_page y.tdcs_in w' (λ u n i. rw n refl) 5 1 (rw itself refl) (λ i n. rw n refl);
     hasher = hashers-but m w w' t mem.slots after.slots la x.alive refl (λ u n. rw n refl) (λ k n. rw n refl) (rw (x.alive.life, itself, eq-eqb h h refl) refl) sh.hasher;
   }
 
@@ -123,9 +108,6 @@ module _ (m : Machine) (c : Instant) (t : ℕ) (in_tdr : t < m.pages) (la : Lawf
       ),
     )
 
-    stands-on : TdStands v t → TdStands v' t
-    stands-on a = record { alive = record { kind = a.alive.kind; life = a.alive.life }; has_tdcs = a.has_tdcs }
-
     among-life : list_any (λ a. life_number a == life_number (v.tds.lives t)) (life.KeysConfigured ∷ []) ≡ true
     among-life = rw x.configured refl
 
@@ -136,7 +118,7 @@ module _ (m : Machine) (c : Instant) (t : ℕ) (in_tdr : t < m.pages) (la : Lawf
         fills_allowed = tt;
         respects = rows-respect (opening m) 0 (call.MngInit t) (hold c held) v la (lt-ltb t m.pages in_tdr, (rw x.alive.kind refl, (among-life, (x.two, (x.op, tt)))))
             (tdr-held, ((op-held, op-alone), tt));
-        locks_stay = ((refl, stands-on), ((refl, λ a. a), tt));
+        locks_stay = locks-kept v v' refl (λ u a. record { kind = a.kind; life = a.life }) held;
         shows = begun m c.state c.memory t sh la x;
       },
       may-change,

@@ -3,9 +3,9 @@ use Rattle.std.proofs.lemmas.Bool.{ltb-true}
 use Rattle.td_words.specs.declared.refusals.Status.TheVariants.{OperandInvalid}
 use Rattle.leaf_engine.specs.Trees.{Tree, needs}
 use Rattle.leaf_parts.specs.Parts.{Goes}
+use Rattle.leaf_parts.proofs.Parts.{goes-behind}
 use Rattle.export_tokens.specs.declared.tokens.TokenWords.{TokenWords}
 use Rattle.export_tokens.specs.TokenTrees.{parts_tree}
-use Rattle.export_tokens.proofs.Rests.{goes-behind}
 use Rattle.export_tokens.proofs.tokens.token_words.Goals as goal
 
 pub returns-then-start-eq0-clause-goes : goal.returns-then-start-eq0-clause-goes

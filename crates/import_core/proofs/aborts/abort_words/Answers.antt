@@ -4,7 +4,7 @@ use Rattle.flat_core.specs.ImportRows.{given_up_ops}
 use Rattle.leaf_engine.specs.Trees.{Tree}
 use Rattle.leaf_parts.proofs.Parts.{goes-stop, passes, feed-passes, exit}
 use Rattle.stream_parts.specs.Rooms.{session_tree}
-use Rattle.import_parts.specs.AloneTrees.{td_alone_tree}
+use Rattle.stream_parts.specs.AloneTrees.{td_alone_tree}
 use Rattle.import_core.specs.declared.aborts.AbortWords.{AbortWords}
 use Rattle.import_core.specs.AbortTrees.{abort_words_tree}
 use Rattle.import_core.proofs.aborts.abort_words.Goals as goal

@@ -4,8 +4,7 @@ use Rattle.flat_core.specs.World.{ClearHeader}
 use Rattle.flat_core.specs.Opening.{clear_header}
 use Rattle.flat_core.specs.Inputs.{Input, input_in}
 use Rattle.leaf_engine.specs.Trees.{Tree}
-use Rattle.leaf_parts.proofs.Parts.{goes-stop, goes-refused, goes-on, exit}
-use Rattle.export_tokens.proofs.Rests.{goes-behind}
+use Rattle.leaf_parts.proofs.Parts.{goes-stop, goes-refused, goes-on, exit, goes-behind}
 use Rattle.import_parts.specs.InputTrees.{session_same_tree, is_due, due_tree, tag_tree}
 use Rattle.import_core.specs.TokenAbortTrees.{given_up_tree}
 use Rattle.import_core.proofs.token_aborts.given_up.Goals as goal

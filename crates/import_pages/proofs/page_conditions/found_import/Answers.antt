@@ -6,7 +6,7 @@ use Rattle.flat_core.specs.ImportRows.{importable}
 use Rattle.flat_core.specs.Tree.{same_state}
 use Rattle.leaf_engine.specs.Trees.{Tree}
 use Rattle.leaf_parts.specs.Parts.{Goes}
-use Rattle.export_tokens.proofs.Rests.{goes-behind}
+use Rattle.leaf_parts.proofs.Parts.{goes-behind}
 use Rattle.import_pages.specs.declared.page_imports.Importing.{Importing}
 use Rattle.import_pages.specs.PageImportTrees.{to_fill_tree}
 use Rattle.import_pages.proofs.page_conditions.found_import.Goals as goal

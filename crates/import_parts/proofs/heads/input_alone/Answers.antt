@@ -2,10 +2,9 @@ use Rattle.std.proofs.Common.{ℕ, nat_lt, Err}
 use Rattle.td_words.specs.declared.refusals.Status.TheVariants.{OperandInvalid}
 use Rattle.flat_core.specs.Inputs.{Input, input_in}
 use Rattle.leaf_engine.specs.Trees.{Tree}
-use Rattle.leaf_parts.proofs.Parts.{goes-stop, passes, goes-on, exit}
-use Rattle.export_tokens.proofs.Rests.{goes-behind}
-use Rattle.import_parts.specs.InputTrees.{input_tree}
-use Rattle.import_parts.specs.AloneTrees.{td_alone_tree, input_alone_tree}
+use Rattle.leaf_parts.proofs.Parts.{goes-stop, passes, goes-on, exit, goes-behind}
+use Rattle.stream_parts.specs.AloneTrees.{td_alone_tree}
+use Rattle.import_parts.specs.InputTrees.{input_tree, input_alone_tree}
 use Rattle.import_parts.proofs.heads.input_alone.Goals as goal
 
 pub returns-in_err-input_of-clause-goes : goal.returns-in_err-input_of-clause-goes

@@ -7,7 +7,7 @@ use Rattle.leaf_engine.specs.Trees.{Tree, needs, done}
 use Rattle.leaf_parts.specs.declared.heads.Td.{Td}
 use Rattle.leaf_parts.specs.Heads.{td_head_tree}
 use Rattle.leaf_parts.proofs.Parts.{passes, behind-stop, behind-go, exit}
-use Rattle.import_parts.specs.AloneTrees.{op_changes}
+use Rattle.stream_parts.specs.AloneTrees.{op_changes}
 use Rattle.import_core.proofs.commits.ImportEndPlan.decide.Goals as goal
 
 pub returns-in_err-td-clause-decides : goal.returns-in_err-td-clause-decides

@@ -5,7 +5,7 @@ use Rattle.flat_core.specs.Inputs.{Input, input_in}
 use Rattle.leaf_engine.specs.Trees.{Tree, done}
 use Rattle.leaf_parts.specs.Parts.{Goes}
 use Rattle.leaf_parts.proofs.Parts.{exit}
-use Rattle.import_parts.specs.AloneTrees.{op_changes}
+use Rattle.stream_parts.specs.AloneTrees.{op_changes}
 use Rattle.import_core.specs.TokenAbortTrees.{given_up_tree}
 use Rattle.import_core.proofs.token_aborts.AbortByTokenPlan.decide.Goals as goal
 

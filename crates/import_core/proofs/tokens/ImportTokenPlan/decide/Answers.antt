@@ -7,7 +7,7 @@ use Rattle.leaf_engine.specs.Trees.{Tree}
 use Rattle.leaf_parts.specs.Parts.{Goes}
 use Rattle.leaf_parts.proofs.Parts.{exit}
 use Rattle.stream_parts.specs.declared.rooms.Room.{Room}
-use Rattle.import_parts.specs.AloneTrees.{input_alone_tree}
+use Rattle.import_parts.specs.InputTrees.{input_alone_tree}
 use Rattle.import_core.specs.TokenTrees.{token_due_tree, import_token_end}
 use Rattle.import_core.proofs.tokens.ImportTokenPlan.decide.Goals as goal
 

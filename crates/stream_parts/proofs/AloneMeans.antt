@@ -13,14 +13,14 @@ use Rattle.flat_core.specs.Lawful.{Lawful}
 use Rattle.word_rules.specs.Cells.{Shows}
 use Rattle.leaf_engine.specs.Trees.{Tree}
 use Rattle.leaf_engine.specs.Means.{Instant, Means, Work}
-use Rattle.leaf_parts.proofs.Begun.{IsTd, op_lock, page_lock}
 use Rattle.leaf_parts.specs.Arguments.{AllHold, checked}
+use Rattle.leaf_parts.proofs.Begun.{IsTd, op_lock, page_lock}
 use Rattle.leaf_parts.proofs.Checks.{td-row-means}
 use Rattle.leaf_parts.proofs.Told.{tdcs-spot}
 use Rattle.sept_parts.specs.SeptTrees.{tree_lock_tree}
 use Rattle.sept_parts.proofs.SeptLocks.{tree_held}
 use Rattle.stream_parts.proofs.StreamMeans.{HoldsHead, HoldsAlone}
-use Rattle.import_parts.specs.AloneTrees.{td_alone_tree}
+use Rattle.stream_parts.specs.AloneTrees.{td_alone_tree}
 
 -- the locks behind the beginning of a TD's row, where its operation state is held alone, and behind T besides
 abbrev pub td_locks : ℕ → List Held

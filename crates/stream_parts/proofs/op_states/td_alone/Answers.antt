@@ -4,8 +4,8 @@ use Rattle.leaf_engine.specs.Trees.{Tree}
 use Rattle.leaf_parts.specs.declared.heads.Td.{Td}
 use Rattle.leaf_parts.proofs.Parts.{goes-stop, exit}
 use Rattle.sept_parts.specs.SeptTrees.{tree_lock_tree}
-use Rattle.import_parts.specs.AloneTrees.{td_alone_tree}
-use Rattle.import_parts.proofs.heads.td_alone.Goals as goal
+use Rattle.stream_parts.specs.AloneTrees.{td_alone_tree}
+use Rattle.stream_parts.proofs.op_states.td_alone.Goals as goal
 
 abbrev headed : (t : ℕ) → (ℕ → Tree) → Td → Tree
 headed t f td = tree_lock_tree t td.tdcs Exclusive (f td.tdcs)
