@@ -2,7 +2,7 @@
 -- positions too.
 use Rattle.std.proofs.Common.{◌≡◌, refl, sym, ◌∙◌, ap, subst, ℕ, List, [], ◌∷◌, map, None, true, false, ◌==◌}
 use Rattle.std.specs.List.{list_any}
-use Rattle.std.proofs.lemmas.Bool.{eqb-true, eq-eqb, and_parts}
+use Rattle.std.proofs.lemmas.Bool.{eqb-true, eq-eqb}
 use Rattle.td_words.specs.declared.names.Access.{Access}
 use Rattle.td_words.specs.declared.names.Access.TheVariants.{Read, Write}
 use Rattle.td_words.specs.declared.names.LifeState.{LifeState}
@@ -16,7 +16,7 @@ use Rattle.td_words.specs.Slots.{output_slot}
 use Rattle.flat_core.specs.World.{World, VpImage, Pages}
 use Rattle.flat_core.specs.Opening.{Opening}
 use Rattle.flat_core.specs.Row.{OperationRow, Passes}
-use Rattle.flat_core.specs.Conditions.{same_kind, running_ops}
+use Rattle.flat_core.specs.Conditions.{running_ops}
 use Rattle.flat_core.specs.Tree.{page_of_gpa, entry_at}
 use Rattle.flat_core.specs.Effects.{begin_memory, pass_operation, tell_words}
 use Rattle.flat_core.specs.Sessions.{count_bundle}
