@@ -6,7 +6,6 @@ use Rattle.std.proofs.lemmas.Bool.{eqb-true, eq-eqb, and_parts, ltb-true}
 use Rattle.td_words.specs.declared.names.Access.{Access}
 use Rattle.td_words.specs.declared.names.Access.TheVariants.{Read, Write}
 use Rattle.td_words.specs.declared.names.PageKind.TheVariants as kind
-use Rattle.td_words.specs.declared.names.LifeState.TheVariants as life
 use Rattle.td_words.specs.declared.names.OpState.{OpState}
 use Rattle.td_words.specs.declared.names.OpState.TheVariants as op
 use Rattle.td_words.specs.declared.calls.Call.{Call}
@@ -17,7 +16,6 @@ use Rattle.flat_core.specs.World.{World, Pages, Tds, Streams, Hidden, put}
 use Rattle.flat_core.specs.Opening.{Opening}
 use Rattle.flat_core.specs.Row.{OperationRow, Passes}
 use Rattle.flat_core.specs.Conditions.{same_kind, vp_limit, blocking_ops, running_ops}
-use Rattle.flat_core.specs.Tree.{entry_at, number_at}
 use Rattle.flat_core.specs.Effects.{set_op, pass_operation, tell_words, leave_guest}
 use Rattle.flat_core.specs.Guest.{ByRow, operation_of, is_pending_at, reach}
 use Rattle.flat_core.specs.ExportRows.{abortable_ops, stream_ops}
@@ -25,7 +23,7 @@ use Rattle.flat_core.specs.Sessions.{stream_page}
 use Rattle.flat_core.specs.Table.{row_of}
 use Rattle.flat_core.specs.Lawful.{IsAlive, IsPageOf, ArePagesOf, Lawful, is_exporting}
 use Rattle.flat_core.proofs.Tests.{by_test, host_kind, same_self}
-use Rattle.flat_core.proofs.Keeps.{live_of, ended_of}
+use Rattle.flat_core.proofs.Keeps.{ended_of}
 use Rattle.flat_core.proofs.Parts.{IsLive}
 use Rattle.flat_core.proofs.ShapeOf.{row_alive}
 use Rattle.flat_core.proofs.Operations.{operation_row, accepted}

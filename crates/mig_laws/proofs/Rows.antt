@@ -5,7 +5,6 @@ use Rattle.std.proofs.lemmas.Bool.{eqb-true, eq-eqb, ne_eqb, and_parts, lt-ltb}
 use Rattle.td_words.specs.declared.names.PageKind.{PageKind}
 use Rattle.td_words.specs.declared.names.PageKind.TheVariants as kind
 use Rattle.td_words.specs.declared.names.LifeState.{LifeState}
-use Rattle.td_words.specs.declared.names.LifeState.TheVariants as life
 use Rattle.td_words.specs.declared.names.OpState.{OpState}
 use Rattle.td_words.specs.declared.names.OpState.TheVariants as op
 use Rattle.td_words.specs.declared.names.EntryState.TheVariants as entry
@@ -21,7 +20,7 @@ use Rattle.flat_core.specs.Row.{Passes}
 use Rattle.flat_core.specs.Conditions.{same_kind, blocking_ops}
 use Rattle.flat_core.specs.Tree.{page_of_gpa, number_at, entry_at}
 use Rattle.flat_core.specs.Tracking.{entry_epochs}
-use Rattle.flat_core.specs.Effects.{put_in, set_page, take_node, map_page, set_life, set_op, begin_memory}
+use Rattle.flat_core.specs.Effects.{put_in, set_page, take_node, map_page, set_op, begin_memory}
 use Rattle.flat_core.specs.Sessions.{stream_page, stream_counter, count_bundle}
 use Rattle.flat_core.specs.Inputs.{Input, input_in}
 use Rattle.flat_core.specs.MemRows.{open_states}
@@ -31,7 +30,7 @@ use Rattle.flat_core.specs.Table.{row_of}
 use Rattle.flat_core.specs.Lawful.{IsAlive, Lawful, ArePagesOf, is_exporting, is_free}
 use Rattle.flat_core.proofs.Tests.{by_test, host_kind, range_of, same_self}
 use Rattle.flat_core.proofs.Parts.{IsLive}
-use Rattle.flat_core.proofs.Keeps.{live_of, ended_of, free_of}
+use Rattle.flat_core.proofs.Keeps.{ended_of, free_of}
 use Rattle.flat_core.proofs.ShapeOf.{row_alive}
 use Rattle.flat_core.proofs.Maps.{node_named}
 use Rattle.flat_core.proofs.Exports.{free_unmarked}
