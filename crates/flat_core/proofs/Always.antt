@@ -39,8 +39,7 @@ use Rattle.flat_core.proofs.Ends.{timeliness_kept}
 use Rattle.flat_core.proofs.Accesses.{row-access, accept-access}
 use Rattle.flat_core.proofs.AccessActs.{quiet-act, frame, current-same, walking-same}
 use Rattle.flat_core.proofs.Guarded.{enter-access, flush-access, guest-changed, left-access, filled, stepped}
-use Rattle.flat_core.proofs.Epochs.{row-epochs, leave-epochs}
-use Rattle.flat_core.proofs.EpochActs.{quiet-epochs}
+use Rattle.flat_core.proofs.Epochs.{quiet-epochs, row-epochs, leave-epochs}
 
 abbrev pub SameGuest : Guest → Guest → Type 0
 SameGuest g g' = (g'.tdr ≡ g.tdr) × (g'.vp ≡ g.vp) × ((g'.walk ≡ g.walk) ⊎ (g'.walk ≡ None))

@@ -16,11 +16,10 @@ use Rattle.td_words.specs.declared.replies.Outcome.TheVariants.{EptViolation, St
 use Rattle.td_words.specs.declared.replies.Reply.{Reply}
 use Rattle.td_words.specs.declared.replies.Reply.TheVariants.{Done, Exited}
 use Rattle.td_words.specs.declared.names.LifeState.{LifeState}
-use Rattle.td_words.specs.declared.names.LifeState.TheVariants as life
 use Rattle.td_words.specs.declared.names.VcpuState.{VcpuState}
 use Rattle.td_words.specs.declared.names.OpState.{OpState}
 use Rattle.td_words.specs.declared.names.VcpuState.TheVariants as vcpu
-use Rattle.td_words.specs.NameNumber.{life_number, op_number}
+use Rattle.td_words.specs.NameNumber.{op_number}
 use Rattle.td_words.specs.Packing.{Entry}
 use Rattle.flat_core.specs.Conditions.{same_vp_state, running_ops}
 use Rattle.flat_core.specs.Tree.{page_of_gpa}
@@ -46,6 +45,7 @@ use Rattle.flat_core.proofs.Passed.{vp_of}
 use Rattle.flat_core.proofs.Tests.{by_test, put_here, tdr_kind, some_same}
 use Rattle.flat_core.proofs.Keeps.{first-lawful}
 use Rattle.flat_core.proofs.Kept.{events_keep, timely_occupied, timely_runs}
+use Rattle.flat_core.proofs.Ranges.{configured}
 use Rattle.flat_core.proofs.Spared.{row_spares}
 use Rattle.flat_core.proofs.Operations.{each_operation, operation_row, accepted}
 use Rattle.flat_core.proofs.Cached.{cached_found, allowed_cached}
@@ -447,10 +447,6 @@ module _ (o : Opening) (p : ℕ) (c : Call) (cs : List Call) (w : World) (lp : L
       } in
       subst (λ (x : Lp). Lowers o p (left_of o w (c ∷ cs) lp) w (settled x)) (sym same) made
 
-running_life : (s : LifeState) → list_any (λ a. life_number a == life_number s) (life.KeysConfigured ∷ []) ≡ true → s ≡ life.KeysConfigured
-running_life life.KeysConfigured e = refl
-running_life _ e = cc
-
 ready_state : (s : VcpuState) → same_vp_state s vcpu.Ready ≡ true → s ≡ vcpu.Ready
 ready_state vcpu.Ready e = refl
 ready_state vcpu.Created e = cc
@@ -461,7 +457,7 @@ enter_occupies o me t v most w ps =
     let here : (v == v) ≡ true = eq-eqb v v refl in
     record {
       tdr = tdr_kind _ (search);
-      life = running_life _ (search);
+      life = configured (w.tds.lives t) (search);
       running = search;
       page = vp_of w t v (search);
       ready = ready_state _ (search);

@@ -1,26 +1,21 @@
 -- What a processor's own events keep of what its cached translations and its walk say: VP.ENTER, a walk's load, a change of
 -- its guest, and a count step.
-use Rattle.std.proofs.Common.{◌≡◌, ◌⊎◌, inl, inr, refl, sym, ◌∙◌, subst, ap, ℕ, zero, suc, ◌/◌, ◌^◌, ◌≤◌, List, [], ◌∷◌, Option, Some, None, true, false, not, ◌==◌, arith}
-use Rattle.std.specs.List.{list_any}
+use Rattle.std.proofs.Common.{◌≡◌, ◌⊎◌, inl, inr, refl, sym, ◌∙◌, subst, ap, ℕ, zero, suc, ◌/◌, ◌^◌, ◌≤◌, List, Option, Some, None, true, false, not, ◌==◌, arith}
 use Rattle.std.specs.Prelude.{Contains}
 use Rattle.std.proofs.lemmas.Bool.{eq-eqb, eqb-true}
 use Rattle.td_words.specs.declared.names.PageKind.TheVariants as kind
-use Rattle.td_words.specs.declared.names.LifeState.{LifeState}
 use Rattle.td_words.specs.declared.names.LifeState.TheVariants as life
-use Rattle.td_words.specs.declared.names.OpState.{OpState}
-use Rattle.td_words.specs.declared.names.OpState.TheVariants as op
 use Rattle.td_words.specs.declared.names.EntryState.{EntryState}
 use Rattle.td_words.specs.declared.names.EntryState.TheVariants as entry
 use Rattle.td_words.specs.declared.names.Access.{Access}
 use Rattle.td_words.specs.declared.names.Access.TheVariants.{Read, Write}
 use Rattle.td_words.specs.declared.calls.Call.TheVariants as call
-use Rattle.td_words.specs.NameNumber.{life_number, op_number}
 use Rattle.td_words.specs.Packing.{Entry}
 use Rattle.flat_core.specs.World.{World}
 use Rattle.flat_core.specs.Processor.{Translation, Walk, Guest, new_guest}
 use Rattle.flat_core.specs.Opening.{Opening}
 use Rattle.flat_core.specs.Row.{Passes}
-use Rattle.flat_core.specs.Conditions.{is_elsewhere, running_ops}
+use Rattle.flat_core.specs.Conditions.{is_elsewhere}
 use Rattle.flat_core.specs.Effects.{leave_guest, end_association}
 use Rattle.flat_core.specs.Tree.{page_of_gpa, number_at, entry_at, same_state, allows, may_read, may_write}
 use Rattle.flat_core.specs.Translations.{cache, is_stale, cache_at_entry, drop_td}
@@ -32,6 +27,7 @@ use Rattle.flat_core.specs.Access.{IsHere, IsUsable, inside, outside, node_numbe
 use Rattle.flat_core.proofs.Tests.{by_test, tdr_kind}
 use Rattle.flat_core.proofs.Passed.{vp_of}
 use Rattle.flat_core.proofs.Cached.{dropped, one_more}
+use Rattle.flat_core.proofs.Ranges.{configured, has_run}
 use Rattle.flat_core.proofs.AccessActs.{occupied-here, current-same}
 
 -- what entries allow
@@ -85,20 +81,10 @@ module _ (o : Opening) (me u v most : ℕ) (w : World) (la : Lawful o.machine w)
   u-tdr = tdr_kind _ (search)
 
   u-life : w.tds.lives u ≡ life.KeysConfigured
-  u-life = live (w.tds.lives u) (search)
-    where
-      live : (s : LifeState) → list_any (λ b. life_number b == life_number s) (life.KeysConfigured ∷ []) ≡ true → s ≡ life.KeysConfigured
-      live life.KeysConfigured e = refl
-      live _ e = cc
+  u-life = configured (w.tds.lives u) (search)
 
   u-op : has_not_run (w.tds.ops u) ≡ false
-  u-op = built (w.tds.ops u) (search)
-    where
-      built : (s : OpState) → list_any (λ b. op_number b == op_number s) running_ops ≡ true → has_not_run s ≡ false
-      built op.Runnable e = refl
-      built op.LiveExport e = refl
-      built op.LiveImport e = refl
-      built _ e = cc
+  u-op = has_run (w.tds.ops u) (search)
 
   was-in : (c : Translation) → Contains cs' c → Contains cs c × ((is_stale (w.vps.associated v) (w.vps.lasts v) (w.tds.epochs u) ≡ true) → (c.tdr == u) ≡ false)
   was-in c i = by_test (is_stale (w.vps.associated v) (w.vps.lasts v) (w.tds.epochs u))

@@ -52,13 +52,11 @@ pub mod Blind
 pub mod BlindOperations
 pub mod AccessActs
 pub mod Accesses
-pub mod EpochActs
 pub mod Epochs
 pub mod Guarded
 pub mod Always
 pub mod Known
 pub mod Memories
-pub mod Uses
 pub mod OneUse
 pub mod Caches
 pub mod Measured

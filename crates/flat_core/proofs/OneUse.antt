@@ -1,26 +1,68 @@
 -- Pages have one use: what a call takes was the host's, and nothing but a call's act changes what a page is used for.
-use Rattle.std.proofs.Common.{◌≡◌, refl, subst, ℕ, ◌+◌, List, [], ◌∷◌, length, Option, Some, None, false}
+use Rattle.std.proofs.Common.{◌≡◌, refl, subst, ℕ, ◌+◌, List, [], ◌∷◌, length, Option, Some, None, false, sym, ◌∙◌, ap, true, ◌==◌}
+use Rattle.td_words.specs.declared.names.PageKind.{PageKind}
+use Rattle.td_words.specs.declared.names.PageKind.TheVariants as kind
 use Rattle.td_words.specs.declared.names.Access.{Access}
 use Rattle.td_words.specs.declared.names.Access.TheVariants.{Read, Write}
 use Rattle.td_words.specs.declared.calls.Call.{Call}
 use Rattle.td_words.specs.declared.calls.GuestOp.{GuestOp}
 use Rattle.td_words.specs.declared.replies.Outcome.{Outcome}
 use Rattle.td_words.specs.declared.replies.Reply.{Reply}
-use Rattle.flat_core.specs.World.{World}
+use Rattle.flat_core.specs.World.{World, Pages}
 use Rattle.flat_core.specs.Processor.{Phase, Trying, Undoing, Answered, Held, Lp}
 use Rattle.flat_core.specs.Opening.{Opening}
 use Rattle.flat_core.specs.Row.{OperationRow, Move, Attempts, Undoes, Refuses, Succeeds, Releases, Rests, Passes, next, next_in}
-use Rattle.flat_core.specs.Effects.{tell_words}
+use Rattle.flat_core.specs.Conditions.{is_host_in}
+use Rattle.flat_core.specs.Effects.{tell_words, take_node}
 use Rattle.flat_core.specs.Guest.{ByRow, operation_of, is_pending_at, reach}
 use Rattle.flat_core.specs.Table.{row_of}
 use Rattle.flat_core.specs.Event.{State, Event, OfCall, OfOperation, lines_left, next_event, nothing_more, world_after, after_event, event}
-use Rattle.flat_core.specs.Laws.{IsUsedAsBefore, PagesHaveOneUse}
+use Rattle.flat_core.specs.Laws.{IsUsedAsBefore, PagesHaveOneUse, gives_back as is_given_back}
 use Rattle.flat_core.specs.PageUses.{is_act, is_act_giving_back, EventsKeepUses}
 use Rattle.flat_core.proofs.Operations.{operation_row, accepted}
 use Rattle.flat_core.proofs.Enter.{all_pass}
 use Rattle.flat_core.proofs.Due.{Due, calls, frees, leaves, stops, fills, operates, walks, reaches, undoes, gives_back, due_event_is}
-use Rattle.flat_core.proofs.Uses.{same_use, shape_uses}
+use Rattle.flat_core.proofs.Tests.{host_apart}
+use Rattle.flat_core.proofs.Shapes as shape
+use Rattle.flat_core.proofs.Shapes.{Aspect, aspect_of, Shape}
 use Rattle.flat_core.proofs.ShapeOf.{shape_of}
+
+abbrev same_use : (pages : Pages) (p : ℕ) → IsUsedAsBefore pages pages p
+same_use pages p = record { kind = refl; owner = refl; level = refl; number = refl }
+
+-- another page becomes one of this kind
+other_taken : (w : World) (q : ℕ) (k : PageKind) (t level number p : ℕ) → (p == q) ≡ false → IsUsedAsBefore w.pages (take_node q k t level number w).pages p
+other_taken w q k t level number p n = record { kind = rw n refl; owner = rw n refl; level = rw n refl; number = rw n refl }
+
+-- a host page does
+host_taken : (w : World) (q : ℕ) (k : PageKind) (t level number p : ℕ) → is_host_in w.pages q ≡ true → is_host_in w.pages p ≡ false → IsUsedAsBefore w.pages (take_node q k t level number w).pages p
+host_taken w q k t level number p host owned = other_taken w q k t level number p (host_apart w q p host owned)
+
+-- the act of any shape leaves a page in use to its use, but the one that it gives back
+module _ (me : ℕ) (c : Call) (w w' : World) (p : ℕ) (owned : is_host_in w.pages p ≡ false) (stays : is_given_back c w p ≡ false) where
+  as_in : (pages : Pages) → w'.pages ≡ pages → IsUsedAsBefore w.pages pages p → IsUsedAsBefore w.pages w'.pages p
+  as_in pages e u = subst (λ (z : Pages). IsUsedAsBefore w.pages z p) (sym e) u
+
+  by_aspect : (a : Aspect) → aspect_of w' ≡ a → IsUsedAsBefore w.pages a.pages p → IsUsedAsBefore w.pages w'.pages p
+  by_aspect a e u = as_in a.pages (ap (λ (z : Aspect). z.pages) e) u
+
+  by_world : (v : World) → w' ≡ v → IsUsedAsBefore w.pages v.pages p → IsUsedAsBefore w.pages w'.pages p
+  by_world v e u = as_in v.pages (ap (λ (z : World). z.pages) e) u
+
+  shape_uses : Shape me c w w' → IsUsedAsBefore w.pages w'.pages p
+  shape_uses (shape.notes x) = by_aspect _ x.rest (same_use w.pages p)
+  shape_uses (shape.fills x) = by_aspect _ x.rest (same_use w.pages p)
+  shape_uses (shape.takes x) = by_aspect _ x.rest (host_taken w x.page x.becomes x.tdr x.level x.number p x.host owned)
+  shape_uses (shape.reclaims x) = by_world _ x.is (other_taken w x.page kind.Nda 0 0 0 p (sym (x.given p) ∙ stays))
+  shape_uses (shape.unmaps x) = by_world _ x.is (other_taken w (w.tds.entries x.tdr x.level x.number).page kind.Nda 0 0 0 p (sym (x.given p) ∙ stays))
+  shape_uses (shape.begins x) = by_world _ x.is (host_taken w x.tdr kind.Tdr x.tdr 0 0 p x.host owned)
+  shape_uses (shape.changes_life x) = by_aspect _ x.rest (same_use w.pages p)
+  shape_uses (shape.changes_op x) = by_aspect _ x.rest (same_use w.pages p)
+  shape_uses (shape.changes_vp x) = by_aspect _ x.rest (same_use w.pages p)
+  shape_uses (shape.enters x) = by_world _ x.is (same_use w.pages p)
+  shape_uses (shape.flushes x) = by_world _ x.is (same_use w.pages p)
+  shape_uses (shape.changes_entry x) = by_aspect _ x.rest (record { kind = refl; owner = refl; level = refl; number = refl })
+  shape_uses (shape.advances x) = by_world _ x.is (same_use w.pages p)
 
 pub one_use : PagesHaveOneUse
 one_use o me c w p ps owned stays = shape_uses me c w ((row_of o me c).act w) p owned stays (shape_of o me c w ps)

@@ -17,14 +17,14 @@ use Rattle.td_words.specs.Packing.{is_exported}
 use Rattle.flat_core.specs.World.{World}
 use Rattle.flat_core.specs.Row.{Item, Passes}
 use Rattle.flat_core.specs.Locks.{one_if}
-use Rattle.flat_core.specs.Conditions.{same_kind, blocking_ops}
+use Rattle.flat_core.specs.Conditions.{same_kind, blocking_ops, running_ops}
 use Rattle.flat_core.specs.Tree.{same_state, entry_at, state_in, named_page}
 use Rattle.flat_core.specs.ExportRows.{live_ops, abortable_ops, writable_states, write_blocked, block_write, opened_row, write_blocked_states, write_unblocked, is_first_dirt, restored_states}
 use Rattle.flat_core.specs.BundleRows.{paused_ops, exportable, export_page}
 use Rattle.flat_core.specs.Exports.{is_dirty}
 use Rattle.flat_core.specs.MemRows.{named_row, open_states, blocked_states, removed_states, blocked_state, unblocked_state}
 use Rattle.flat_core.specs.Lawful.{IsAlive, is_free, is_node, is_exporting}
-use Rattle.flat_core.specs.Access.{allows_less, is_pending, may_be_exempt}
+use Rattle.flat_core.specs.Access.{allows_less, is_pending, may_be_exempt, has_not_run}
 use Rattle.flat_core.specs.Laws.{holds_memory}
 use Rattle.flat_core.proofs.Tests.{tdr_kind}
 use Rattle.flat_core.proofs.Maps.{behind_walk}
@@ -64,6 +64,17 @@ named_passed w t gpa level allowed rest ps =
 pub living : (s : LifeState) → list_any (λ b. life_number b == life_number s) (life.KeysConfigured ∷ []) ≡ true → (life_number s == life_number life.Teardown) ≡ false
 living life.KeysConfigured h = refl
 living _ h = cc
+
+pub configured : (s : LifeState) → list_any (λ b. life_number b == life_number s) (life.KeysConfigured ∷ []) ≡ true → s ≡ life.KeysConfigured
+configured life.KeysConfigured h = refl
+configured _ h = cc
+
+-- a TD in which virtual processors run may have run
+pub has_run : (s : OpState) → list_any (λ b. op_number b == op_number s) running_ops ≡ true → has_not_run s ≡ false
+has_run op.Runnable h = refl
+has_run op.LiveExport h = refl
+has_run op.LiveImport h = refl
+has_run _ h = cc
 
 pub named_alive : (w : World) (t gpa level : ℕ) (allowed : List EntryState) (rest : List (Item Reply)) → NamedPassed w t gpa level allowed rest → IsAlive w.pages w.tds t
 named_alive w t gpa level allowed rest p = record { kind = tdr_kind _ p.root; life = living (w.tds.lives t) p.life }

@@ -5,7 +5,6 @@ use Rattle.std.proofs.lemmas.Bool.{eqb-true, and_parts}
 use Rattle.mrtd_measure.specs.Records.{page_record}
 use Rattle.td_words.specs.declared.names.PageKind.TheVariants as kind
 use Rattle.td_words.specs.declared.names.PageKind.{PageKind}
-use Rattle.td_words.specs.declared.names.LifeState.{LifeState}
 use Rattle.td_words.specs.declared.names.LifeState.TheVariants as life
 use Rattle.td_words.specs.declared.names.OpState.{OpState}
 use Rattle.td_words.specs.declared.names.OpState.TheVariants as op
@@ -15,7 +14,7 @@ use Rattle.td_words.specs.declared.calls.Call.{Call}
 use Rattle.td_words.specs.declared.calls.Call.TheVariants as call
 use Rattle.td_words.specs.declared.replies.Reply.{Reply}
 use Rattle.td_words.specs.declared.replies.Value.TheVariants.{Digest}
-use Rattle.td_words.specs.NameNumber.{life_number, op_number}
+use Rattle.td_words.specs.NameNumber.{op_number}
 use Rattle.td_words.specs.Packing.{Entry}
 use Rattle.flat_core.specs.World.{World, put}
 use Rattle.flat_core.specs.Opening.{Opening}
@@ -34,11 +33,10 @@ use Rattle.flat_core.specs.Lawful.{IsAlive, is_free}
 use Rattle.flat_core.specs.Guests.{IsOccupied}
 use Rattle.flat_core.specs.Access.{is_pending, has_not_run}
 use Rattle.flat_core.specs.Laws.{given_or_measured, holds_memory}
-use Rattle.flat_core.proofs.Tests.{by_test, tdr_kind, range_of, same_self, put_here}
+use Rattle.flat_core.proofs.Tests.{host_apart, by_test, tdr_kind, range_of, same_self, put_here}
 use Rattle.flat_core.proofs.Mrtd.{mrtd_is_the_digest}
-use Rattle.flat_core.proofs.Uses.{host_apart}
 use Rattle.flat_core.proofs.Maps.{behind_walk}
-use Rattle.flat_core.proofs.Ranges.{EntryPassed, begun_of, named_alive, write_passed, export_passed, entry_alive, block_restates, unblock_restates, write_remarks, unwrite_remarks, restored as can_restore, can_export, page_removed, sept_removed, blocked_less, blocked_stops, unblocked_allows, mapped_allows, export_allows}
+use Rattle.flat_core.proofs.Ranges.{EntryPassed, configured, has_run, begun_of, named_alive, write_passed, export_passed, entry_alive, block_restates, unblock_restates, write_remarks, unwrite_remarks, restored as can_restore, can_export, page_removed, sept_removed, blocked_less, blocked_stops, unblocked_allows, mapped_allows, export_allows}
 use Rattle.flat_core.proofs.Passed.{TdPassed, td_alive, vp_of, sept_passed, page_passed, augment_passed, block_passed, unblock_passed, remove_passed, sept_remove_passed}
 use Rattle.flat_core.proofs.Removals.{empty_at}
 use Rattle.flat_core.proofs.Keeps.{live_of, ended_of}
@@ -50,16 +48,6 @@ use Rattle.flat_core.proofs.Shapes as shape
 use Rattle.flat_core.proofs.Shapes.{Shape, IsTrue, same_vp, mrtd_of, IsOneOf, aspect_of, Aspect, IsHeld, OpGoes, unrun, runs, restored, EpochGoes, stay, begin, BlockGoes, noted, open_on}
 
 -- what conditions say of states
-
-configured : (s : LifeState) → list_any (λ b. life_number b == life_number s) (life.KeysConfigured ∷ []) ≡ true → s ≡ life.KeysConfigured
-configured life.KeysConfigured e = refl
-configured _ e = cc
-
-has_run : (s : OpState) → IsOneOf running_ops s → has_not_run s ≡ false
-has_run op.Runnable e = refl
-has_run op.LiveExport e = refl
-has_run op.LiveImport e = refl
-has_run _ e = cc
 
 not_running : (s : OpState) → has_not_run s ≡ true → IsOneOf running_ops s → ⊥
 not_running op.Runnable n e = cc

@@ -1,11 +1,11 @@
 -- Tests and what they tell.
-use Rattle.std.proofs.Common.{◌≡◌, ◌≢◌, refl, ℕ, ◌≤◌, Some, Bool, true, false, ◌==◌, ◌&&◌, nat_le, arith}
-use Rattle.std.proofs.lemmas.Bool.{eq-eqb}
+use Rattle.std.proofs.Common.{◌≡◌, ◌≢◌, refl, sym, ◌∙◌, ap, ℕ, ◌≤◌, Some, Bool, true, false, ◌==◌, ◌&&◌, nat_le, arith}
+use Rattle.std.proofs.lemmas.Bool.{eq-eqb, eqb-true}
 use Rattle.std.proofs.lemmas.Bool.Decides.{nat_tests}
 use Rattle.td_words.specs.declared.names.PageKind.{PageKind}
 use Rattle.td_words.specs.declared.names.PageKind.TheVariants as kind
-use Rattle.flat_core.specs.Conditions.{same_kind}
-use Rattle.flat_core.specs.World.{put}
+use Rattle.flat_core.specs.Conditions.{same_kind, is_host_in}
+use Rattle.flat_core.specs.World.{World, put}
 
 pub by_test : {A : Type 0} (b : Bool) → (b ≡ true → A) → (b ≡ false → A) → A
 by_test true t f = t refl
@@ -35,3 +35,9 @@ same_self n = eq-eqb n n refl
 
 pub put_here : {A : Type 0} (f : ℕ → A) (p : ℕ) (x : A) → put f p x p ≡ x
 put_here f p x = rw (same_self p) refl
+
+-- a page that isn't the host's is another one than the host's
+pub host_apart : (w : World) (q p : ℕ) → is_host_in w.pages q ≡ true → is_host_in w.pages p ≡ false → (p == q) ≡ false
+host_apart w q p host owned = by_test (p == q)
+    (λ y. absurd (let no : true ≡ false = sym host ∙ (ap (is_host_in w.pages) (sym (eqb-true p q y)) ∙ owned) in cc))
+    (λ n. n)
