@@ -82,11 +82,11 @@ filled-controls u gpa page ws _ w t = refl
 -- no call changes the control pages of a TD that runs
 row-controls : (o : Opening) (me : ℕ) (c : Call) (w : World) (p t v : ℕ) → Lawful o.machine w → Passes ((row_of o me c).items w) → IsOccupied w p t v → ((row_of o me c).act w).tds.controls t ≡ w.tds.controls t
 row-controls o me (call.MngCreate u h) w p t v la ps x =
-    let off : (t == u) ≡ false = apart t u (λ e. let no : kind.Tdr ≡ kind.Nda = sym x.tdr ∙ (ap w.pages.kinds e ∙ host_kind _ (search)) in cc) in
+    let off : (t == u) ≡ false = apart t u (λ e. let no : kind.Tdr ≡ kind.Nda = sym x.tdr ∙ (ap w.pages.kinds e ∙ host_kind _ ps.1.1.0) in cc) in
     rw off refl
 row-controls o me (call.MngAddcx u page) w p t v la ps x =
     let off : (t == u) ≡ false = apart t u (λ e.
-    let room : length (w.tds.controls u) < 2 = ltb-true (length (w.tds.controls u)) 2 (search) in
+    let room : length (w.tds.controls u) < 2 = ltb-true (length (w.tds.controls u)) 2 ps.1.1.1.1.1.0 in
     let two : length (w.tds.controls t) ≡ 2 = eqb-true (length (w.tds.controls t)) 2 (both-controls o w p t v la x) in
     let same : length (w.tds.controls t) ≡ length (w.tds.controls u) = ap (λ (z : ℕ). length (w.tds.controls z)) e in
     omega (arith, room, two, same)) in
