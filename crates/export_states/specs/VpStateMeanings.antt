@@ -1,13 +1,12 @@
 -- The leaf that exports a virtual processor's state means its row.
-use Rattle.std.proofs.Common.{◌≡◌, ℕ, suc, ◌+◌, ◌%◌, ◌^◌, ◌<◌, Bool, true, false, ◌==◌, nat_lt, not, List, [], ◌∷◌, ◌++◌, length, slice_get, Option, Some, refl, ap, sym, ◌∙◌, subst, inl, inr, arith}
+use Rattle.std.proofs.Common.{◌≡◌, ℕ, suc, ◌+◌, ◌%◌, ◌^◌, ◌<◌, true, false, ◌==◌, not, List, [], ◌∷◌, ◌++◌, length, slice_get, Option, Some, refl, ap, sym, ◌∙◌, subst, inl, inr, arith}
 use Rattle.std.specs.List.{list_any}
 use Rattle.std.proofs.lemmas.Bool.{eqb-true, ltb-true, not-true}
 use Rattle.td_words.specs.declared.names.PageKind.TheVariants as kind
 use Rattle.td_words.specs.declared.names.Mode.TheVariants.{Exclusive}
 use Rattle.td_words.specs.declared.machines.Machine.{Machine}
 use Rattle.td_words.specs.declared.places.TheConstants.{TDCS_VPS_EXPORTED, VP_INDEX, VP_POSITION, VP_EXPORTED}
-use Rattle.td_words.specs.declared.refusals.Status.{Status}
-use Rattle.td_words.specs.declared.refusals.Status.TheVariants.{OperandInvalid, AlreadyExported}
+use Rattle.td_words.specs.declared.refusals.Status.TheVariants.{AlreadyExported}
 use Rattle.td_words.specs.declared.replies.Reply.{Reply}
 use Rattle.td_words.specs.Place as place
 use Rattle.flat_core.specs.World.{World, Made, put}

@@ -1,6 +1,6 @@
 -- A page of the host's becomes the next of those that its TD lists: the end that such calls share means what their rows
 -- share.
-use Rattle.std.proofs.Common.{◌≡◌, ℕ, ◌+◌, ◌<◌, true, false, ◌==◌, List, [], ◌∷◌, ◌++◌, Option, Some, None, refl, sym, ◌∙◌, subst, inl, arith}
+use Rattle.std.proofs.Common.{◌≡◌, ℕ, ◌+◌, ◌<◌, true, false, ◌==◌, List, [], ◌∷◌, ◌++◌, Option, Some, None, refl, sym, subst, inl, arith}
 use Rattle.std.specs.Prelude.{if◌then◌else◌, MatchOption}
 use Rattle.std.proofs.lemmas.Bool.{eq-eqb, eqb-true}
 use Rattle.td_words.specs.declared.names.PageKind.TheVariants as kind
@@ -25,7 +25,7 @@ use Rattle.word_rules.specs.Rules.{ChildCount, Whole, KeepsNothing, reads, owes}
 use Rattle.word_rules.specs.Permissions.{MayAt, Writes, Owes, Respects}
 use Rattle.lock_words.specs.LockWords.{put_word}
 use Rattle.leaf_engine.specs.Changes.{Change, Memory, changed_all}
-use Rattle.leaf_engine.specs.Trees.{Load, done, only}
+use Rattle.leaf_engine.specs.Trees.{done, only}
 use Rattle.leaf_engine.specs.Means.{Instant, Means, Work, MayChange, MayOweAll, LocksStay, AnswersAs, work_of, OfCall, hold}
 use Rattle.leaf_parts.specs.declared.listed_pages.PageList.{PageList}
 use Rattle.leaf_parts.specs.Words.{raised}

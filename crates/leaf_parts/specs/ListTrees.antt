@@ -1,5 +1,5 @@
 -- A page of the host's that becomes the next of those that its TD lists, as a decision over the words that it is told.
-use Rattle.std.specs.Prelude.{◌≡◌, ℕ, ◌+◌, ◌<◌, Option, Some, None, MatchOption, List, [], ◌∷◌}
+use Rattle.std.specs.Prelude.{ℕ, ◌+◌, ◌<◌, Option, Some, None, MatchOption, List, [], ◌∷◌}
 use Rattle.td_words.specs.declared.machines.Machine.{Machine}
 use Rattle.td_words.specs.declared.places.TheConstants.{TDR_CHILDREN}
 use Rattle.td_words.specs.Packing.{pamt_word}

@@ -71,7 +71,10 @@ impl PageList {
             1 => Write::Zero(page),
             2 => Write::store(pamt_address(page), owner_word(self.kind, tdr)),
             3 => Write::store(word_address(self.page, self.counted), act.count + 1),
-            4 => Write::store(word_address(tdr, TDR_CHILDREN), raised(machine.pages, act.children)),
+            4 => Write::store(
+                word_address(tdr, TDR_CHILDREN),
+                raised(machine.pages, act.children),
+            ),
             5 => Write::store(word_address(page, self.index?), act.count),
             _ => return None,
         };

@@ -1,5 +1,5 @@
 -- The leaf that adds a TDCX page means its row.
-use Rattle.std.proofs.Common.{◌≡◌, ℕ, zero, suc, ◌+◌, ◌<◌, Bool, true, false, ◌==◌, nat_lt, not, ◌*◌, List, [], ◌∷◌, ◌++◌, length, slice_index, Some, refl, ap, sym, ◌∙◌, subst, inl, arith}
+use Rattle.std.proofs.Common.{◌≡◌, ℕ, zero, suc, ◌+◌, ◌<◌, Bool, true, false, ◌==◌, nat_lt, ◌*◌, List, [], ◌∷◌, ◌++◌, length, slice_index, Some, refl, ap, sym, ◌∙◌, subst, inl, arith}
 use Rattle.std.specs.List.{list_any}
 use Rattle.std.specs.Prelude.{slice_get}
 use Rattle.std.proofs.lemmas.Bool.{eq-eqb, eqb-true, ltb-true, lt-ltb, not-true}

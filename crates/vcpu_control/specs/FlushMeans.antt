@@ -1,5 +1,5 @@
 -- The leaf of VP.FLUSH means its row.
-use Rattle.std.proofs.Common.{◌≡◌, ℕ, ◌<◌, Bool, true, false, not, ◌==◌, nat_lt, List, [], ◌∷◌, ◌++◌, Option, refl, sym, subst, inl, inr, arith}
+use Rattle.std.proofs.Common.{◌≡◌, ℕ, ◌<◌, true, false, ◌==◌, List, [], ◌∷◌, ◌++◌, Option, refl, sym, subst, inl, inr, arith}
 use Rattle.std.proofs.lemmas.Bool.{eq-eqb, eqb-true, ltb-true, not-true}
 use Rattle.td_words.specs.declared.names.PageKind.TheVariants as kind
 use Rattle.td_words.specs.declared.names.LifeState.TheVariants as life

@@ -1,4 +1,4 @@
-use Rattle.std.proofs.Common.{◌≡◌, ℕ, nat_lt, refl, subst}
+use Rattle.std.proofs.Common.{ℕ, nat_lt, refl, subst}
 use Rattle.td_words.specs.declared.names.LimitName.TheVariants.{Streams}
 use Rattle.td_words.specs.declared.refusals.Status.TheVariants.{Limit}
 use Rattle.leaf_engine.specs.Decides.{Decides, ending}

@@ -1,4 +1,4 @@
-use Rattle.std.proofs.Common.{ℕ, []}
+use Rattle.std.proofs.Common.{[]}
 use Rattle.leaf_engine.specs.Trees.{done}
 use Rattle.leaf_parts.specs.ListTrees.{list_changes}
 use Rattle.leaf_parts.proofs.Parts.{exit}
