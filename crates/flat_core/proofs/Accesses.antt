@@ -62,11 +62,11 @@ module _ (me : ℕ) (c : Call) (m : Machine) (w w' : World) (la : Lawful m w) (l
       (λ e l. let z : (u == u) ≡ true = eq-eqb u u refl in let no : life.HkidAssigned ≡ life.KeysConfigured = rw z at l in cc) (λ e. cc)
       (λ t x. rw x refl) (λ t x. rw x refl) (λ t x. rw x refl) (λ t l i x f. rw x refl) (λ v x. refl) (λ v x. refl) (λ v x. refl)
 
-  life-access : ChangesLife w w' → LawfulTranslations w' p cs g
+  life-access : ChangesLife c w w' → LawfulTranslations w' p cs g
   life-access x =
       let e = x.rest in
       op-act m w la le p cs g occ a w' (ap (λ (z : Aspect). z.pages) e) (ap (λ (z : Aspect). z.vps) e)
-      (λ t v h. let off = idle_off m w w' la x p t v h in ap (λ (z : Aspect). z.lives t) e ∙ rw off refl)
+      (λ t v h. let off = idle_off m c w w' la x p t v h in ap (λ (z : Aspect). z.lives t) e ∙ rw off refl)
       (λ t v h. (le.bound t v p (ap (λ (z : Aspect). z.pages.kinds t) (sym e) ∙ h.tdr)
       (record { kind = ap (λ (z : Aspect). z.pages.kinds v) (sym e) ∙ h.page.kind; owner = ap (λ (z : Aspect). z.pages.owners v) (sym e) ∙ h.page.owner }) (ap (λ (z : Aspect). z.vps.associated v) (sym e) ∙ h.associated)).0)
       (λ t n bu s k. ap (λ (z : Aspect). may_be_exempt (z.ops t)) e ∙ k) (λ t bu. ap (λ (z : Aspect). z.epochs t) e) (λ t l n bu f. ap (λ (z : Aspect). z.entries t l n) e)

@@ -124,14 +124,14 @@ module _ (me : ℕ) (c : Call) (o : Opening) (w w' : World) (la : Lawful o.machi
       old tdr was refl refl refl (inl (rw a refl)) (λ p n l b. (rw a l, rw a b)))
       (λ t k e. by_test (t == u) (λ y. rw y refl) (λ y. rw y (le.early t (sym (kind-at o w la le u kind.Tdr u 0 0 v refl t y) ∙ k) (rw y at e)))))
 
-  life-epochs : ChangesLife w w' → LawfulEpochs w'
+  life-epochs : ChangesLife c w w' → LawfulEpochs w'
   life-epochs x =
       let e = x.rest in
       le-frame w w' le
       (λ t v k pa. let k' = ap (λ (z : Aspect). z.pages.kinds t) (sym e) ∙ k in
       let page : IsPageOf w.pages t v kind.Tdvpr = record { kind = ap (λ (z : Aspect). z.pages.kinds v) (sym e) ∙ pa.kind; owner = ap (λ (z : Aspect). z.pages.owners v) (sym e) ∙ pa.owner } in
       old k' page (ap (λ (z : Aspect). z.vps.lasts v) e) (ap (λ (z : Aspect). z.vps.entered v) e) (ap (λ (z : Aspect). z.vps.associated v) e) (inl (ap (λ (z : Aspect). z.epochs t) e))
-      (λ p n l b. let off = idle_off o.machine w w' la x p t v (record { tdr = k'; life = l; page = record { kind = page.kind; owner = page.owner }; associated = n }) in
+      (λ p n l b. let off = idle_off o.machine c w w' la x p t v (record { tdr = k'; life = l; page = record { kind = page.kind; owner = page.owner }; associated = n }) in
       (ap (λ (z : Aspect). z.lives t) e ∙ rw off l, ap (λ (z : Aspect). has_not_run (z.ops t)) e ∙ b)))
       (λ t k u. ap (λ (z : Aspect). z.epochs t) e ∙ le.early t (ap (λ (z : Aspect). z.pages.kinds t) (sym e) ∙ k) (ap (λ (z : Aspect). z.ops t) (sym e) ∙ u))
 

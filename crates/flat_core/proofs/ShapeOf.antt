@@ -193,12 +193,12 @@ shape_of o me (call.PhymemPageRdmd page) w ps = nothing me _ w _ refl
 shape_of o me call.PhymemCacheWb w ps = nothing me _ w _ refl
 shape_of o me (call.PhymemPageReclaim t page) w ps =
     let dead = ended_of (w.tds.lives t) (search) in
-    shape.reclaims (record { tdr = t; page = page; root = tdr_kind _ (search); dead = dead; own = λ n. reclaimed w t page (page == t) n (search); is = refl; given = λ p. refl })
+    shape.reclaims (record { call = refl; tdr = t; page = page; root = tdr_kind _ (search); dead = dead; own = λ n. reclaimed w t page (page == t) n (search); is = refl; given = λ p. refl })
 shape_of o me (call.MngCreate t h) w ps = shape.begins (record { tdr = t; hkid = h; call = refl; host = search; is = refl })
 shape_of o me (call.MngKeyConfig t) w ps =
     let first = life.HkidAssigned ∷ [] in
     let live = live_of first (w.tds.lives t) refl (search) in
-    shape.changes_life (record { tdr = t; then_in = life.KeysConfigured; live = live; idle = λ e. absurd (not_configured first (w.tds.lives t) refl (search) e); rest = refl })
+    shape.changes_life (record { call = refl; tdr = t; then_in = life.KeysConfigured; live = live; idle = λ e. absurd (not_configured first (w.tds.lives t) refl (search) e); rest = refl })
 shape_of o me (call.MngAddcx t page) w ps =
     takes me _ w _ page kind.Tdcx t 0 0 (search) (λ e. cc) (λ e. cc) refl (λ p e. rw e refl) (λ u l n f. refl) (λ u n. inr (refl, inl refl)) (λ u h. refl)
 shape_of o me (call.MngInit t) w ps =
@@ -206,11 +206,11 @@ shape_of o me (call.MngInit t) w ps =
 shape_of o me (call.MngRd t field) w ps = nothing me _ w _ refl
 shape_of o me (call.MngVpflushdone t) w ps =
     let live = live_of (life.HkidAssigned ∷ life.KeysConfigured ∷ []) (w.tds.lives t) refl (search) in
-    shape.changes_life (record { tdr = t; then_in = life.Blocked; live = live; idle = λ e. search; rest = refl })
+    shape.changes_life (record { call = refl; tdr = t; then_in = life.Blocked; live = live; idle = λ e. search; rest = refl })
 shape_of o me (call.MngKeyFreeid t) w ps =
     let blocked = life.Blocked ∷ [] in
     let live = live_of blocked (w.tds.lives t) refl (search) in
-    shape.changes_life (record { tdr = t; then_in = life.Teardown; live = live; idle = λ e. absurd (not_configured blocked (w.tds.lives t) refl (search) e); rest = refl })
+    shape.changes_life (record { call = refl; tdr = t; then_in = life.Teardown; live = live; idle = λ e. absurd (not_configured blocked (w.tds.lives t) refl (search) e); rest = refl })
 shape_of o me (call.MrExtend t gpa) w ps = shape.notes (record { rest = refl; words = λ p h. refl; mrtds = measured_alone w t _ (search) })
 shape_of o me (call.MrFinalize t) w ps =
     op_goes me _ w _ t op.Runnable (unrun (is_begun (w.tds.ops t) (search))) (λ e. cc) (inr (λ r. refl)) refl (stay refl) (λ u n. rw n refl)

@@ -124,8 +124,17 @@ pub record Takes (w w' : World) : Type 0 where
   pub vps : (v : ℕ) → (v == page) ≡ false → SameVp w w' v
   pub begun : becomes ≡ kind.Tdvpr → (w'.vps.lasts page ≡ 0) × (w'.vps.entered page ≡ None) × (w'.vps.associated page ≡ None)
 
+-- the calls that change what is said of a TD's TDR page: its life goes on, or a page of it is reclaimed, the TDR page last
+abbrev pub changes_root : Call → Bool
+changes_root (call.PhymemPageReclaim t page) = true
+changes_root (call.MngKeyConfig t) = true
+changes_root (call.MngVpflushdone t) = true
+changes_root (call.MngKeyFreeid t) = true
+changes_root _ = false
+
 -- a page of a TD in TD_TEARDOWN is given back
 pub record Reclaims (c : Call) (w w' : World) : Type 0 where
+  pub call : changes_root c ≡ true
   pub tdr : ℕ
   pub page : ℕ
   pub root : w.pages.kinds tdr ≡ kind.Tdr
@@ -158,7 +167,8 @@ pub record Begins (c : Call) (w w' : World) : Type 0 where
   pub is : w' ≡ set_key hkid (AssignedTo tdr) (new_td tdr hkid (clear_page tdr (take_page tdr kind.Tdr tdr w)))
 
 -- a TD's life goes on: none of its virtual processors is associated, and it wasn't in TD_TEARDOWN
-pub record ChangesLife (w w' : World) : Type 0 where
+pub record ChangesLife (c : Call) (w w' : World) : Type 0 where
+  pub call : changes_root c ≡ true
   pub tdr : ℕ
   pub then_in : LifeState
   pub live : (life_number (w.tds.lives tdr) == life_number life.Teardown) ≡ false
@@ -260,7 +270,7 @@ pub data Shape (me : ℕ) (c : Call) (w w' : World) : Type 0 where
   reclaims : Reclaims c w w' → Shape me c w w'
   unmaps : Unmaps c w w' → Shape me c w w'
   begins : Begins c w w' → Shape me c w w'
-  changes_life : ChangesLife w w' → Shape me c w w'
+  changes_life : ChangesLife c w w' → Shape me c w w'
   changes_op : ChangesOp c w w' → Shape me c w w'
   changes_vp : ChangesVp w w' → Shape me c w w'
   enters : Enters me c w w' → Shape me c w w'

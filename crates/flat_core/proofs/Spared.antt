@@ -58,7 +58,7 @@ module _ (me : ℕ) (c : Call) (m : Machine) (w w' : World) (l : Lawful m w) (p 
       let a = page_off m w l p t v x y.tdr host in let b = tdr_off m w l p t v x y.tdr host in
       by_world _ y.is (beside m w l p t v x _ (rw b refl) (rw b refl) (rw b refl) (rw a refl) (rw a refl) (same_vp w _ v refl refl))
   shape_spares (changes_life y) =
-      let off = idle_off m w w' l y p t v (occupied-here w p t v x) in
+      let off = idle_off m c w w' l y p t v (occupied-here w p t v x) in
       by_aspect _ y.rest refl (rw off refl) refl refl refl (vp_stays _ y.rest refl refl)
   shape_spares (changes_op y) = op_spares y
   shape_spares (changes_vp y) =

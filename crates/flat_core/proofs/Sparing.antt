@@ -8,6 +8,7 @@ use Rattle.td_words.specs.declared.names.LifeState.TheVariants as life
 use Rattle.td_words.specs.declared.names.VcpuState.{VcpuState}
 use Rattle.td_words.specs.declared.names.VcpuState.TheVariants as vcpu
 use Rattle.td_words.specs.declared.machines.Machine.{Machine}
+use Rattle.td_words.specs.declared.calls.Call.{Call}
 use Rattle.td_words.specs.NameNumber.{life_number, op_number}
 use Rattle.td_words.specs.declared.names.OpState.{OpState}
 use Rattle.td_words.specs.declared.names.OpState.TheVariants as op
@@ -54,8 +55,8 @@ associated_off m w l u p t v h none = by_test (t == u)
     (λ n. n)
 
 -- nor of one whose life goes on
-pub idle_off : (m : Machine) (w w' : World) → Lawful m w → (x : ChangesLife w w') → (p t v : ℕ) → IsHere w p t v → (t == x.tdr) ≡ false
-idle_off m w w' l x p t v h = by_test (t == x.tdr) (λ y. associated_off m w l x.tdr p t v h (x.idle (ap w.tds.lives (sym (eqb-true t x.tdr y)) ∙ h.life))) (λ n. n)
+pub idle_off : (m : Machine) (c : Call) (w w' : World) → Lawful m w → (x : ChangesLife c w w') → (p t v : ℕ) → IsHere w p t v → (t == x.tdr) ≡ false
+idle_off m c w w' l x p t v h = by_test (t == x.tdr) (λ y. associated_off m w l x.tdr p t v h (x.idle (ap w.tds.lives (sym (eqb-true t x.tdr y)) ∙ h.life))) (λ n. n)
 
 module _ (m : Machine) (w : World) (l : Lawful m w) (p t v : ℕ) (x : IsOccupied w p t v) where
   abbrev IsSpared : World → Type 0
