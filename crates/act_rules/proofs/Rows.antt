@@ -29,18 +29,18 @@ use Rattle.flat_core.specs.Effects.{set_word, take_node, take_page, set_entry, r
 use Rattle.flat_core.specs.TdRows.{create, add_tdcx}
 use Rattle.flat_core.specs.KeyRows.{reclaim_conditions}
 use Rattle.flat_core.specs.VpRows.{create_vp}
-use Rattle.flat_core.specs.Tree.{is_passed, page_of_gpa, number_at, entry_at, state_in, empty_below, levels_above}
+use Rattle.flat_core.specs.Tree.{is_passed, page_of_gpa, number_at, entry_at, empty_below, levels_above}
 use Rattle.flat_core.specs.Tracking.{tracked_page}
 use Rattle.flat_core.specs.MemRows.{removed_states}
 use Rattle.flat_core.specs.ExportRows.{add_stream, write_blocked, count_dirt, count_restored, note_pause}
 use Rattle.flat_core.specs.Digests.{six_words}
 use Rattle.flat_core.specs.Sessions.{bundles_so_far, payload_words, About, about, make_bundle, begin_session, set_mig_epoch, count_bundle, count_export, note_td_export, note_vp_export}
 use Rattle.flat_core.specs.Inputs.{Input, input_in, tag_holds}
-use Rattle.flat_core.specs.ImportRows.{begin_import, import_immutable, importable, page_to_fill, fill_page, import_page, is_start, op_then, import_token, give_rtmrs, import_td, give_vp_state, import_vp, note_commit, commit_import, abort_import}
+use Rattle.flat_core.specs.ImportRows.{begin_import, import_immutable, page_to_fill, fill_page, import_page, is_start, op_then, import_token, give_rtmrs, import_td, give_vp_state, import_vp, note_commit, commit_import, abort_import}
 use Rattle.flat_core.specs.BundleRows.{start_epoch, track_export, token_kind, token_epoch, export_immutable, export_page, export_token, export_td, export_vp}
-use Rattle.flat_core.proofs.Maps.{kind_named, node_named, behind_walk}
-use Rattle.flat_core.proofs.Ranges.{named_passed, named_alive, page_removed, sept_removed, export_passed, can_export}
-use Rattle.flat_core.proofs.Passed.{sept_passed, remove_passed, sept_remove_passed}
+use Rattle.flat_core.proofs.Maps.{kind_named, node_named}
+use Rattle.flat_core.proofs.Ranges.{named_alive, page_removed, sept_removed, export_passed, can_export}
+use Rattle.flat_core.proofs.Passed.{vp_of, sept_passed, remove_passed, sept_remove_passed}
 use Rattle.flat_core.proofs.Keeps.{live_of}
 use Rattle.flat_core.proofs.Tests.{by_test, host_kind, tdr_kind}
 use Rattle.word_rules.specs.Guards.{Grip, Locked}
@@ -526,7 +526,7 @@ rows-respect o me (call.VpCreate tdr page) g w la ps h =
     vp-added o.machine g w tdr page la (host_kind (w.pages.kinds page) (search)) (search)
 rows-respect o me (call.VpInit tdr vp value) g w la ps h = vp-initialized g w vp value
 rows-respect o me (call.VpEnter tdr vp most) g w la ps h =
-    (effects-respect g w).enter o.machine me tdr vp la (eqb-true _ tdr (and_parts (same_kind (w.pages.kinds vp) kind.Tdvpr) (w.pages.owners vp == tdr) (search)).1) h.0
+    (effects-respect g w).enter o.machine me tdr vp la (vp_of w tdr vp (search)).owner h.0
 rows-respect o me (call.MrExtend tdr gpa) g w la ps h = measured g w tdr _
 rows-respect o me (call.MemSeptAdd tdr gpa level page) g w la ps h =
     let held = held-behind g (is_passed w tdr gpa) (λ l. Refused (EptWalkFailed l)) (levels_above level) _ h.1.1.1 in

@@ -19,7 +19,7 @@ use Rattle.flat_core.specs.Row.{Item, Passes}
 use Rattle.flat_core.specs.Locks.{one_if}
 use Rattle.flat_core.specs.Conditions.{same_kind, blocking_ops, running_ops}
 use Rattle.flat_core.specs.Tree.{same_state, entry_at, state_in, named_page}
-use Rattle.flat_core.specs.ExportRows.{live_ops, abortable_ops, writable_states, write_blocked, block_write, opened_row, write_blocked_states, write_unblocked, is_first_dirt, restored_states}
+use Rattle.flat_core.specs.ExportRows.{live_ops, abortable_ops, writable_states, write_blocked, block_write, write_blocked_states, write_unblocked, is_first_dirt, restored_states}
 use Rattle.flat_core.specs.BundleRows.{paused_ops, exportable, export_page}
 use Rattle.flat_core.specs.Exports.{is_dirty}
 use Rattle.flat_core.specs.MemRows.{named_row, open_states, blocked_states, removed_states, blocked_state, unblocked_state}
@@ -86,9 +86,6 @@ pub record EntryPassed (w : World) (t gpa : ℕ) (ops : List OpState) (allowed :
   pub built : (length (w.tds.controls t) == 2) ≡ true
   pub op : list_any (λ b. op_number b == op_number (w.tds.ops t)) ops ≡ true
   pub state : list_any (λ s. same_state s (entry_at w t 0 gpa).state) allowed ≡ true
-
-pub opened_passed : (w : World) (t gpa : ℕ) (ops : List OpState) (allowed : List EntryState) → Passes (opened_row w t gpa ops allowed) → EntryPassed w t gpa ops allowed
-opened_passed w t gpa ops allowed ps = search
 
 pub write_passed : (m : Machine) (w : World) (t gpa : ℕ) → Passes ((block_write m t gpa).items w) → EntryPassed w t gpa live_ops writable_states
 write_passed m w t gpa ps = search

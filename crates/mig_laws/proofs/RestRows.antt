@@ -2,7 +2,7 @@
 use Rattle.std.proofs.Common.{◌≡◌, ◌≢◌, refl, sym, ◌∙◌, ap, subst, ℕ, zero, suc, ◌+◌, ◌<◌, ◌≤◌, List, [], ◌∷◌, ◌++◌, length, length-append, map, get_or, Some, Bool, true, false, ◌==◌, arith}
 use Rattle.std.specs.Prelude.{slice_get}
 use Rattle.std.specs.List.{list_any}
-use Rattle.std.proofs.lemmas.Bool.{eqb-true, eq-eqb, and_parts, ltb-true}
+use Rattle.std.proofs.lemmas.Bool.{eqb-true, eq-eqb, ltb-true}
 use Rattle.td_words.specs.declared.names.Access.{Access}
 use Rattle.td_words.specs.declared.names.Access.TheVariants.{Read, Write}
 use Rattle.td_words.specs.declared.names.PageKind.TheVariants as kind
@@ -15,7 +15,7 @@ use Rattle.td_words.specs.NameNumber.{op_number}
 use Rattle.flat_core.specs.World.{World, Pages, Tds, Streams, Hidden, put}
 use Rattle.flat_core.specs.Opening.{Opening}
 use Rattle.flat_core.specs.Row.{OperationRow, Passes}
-use Rattle.flat_core.specs.Conditions.{same_kind, vp_limit, blocking_ops, running_ops}
+use Rattle.flat_core.specs.Conditions.{vp_limit, blocking_ops, running_ops}
 use Rattle.flat_core.specs.Effects.{set_op, pass_operation, tell_words, leave_guest}
 use Rattle.flat_core.specs.Guest.{ByRow, operation_of, is_pending_at, reach}
 use Rattle.flat_core.specs.ExportRows.{abortable_ops, stream_ops}
@@ -29,7 +29,7 @@ use Rattle.flat_core.proofs.ShapeOf.{row_alive}
 use Rattle.flat_core.proofs.Operations.{operation_row, accepted}
 use Rattle.flat_core.proofs.Ranges.{begun_of, abortable_exporting, paused_exporting}
 use Rattle.flat_core.proofs.Streams.{page_among, stream_among}
-use Rattle.flat_core.proofs.Passed.{TdPassed, td_alive, remove_passed}
+use Rattle.flat_core.proofs.Passed.{vp_of, TdPassed, td_alive, remove_passed}
 use Rattle.flat_core.specs.BundleRows.{session_ops, paused_ops}
 use Rattle.mig_laws.specs.Ivs.{is_filling, IsImporting}
 use Rattle.mig_laws.specs.Imports.{counts_of}
@@ -237,7 +237,7 @@ module _ (o : Opening) (me : ℕ) (w : World) (l : Lawful o.machine w) where
   row-rests (call.VpCreate t page) ps none =
       created_rests t page (host_kind _ (search)) (search) (ltb-true _ _ (search))
   row-rests (call.VpInit t p value) ps none =
-      initialized_rests t p value (eqb-true (w.pages.owners p) t (and_parts (same_kind (w.pages.kinds p) kind.Tdvpr) (w.pages.owners p == t) (search)).1) (search)
+      initialized_rests t p value (vp_of w t p (search)).owner (search)
   row-rests (call.MemPageAdd t gpa page source) ps none =
       let v : World = After (call.MemPageAdd t gpa page source) in
       let td : TdPassed w t (op.Initialized ∷ []) = search in

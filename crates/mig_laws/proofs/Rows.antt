@@ -1,7 +1,7 @@
 -- Each act that makes no bundle leaves the TDs that are exported as this crate asks.
 use Rattle.std.proofs.Common.{◌≡◌, refl, sym, ◌∙◌, ap, subst, ℕ, ◌+◌, ◌<◌, ◌≤◌, List, [], ◌∷◌, length, Some, None, Bool, true, false, ◌==◌, arith}
 use Rattle.std.specs.List.{list_any}
-use Rattle.std.proofs.lemmas.Bool.{eqb-true, eq-eqb, ne_eqb, and_parts, lt-ltb}
+use Rattle.std.proofs.lemmas.Bool.{eqb-true, eq-eqb, ne_eqb, lt-ltb}
 use Rattle.td_words.specs.declared.names.PageKind.{PageKind}
 use Rattle.td_words.specs.declared.names.PageKind.TheVariants as kind
 use Rattle.td_words.specs.declared.names.LifeState.{LifeState}
@@ -17,7 +17,7 @@ use Rattle.td_words.specs.Slots.{output_slot}
 use Rattle.flat_core.specs.World.{World, Tds, put}
 use Rattle.flat_core.specs.Opening.{Opening}
 use Rattle.flat_core.specs.Row.{Passes}
-use Rattle.flat_core.specs.Conditions.{same_kind, blocking_ops}
+use Rattle.flat_core.specs.Conditions.{blocking_ops}
 use Rattle.flat_core.specs.Tree.{page_of_gpa, number_at, entry_at}
 use Rattle.flat_core.specs.Tracking.{entry_epochs}
 use Rattle.flat_core.specs.Effects.{put_in, set_page, take_node, map_page, set_op, begin_memory}
@@ -36,7 +36,7 @@ use Rattle.flat_core.proofs.Maps.{node_named}
 use Rattle.flat_core.proofs.Exports.{free_unmarked}
 use Rattle.flat_core.proofs.Ranges.{live_exporting, named_alive, write_passed, entry_alive, write_remarks, block_restates}
 use Rattle.flat_core.proofs.Streams.{stream_owned}
-use Rattle.flat_core.proofs.Passed.{block_passed, unblock_passed, remove_passed, sept_remove_passed}
+use Rattle.flat_core.proofs.Passed.{vp_of, block_passed, unblock_passed, remove_passed, sept_remove_passed}
 use Rattle.flat_bundles.proofs.Fills.{fill_either}
 use Rattle.mig_laws.specs.Ivs.{IsExporting}
 use Rattle.mig_laws.proofs.Stays.{counted_more, tracked_still, entered_now, left_now, entered_elsewhere, Stays, IsBeside, own, same_page, session_stays, same_entered, same_counters, all_stays, shape, beside, goes_same, apart}
@@ -236,7 +236,7 @@ module _ (o : Opening) (me : ℕ) (w : World) (l : Lawful o.machine w) where
   row-beside (call.VpCreate t page) ps none =
       created_beside t page (λ a. never_exporting (op.Initialized ∷ op.MemoryImport ∷ []) (w.tds.ops t) (refl, refl, refl) (search) a.standing)
   row-beside (call.VpEnter t p most) ps none =
-      entered_beside t p most (eqb-true (w.pages.owners p) t (and_parts (same_kind (w.pages.kinds p) kind.Tdvpr) (w.pages.owners p == t) (search)).1)
+      entered_beside t p most (vp_of w t p (search)).owner
   row-beside (call.MemSeptAdd t gpa level page) ps none =
       let upper : 1 ≤ level = (range_of level 3 (search)).0 in
       plain (After (call.MemSeptAdd t gpa level page)) refl refl (λ x n. upper_stays w.tds.entries t level (number_at level gpa) x n _ upper) (λ q. lower w.pages.blocked page q)

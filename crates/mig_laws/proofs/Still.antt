@@ -2,7 +2,7 @@
 -- positions too.
 use Rattle.std.proofs.Common.{◌≡◌, refl, sym, ◌∙◌, ap, subst, ℕ, List, [], ◌∷◌, map, None, true, false, ◌==◌}
 use Rattle.std.specs.List.{list_any}
-use Rattle.std.proofs.lemmas.Bool.{eqb-true, eq-eqb, and_parts}
+use Rattle.std.proofs.lemmas.Bool.{eqb-true, eq-eqb}
 use Rattle.td_words.specs.declared.names.Access.{Access}
 use Rattle.td_words.specs.declared.names.Access.TheVariants.{Read, Write}
 use Rattle.td_words.specs.declared.names.LifeState.{LifeState}
@@ -16,7 +16,7 @@ use Rattle.td_words.specs.Slots.{output_slot}
 use Rattle.flat_core.specs.World.{World, VpImage, Pages}
 use Rattle.flat_core.specs.Opening.{Opening}
 use Rattle.flat_core.specs.Row.{OperationRow, Passes}
-use Rattle.flat_core.specs.Conditions.{same_kind, running_ops}
+use Rattle.flat_core.specs.Conditions.{running_ops}
 use Rattle.flat_core.specs.Tree.{page_of_gpa, entry_at}
 use Rattle.flat_core.specs.Effects.{begin_memory, pass_operation, tell_words}
 use Rattle.flat_core.specs.Sessions.{count_bundle}
@@ -30,6 +30,7 @@ use Rattle.flat_core.proofs.Tests.{by_test, host_kind, same_self}
 use Rattle.flat_core.proofs.Parts.{IsLive}
 use Rattle.flat_core.proofs.Operations.{operation_row, accepted}
 use Rattle.flat_core.proofs.Streams.{page_among}
+use Rattle.flat_core.proofs.Passed.{vp_of}
 use Rattle.flat_bundles.proofs.Fills.{fill_either}
 use Rattle.mig_laws.specs.Ivs.{IsExporting}
 use Rattle.mig_laws.specs.Paused.{is_paused}
@@ -127,7 +128,7 @@ module _ (o : Opening) (me : ℕ) (w : World) (l : Lawful o.machine w) where
   row-still (call.VpCreate t page) ps none =
       created_still t page (host_kind _ (search)) (λ a. never_exporting (op.Initialized ∷ op.MemoryImport ∷ []) (w.tds.ops t) (refl, refl, refl) (search) a.standing)
   row-still (call.VpInit t p value) ps none =
-      initialized_still t p value (eqb-true (w.pages.owners p) t (and_parts (same_kind (w.pages.kinds p) kind.Tdvpr) (w.pages.owners p == t) (search)).1)
+      initialized_still t p value (vp_of w t p (search)).owner
       (λ a. never_exporting (op.Initialized ∷ []) (w.tds.ops t) (refl, refl, refl) (search) a.standing)
   row-still (call.ImportStateImmutable t slot) ps none =
       let v : World = After (call.ImportStateImmutable t slot) in
@@ -142,7 +143,7 @@ module _ (o : Opening) (me : ℕ) (w : World) (l : Lawful o.machine w) where
       let other = not_t v t (λ a. let no : false ≡ true = rw (same_self t) at a.standing in cc) in
       record { build = λ x a. (refl, refl); rtmrs = λ x a p. (let y = other x a in rw y refl); vp = λ x a p q h. refl }
   row-still (call.ImportStateVp t p slot) ps none =
-      imported_still t p slot (eqb-true (w.pages.owners p) t (and_parts (same_kind (w.pages.kinds p) kind.Tdvpr) (w.pages.owners p == t) (search)).1)
+      imported_still t p slot (vp_of w t p (search)).owner
       (λ a. never_exporting vp_state_ops (w.tds.ops t) (refl, refl, refl) (search) a.standing)
   row-still (call.ImportAbort t slot) ps none = cc
   row-still (call.ExportStateImmutable t slot) ps none = cc

@@ -17,22 +17,18 @@ use Rattle.td_words.specs.Packing.{Entry}
 use Rattle.flat_core.specs.World.{World, put}
 use Rattle.flat_core.specs.Opening.{Opening}
 use Rattle.flat_core.specs.Row.{OperationRow, Passes}
-use Rattle.flat_core.specs.Conditions.{is_host_in, page_exclusive, host_page}
-use Rattle.flat_core.specs.Tree.{number_at, entry_at, same_state, state_in}
-use Rattle.flat_core.specs.Tracking.{tracked_page}
-use Rattle.flat_core.specs.Tree.{empty_below}
+use Rattle.flat_core.specs.Conditions.{is_host_in}
+use Rattle.flat_core.specs.Tree.{number_at, entry_at, same_state}
 use Rattle.flat_core.specs.Effects.{put_in, tell_words}
 use Rattle.flat_core.specs.Inputs.{Input, input_in}
 use Rattle.flat_core.specs.MemRows.{open_states, blocked_states, removed_states, blocked_state, unblocked_state}
-use Rattle.flat_core.specs.ExportRows.{live_ops, restoring_ops, writable_states, write_blocked, write_blocked_states, write_unblocked, restored_states}
+use Rattle.flat_core.specs.ExportRows.{writable_states, write_blocked, write_blocked_states, write_unblocked, restored_states}
 use Rattle.flat_core.specs.BundleRows.{exportable}
 use Rattle.flat_core.specs.ImportRows.{fill_page}
 use Rattle.flat_core.specs.Table.{row_of}
 use Rattle.flat_core.specs.Guest.{ByRow, operation_of, accept_page, is_pending_at, reach}
 use Rattle.flat_core.proofs.Acts.{event_world}
 use Rattle.flat_core.proofs.Operations.{operation_row}
-use Rattle.flat_core.proofs.Maps.{behind_walk}
-use Rattle.flat_core.proofs.Ranges.{named_passed, opened_passed, write_passed, export_passed}
 use Rattle.flat_core.proofs.Passed.{sept_passed, page_passed, augment_passed, block_passed, unblock_passed, remove_passed, sept_remove_passed}
 use Rattle.td_laws.specs.Steps.{is_among, may_move}
 use Rattle.td_laws.specs.Entries.{next_entries, EventsMoveEntries}
