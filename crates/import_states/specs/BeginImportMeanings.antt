@@ -32,12 +32,13 @@ use Rattle.word_rules.specs.Spots.{or_unused, tdcs_classes, is_current, is_empty
 use Rattle.word_rules.specs.Permissions.{Owes, Writes, Respects}
 use Rattle.word_rules.specs.Cells.{Shows}
 use Rattle.word_rules.proofs.Conflicts.{respects-compose}
+use Rattle.lock_words.specs.LockWords.{TdStands}
 use Rattle.act_rules.proofs.Respected.{leaves, all-same, effects-respect}
 use Rattle.leaf_engine.specs.declared.needs.Place.{Place}
 use Rattle.leaf_engine.specs.Changes.{Memory, Put, changed_all}
 use Rattle.leaf_engine.specs.Trees.{Tree, needs}
 use Rattle.leaf_engine.specs.Means.{Instant, Locks, Means, MeansRow, MayChange, Work, work_of, OfCall, hold}
-use Rattle.leaf_parts.proofs.Begun.{locks-kept, IsTd, TwoControls, page-in, op_lock, page_lock, keys_lock}
+use Rattle.leaf_parts.proofs.Begun.{IsTd, TwoControls, page-in, op_lock, page_lock, keys_lock}
 use Rattle.leaf_parts.proofs.Checks.{at-tdcs, td-row-means}
 use Rattle.stream_parts.specs.Streams.{page_tree}
 use Rattle.stream_parts.proofs.StreamWords.{listed, page-of}
@@ -98,6 +99,9 @@ module _ (m : Machine) (b : Option Incoming) (c : Instant) (t slot : ℕ) (la : 
 
   head : HoldsHead (hs ++ c.kept) t
   head = record { tdr = own.tdr; op = own.op }
+
+  stands-on : TdStands w t → TdStands w' t
+  stands-on a = record { alive = record { kind = a.alive.kind; life = a.alive.life }; has_tdcs = a.has_tdcs }
 
   -- what it changes of words
   abbrev moved : World
@@ -171,7 +175,7 @@ module _ (m : Machine) (b : Option Incoming) (c : Instant) (t slot : ℕ) (la : 
         answers = record { reply_is = refl; cached_is = refl; enters_is = refl; notes_are = refl; tells_are = refl; bundles_are = refl };
         fills_allowed = tt;
         respects = respects;
-        locks_stay = locks-kept w w' refl (λ u a. record { kind = a.kind; life = a.life }) hs;
+        locks_stay = ((refl, λ a. a), ((refl, stands-on), ((refl, λ a. a), tt)));
         shows = import-begun m c.state c.memory t y sh x stream stream_in none;
       },
       may-change,

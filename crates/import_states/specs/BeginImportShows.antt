@@ -23,8 +23,8 @@ use Rattle.leaf_engine.specs.Changes.{Hand, Memory, Put, changed, changed_all}
 use Rattle.leaf_parts.proofs.Aside.{apart, KeepsPage, page-kept, tdcs-but}
 use Rattle.leaf_parts.proofs.Begun.{IsTd}
 use Rattle.leaf_parts.proofs.Told.{tdcs-shown}
-use Rattle.import_parts.proofs.WordPuts.{puts-lock, puts-pamt, puts-key, puts-off, puts-before, puts-behind, puts-at}
 use Rattle.stream_parts.proofs.Counted.{input-counted}
+use Rattle.import_parts.proofs.WordPuts.{puts-lock, puts-pamt, puts-key, puts-off, puts-before, puts-behind, puts-at}
 use Rattle.import_states.specs.declared.sessions.Begun.{Begun}
 use Rattle.import_states.specs.BeginImportTrees.{begin_import_changes}
 

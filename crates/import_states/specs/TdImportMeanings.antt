@@ -31,15 +31,15 @@ use Rattle.leaf_engine.specs.declared.needs.Place.{Place}
 use Rattle.leaf_engine.specs.Changes.{Memory, Put, changed_all}
 use Rattle.leaf_engine.specs.Trees.{Tree}
 use Rattle.leaf_engine.specs.Means.{Instant, Means, MeansRow, MayChange, Work, work_of, OfCall, hold}
-use Rattle.leaf_parts.proofs.Begun.{locks-kept, IsTd, TwoControls, page-in}
+use Rattle.leaf_parts.proofs.Begun.{IsTd, TwoControls, page-in}
 use Rattle.leaf_parts.proofs.Checks.{spot_of, at-tdcs, td-row-means}
 use Rattle.stream_parts.specs.declared.rooms.Room.{Room}
 use Rattle.stream_parts.proofs.StreamWords.{page-of}
 use Rattle.stream_parts.proofs.StreamMeans.{HoldsAlone}
 use Rattle.stream_parts.proofs.Counted.{counter-owed}
 use Rattle.access_core.specs.RtmrShows.{rtmr-class}
-use Rattle.import_parts.specs.InputTrees.{input_checks, tag_tree, epoch_same_tree, is_due, counter_due_tree}
 use Rattle.stream_parts.proofs.AloneMeans.{td_locks, td-own}
+use Rattle.import_parts.specs.InputTrees.{input_checks, tag_tree, epoch_same_tree, is_due, counter_due_tree}
 use Rattle.import_parts.proofs.InputMeans.{session_same-means, epoch_same-means, counter_due-means}
 use Rattle.import_parts.proofs.WordPuts.{puts-owed}
 use Rattle.import_states.specs.TdImportTrees.{td_import_changes, td_due_tree, td_import_end, import_td_task}
@@ -148,7 +148,7 @@ module _ (m : Machine) (b : Option Incoming) (c : Instant) (t slot : ℕ) (la : 
         answers = record { reply_is = refl; cached_is = refl; enters_is = refl; notes_are = refl; tells_are = refl; bundles_are = refl };
         fills_allowed = tt;
         respects = respects;
-        locks_stay = locks-kept w w' refl (λ u a. record { kind = a.kind; life = a.life }) hs;
+        locks_stay = ((refl, λ a. record { alive = record { kind = a.alive.kind; life = a.alive.life }; has_tdcs = a.has_tdcs }), ((refl, λ a. a), tt));
         shows = td-imported m c.state c.memory t y sh x stream stream_in counter;
       },
       may-change,

@@ -17,14 +17,14 @@ use Rattle.flat_core.specs.ImportRows.{td_state_ops, give_rtmrs}
 use Rattle.flat_core.specs.Event.{State}
 use Rattle.flat_core.proofs.Tests.{by_test}
 use Rattle.word_rules.specs.Lines.{in_lines}
-use Rattle.word_rules.specs.Cells.{Shows, IsAs, lock_word, td_lock_lines, tdcs_lines, built_hasher}
+use Rattle.word_rules.specs.Cells.{Shows, IsAs, cell, lock_word, td_lock_lines, tdcs_lines, built_hasher}
 use Rattle.leaf_engine.specs.Changes.{Hand, Memory, Put, changed, changed_all}
-use Rattle.leaf_parts.proofs.Aside.{apart}
+use Rattle.leaf_parts.proofs.Aside.{apart, aside, back, kept-but, tdcs-but}
 use Rattle.leaf_parts.proofs.Begun.{IsTd}
-use Rattle.leaf_parts.proofs.Stored.{tdcs-changed}
+use Rattle.leaf_parts.proofs.Told.{tdcs-shown}
 use Rattle.access_core.specs.RtmrShows.{rtmr-line}
-use Rattle.import_parts.proofs.WordPuts.{puts-lock, puts-pamt, puts-key, puts-off, puts-before, puts-behind, puts-at}
 use Rattle.stream_parts.proofs.Counted.{input-counted}
+use Rattle.import_parts.proofs.WordPuts.{puts-lock, puts-pamt, puts-key, puts-off, puts-before, puts-behind, puts-at}
 use Rattle.import_states.specs.declared.sessions.Begun.{Begun}
 use Rattle.import_states.specs.TdImportTrees.{td_import_changes}
 
@@ -97,17 +97,23 @@ module _ (m : Machine) (s : State) (mem : Memory) (t : ℕ) (x : Input) (sh : Sh
   the-op : Line 4
   the-op = (let word : later.words (place.Word d 4) ≡ 7 = rw (other, itself) refl in rw its-td (puts-before d 16 x.words 1 23 later 4 (omega arith) ∙ word))
 
-  the-rest : (i : ℕ) → IsAs (in_lines (td_lock_lines locks t (tdcs_lines w t)) i) (between.words (place.Word d i)) → (nat_le 16 i && nat_lt i 40) ≡ false → (i == 4) ≡ false → Line i
-  the-rest i was o four =
+  the-rest : (i : ℕ) → i < 512 → (nat_le 16 i && nat_lt i 40) ≡ false → (i == 4) ≡ false → Line i
+  the-rest i b o four =
+      let was : IsAs (in_lines (td_lock_lines locks t (tdcs_lines w t)) i) (mem.words (place.Word d i)) = tdcs-shown m mem.words mem.slots s sh t i d (y.controls.root ∷ []) y.controls.list y.controls.tdcs_page y.alive.life y.controls.tdcs_in b in
       let line : in_lines (td_lock_lines locks t (tdcs_lines w' t)) i ≡ in_lines (td_lock_lines locks t (tdcs_lines w t)) i = rw (four, o) refl in
       let first : (i == 16) ≡ false = grind (arith, nat_tests) in
-      let word : later.words (place.Word d i) ≡ between.words (place.Word d i) = rw (itself, four, first) refl in
-      subst (λ (n : ℕ). IsAs (in_lines (td_lock_lines locks t (tdcs_lines w' t)) i) n) (sym (no-rtmr i o ∙ word)) (subst (λ (z : Option ℕ). IsAs z (between.words (place.Word d i))) (sym line) was)
+      let word : later.words (place.Word d i) ≡ mem.words (place.Word d i) = rw (other, itself, four, first) refl in
+      subst (λ (n : ℕ). IsAs (in_lines (td_lock_lines locks t (tdcs_lines w' t)) i) n) (sym (no-rtmr i o ∙ word)) (subst (λ (z : Option ℕ). IsAs z (mem.words (place.Word d i))) (sym line) was)
 
-  a-line : (i : ℕ) → IsAs (in_lines (td_lock_lines locks t (tdcs_lines w t)) i) (between.words (place.Word d i)) → Line i
-  a-line i was = by_test (nat_le 16 i && nat_lt i 40)
+  a-line : (i : ℕ) → i < 512 → Line i
+  a-line i b = by_test (nat_le 16 i && nat_lt i 40)
       (λ r. (let few : i - 16 < 24 = grind (arith, nat_tests) in let is : 16 + (i - 16) ≡ i = grind (arith, nat_tests) in subst Line is (of-rtmrs (i - 16) few)))
-      (λ o. by_test (i == 4) (λ e. subst Line (sym (eqb-true i 4 e)) the-op) (λ four. the-rest i was o four))
+      (λ o. by_test (i == 4) (λ e. subst Line (sym (eqb-true i 4 e)) the-op) (λ four. the-rest i b o four))
+
+  tdcs-word : (i : ℕ) → i < 512 → IsAs (cell now (place.Word d i)) (after.words (place.Word d i))
+  tdcs-word i b =
+      let line : cell now (place.Word d i) ≡ in_lines (td_lock_lines locks t (tdcs_lines w' t)) i = rw (y.controls.tdcs_page.kind, y.controls.tdcs_page.owner, y.alive.life, y.controls.list, itself) refl in
+      subst (λ (o : Option ℕ). IsAs o (after.words (place.Word d i))) (sym line) (a-line i b)
 
   -- nothing is measured
   built-same : (o : Option ℕ) (hand : Hand) → IsAs (built_hasher w o) hand → IsAs (built_hasher w' o) hand
@@ -116,8 +122,17 @@ module _ (m : Machine) (s : State) (mem : Memory) (t : ℕ) (x : Input) (sh : Sh
 
   pub td-imported : Shows m after.words after.slots now
   td-imported = record {
-    word = tdcs-changed m counted_state between.words t d y.controls.root counted.word y.alive.life y.controls.list y.controls.tdcs_page y.controls.tdcs_in w' (λ u n i. rw n refl) after.words
-        (λ r. puts-lock d 16 x.words 1 23 later r) (λ r. puts-pamt d 16 x.words 1 23 later r) (λ r. puts-key d 16 x.words 1 23 later r)
-        (λ r i o. (let same : later.words (place.Word r i) ≡ between.words (place.Word r i) = rw (o, counter) refl in puts-off d 16 x.words 1 23 later r i o ∙ same)) a-line;
+    word = back (kept-but w' (aside d m between.words counted_state counted.word) (record {
+      kinds = refl;
+      owners = refl;
+      blocked = refl;
+      key_table = refl;
+      page = λ q o n. record {
+        words = λ i. refl;
+        tdr = λ is i. refl;
+        owned = λ own. record { stands = λ z. z; level = refl; number = refl; entries = λ l e. refl; vp = λ i. refl; stream = λ i. refl; control = λ is z. tdcs-but refl (λ l e. refl) t d (y.controls.root ∷ []) y.controls.list o (λ u i. rw u refl) };
+      };
+    })) after.words (λ r. puts-lock d 16 x.words 1 23 later r) (λ r. puts-pamt d 16 x.words 1 23 later r) (λ r. puts-key d 16 x.words 1 23 later r)
+        (λ r i o. (let same : later.words (place.Word r i) ≡ between.words (place.Word r i) = rw (o, counter) refl in puts-off d 16 x.words 1 23 later r i o ∙ same)) tdcs-word;
     hasher = λ h. built-same (key_owner (w.key_table.keys h)) (mem.slots h) (sh.hasher h);
   }

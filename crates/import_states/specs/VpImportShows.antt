@@ -19,8 +19,8 @@ use Rattle.leaf_engine.specs.Changes.{Memory, Put, changed, changed_all}
 use Rattle.leaf_parts.proofs.Aside.{apart, aside, back, kept-but, control-kept}
 use Rattle.leaf_parts.proofs.Vps.{vp-shown}
 use Rattle.access_core.specs.VpShows.{register-line}
-use Rattle.import_parts.proofs.WordPuts.{puts-lock, puts-pamt, puts-key, puts-off, puts-before, puts-behind, puts-at}
 use Rattle.stream_parts.proofs.Counted.{input-counted}
+use Rattle.import_parts.proofs.WordPuts.{puts-lock, puts-pamt, puts-key, puts-off, puts-before, puts-behind, puts-at}
 use Rattle.import_states.specs.VpImportTrees.{vp_import_changes}
 
 module _ (m : Machine) (s : State) (mem : Memory) (t v : ℕ) (x : Input) (sh : Shows m mem.words mem.slots s) (alive : IsAlive s.world.pages s.world.tds t) (its : IsPageOf s.world.pages t v kind.Tdvpr) (in_page : v < m.pages)
