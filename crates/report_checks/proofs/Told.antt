@@ -13,7 +13,7 @@ use Rattle.command_files.specs.Commands.{ReportFilesSeen}
 use Rattle.command_files.specs.Inputs.{Reads, Loads}
 use Rattle.report_checks.specs.declared.checked.CheckFault.{CheckFault}
 use Rattle.report_checks.specs.declared.checked.CheckFault.TheVariants as fault
-use Rattle.report_checks.specs.Checked.{Says, SaysOf, UnderKey, OfKey, LoadsKey, OfReport, ChecksFiles, SaysHeld, HasWrongKey, due_of, due_status}
+use Rattle.report_checks.specs.Checked.{Says, SaysOf, UnderKey, OfKey, LoadsKey, OfReport, ChecksFiles, SaysHeld, HasWrongKey, length_status, due_of, due_status}
 
 -- what is said of too many bytes
 too_long : (key bytes : List ℕ) → 2 ^ 16 < length bytes → Says key bytes (Err report.Length)
@@ -153,20 +153,20 @@ due_no_key None key is = refl
 due_no_key (Some bytes) None is = refl
 due_no_key (Some bytes) (Some key) is = absurd (cc)
 
-due_there : (file key : Option (List ℕ)) (bytes k : List ℕ) → file ≡ Some bytes → key ≡ Some k → due_of file key ≡ (if length k == 48 then 0 else 7)
+due_there : (file key : Option (List ℕ)) (bytes k : List ℕ) → file ≡ Some bytes → key ≡ Some k → due_of file key ≡ length_status (length k)
 due_there file key bytes k is was = ap (λ (o : Option (List ℕ)). due_of o key) is ∙ ap (λ (o : Option (List ℕ)). due_of (Some bytes) o) was
 
-by_length : (n : ℕ) → n ≡ 48 → (if n == 48 then 0 else 7) ≡ 0
+by_length : (n : ℕ) → n ≡ 48 → length_status n ≡ 0
 by_length n is = by (eqb_tells n 48)
   where
-    by : (((n == 48) ≡ true) × (n ≡ 48)) ⊎ (((n == 48) ≡ false) × (n ≢ 48)) → (if n == 48 then 0 else 7) ≡ 0
+    by : (((n == 48) ≡ true) × (n ≡ 48)) ⊎ (((n == 48) ≡ false) × (n ≢ 48)) → length_status n ≡ 0
     by (inl t) = ap (λ b. if b then 0 else 7) t.0
     by (inr f) = absurd (f.1 is)
 
-by_other_length : (n : ℕ) → n ≢ 48 → (if n == 48 then 0 else 7) ≡ 7
+by_other_length : (n : ℕ) → n ≢ 48 → length_status n ≡ 7
 by_other_length n is_not = by (eqb_tells n 48)
   where
-    by : (((n == 48) ≡ true) × (n ≡ 48)) ⊎ (((n == 48) ≡ false) × (n ≢ 48)) → (if n == 48 then 0 else 7) ≡ 7
+    by : (((n == 48) ≡ true) × (n ≡ 48)) ⊎ (((n == 48) ≡ false) × (n ≢ 48)) → length_status n ≡ 7
     by (inl t) = absurd (is_not t.1)
     by (inr f) = ap (λ b. if b then 0 else 7) f.0
 

@@ -101,10 +101,13 @@ abbrev pub HasWrongKey : (List ℕ → Option (List ℕ)) → ReportFilesSeen �
 HasWrongKey held n = (key : List ℕ) × (held n.key ≡ Some key) × (length key ≢ 48)
 
 -- the status that is due: 3 where a file isn't there, 7 where the key file hasn't 48 bytes, and else 0
+abbrev pub length_status : ℕ → ℕ
+length_status bytes = if bytes == 48 then 0 else 7
+
 abbrev pub due_of : (file key : Option (List ℕ)) → ℕ
 due_of None key = 3
 due_of (Some file) None = 3
-due_of (Some file) (Some key) = if length key == 48 then 0 else 7
+due_of (Some file) (Some key) = length_status (length key)
 
 abbrev pub due_status : (List ℕ → Option (List ℕ)) → ReportFilesSeen → ℕ
 due_status held n = due_of (held n.report) (held n.key)
