@@ -156,7 +156,7 @@ module _ (contents : Option (List ℕ → Option (List ℕ))) (n : ReportFilesSe
 -- ---- where contents are told
 
 module _ (held : List ℕ → Option (List ℕ)) (n : ReportFilesSeen) (r r' : Reads) (o o' : Outputs) (status : ℕ) where
-  Complete : Type 0
+  abbrev Complete : Type 0
   Complete = (status ≡ due_status held n) ⊎ (status ≡ 5) ⊎ Rose r.faults r'.faults ⊎ ((due_status held n ≡ 0) × Rose o.faults o'.faults)
 
   due_three : status ≡ 3 → Rose r.faults r'.faults ⊎ (due_status held n ≡ 3) → Complete

@@ -6,7 +6,7 @@
 
 mod commanded;
 mod ending;
+mod reports;
 mod top;
-mod verified;
 
 pub use top::{give_up, tdx_main};

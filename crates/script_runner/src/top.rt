@@ -14,7 +14,7 @@ ghost use Rattle.script_runner.specs.Brings.{CarryingLaws};
 
 use crate::commanded::of_command;
 use crate::ending::{Ending, soak, unwritten, usage};
-use crate::verified::verify;
+use crate::reports::verify;
 use bundle_store::{Files, PutFault, SaveFault, Sink};
 use bundle_texts::bundles_read_again;
 use command_files::{Asked, read_command};
