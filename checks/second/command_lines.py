@@ -22,6 +22,9 @@ WAYS = {
     "a word --": FORMS,
     "a word that begins with a dash behind --": FORMS,
 }
+# Files of reports and of keys, and others in their place.
+REPORTS = ("report", "upper", "bare", "behind", "altered", "renamed", "letter", "empty", "far")
+REPORT_KEYS = ("rkey", "rkey", "rkey", "other", "rkey47", "rkey49", "far")
 NUMBERS = ("1", "2", "3", "4")
 BAD_NUMBERS = ("0", "00", "02", "513", "1000", "+1", "-1", "1.", "0x1", "1e0", " 1", "1 ", "", "-", "18446744073709551617")
 
@@ -63,6 +66,8 @@ def any_line(chance):
         command = chance.choice(("Replay", "help", "", "-", "--", "--help", "replay=", "script"))
     if command == "soak":
         return [command, *soak_words(chance, is_good)]
+    if command == "verify":
+        return [command, *verify_words(chance, is_good)]
     names = chance.sample(OPTIONS, chance.randrange(4)) if command != "check" else []
     if not is_good and chance.random() < 0.4:
         names.append(chance.choice((*OPTIONS, "--key", "--out", "--help", "-h", "-V", "--Keys")))
@@ -88,6 +93,20 @@ def soak_words(chance, is_good):
         words.insert(0, "--")
     elif not is_good and chance.random() < 0.3:
         words.insert(chance.randrange(2), chance.choice(("--keys", "--keys=keys", "2", "-", "-x", "--")))
+    return words
+
+
+def verify_words(chance, is_good):
+    """What may follow `verify`."""
+    words = [chance.choice(REPORTS), chance.choice(REPORT_KEYS)]
+    if is_good:
+        words = words if chance.random() < 0.9 else words[::-1]
+    elif chance.random() < 0.5:
+        words[chance.randrange(2)] = chance.choice(ODD)
+    else:
+        words.insert(chance.randrange(3), chance.choice(("--keys", "--keys=keys", "report", "-", "-x", "--")))
+    if is_good and chance.random() < 0.3:
+        words.insert(chance.randrange(3), "--")
     return words
 
 

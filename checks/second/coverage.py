@@ -247,6 +247,9 @@ BESIDE_GUESTS = {
 ENTERS = ("VP.ENTER",)
 
 
+VERDICTS = {f"verify: {verdict}" for verdict in ("yes", "no LENGTH", "no HEX", "no MAGIC", "no MAC")}
+
+
 def wanted():
     """All that is to be reached."""
     names = set()
@@ -259,7 +262,7 @@ def wanted():
     for outcomes in (OPERATIONS, BLOCKING, BESIDE_GUESTS, EXPORTING, IMPORTING):
         names.update(f"{name}: {came}" for name, all_came in outcomes.items() for came in all_came)
     names.update(f"reason {reason}" for reason in REASONS)
-    return names | command_lines.wanted() | {f"status {status}" for status in (*range(4), 6, "7 key file", "7 secrets file")}
+    return names | command_lines.wanted() | {f"status {status}" for status in (*range(4), 6, "7 key file", "7 secrets file", "7 report key file")} | VERDICTS
 
 
 def name_of(name, arguments):
@@ -291,6 +294,8 @@ def of_answer(words, status, text, processors):
     and what came of guests and beside them."""
     yield from command_lines.reached(words, status)
     yield f"status {status} {text.strip()}" if status == 7 else f"status {status}"
+    if status == 0 and words[:1] == ["verify"]:
+        yield f"verify: {'yes' if text.startswith('yes ') else text.strip()}"
     if status == 2:
         yield f"reason {text.split()[-1]}"
     if processors:

@@ -14,6 +14,8 @@ turn. Most scripts come with a container, a secrets file and a key file, a few o
 A call that makes a bundle has the word SLOT in the place of its slot until its script is whole (`with_slots`).
 """
 
+import hashlib
+import hmac
 import random
 import struct
 
@@ -1425,7 +1427,15 @@ COMMANDS = (
     "replay script --keys keys --secrets secrets --bundles bundles --out-bundles out --guest-out guest",
     "replay script --keys short --bundles cut", "replay script --keys long", "replay script --bundles cut",
     "run script --keys keys --secrets secrets --bundles bundles --out-bundles out --guest-out out",
+    "verify report rkey", "verify upper rkey", "verify bare rkey", "verify behind rkey", "verify altered rkey",
+    "verify renamed rkey", "verify letter rkey", "verify report other", "verify report rkey47", "verify report rkey49",
+    "verify report far", "verify far rkey", "verify empty rkey", "verify none rkey47", "verify report none",
+    "verify none none", "verify rkey rkey", "verify report", "verify report rkey rkey", "verify report rkey --keys keys",
 )
+# A report and its key: facts of any bytes, and their MAC.
+REPORT_KEY = bytes(range(7, 55))
+REPORT_TEXT = b"TDXREP01" + bytes((7 * at) % 256 for at in range(304))
+REPORT = (REPORT_TEXT + hmac.digest(REPORT_KEY, REPORT_TEXT, hashlib.sha384)).hex().encode() + b"\n"
 # What stands beside the script then: files in form, and others that are cut short or too long.
 OTHERS = {
     "secrets": bytes(range(256)) * 16,
@@ -1438,6 +1448,17 @@ OTHERS = {
     "far": bytes(65_537),
     "cut": b"TDXBNDL1" + bytes(3),
     "bad": b"machine 1 8 1\nlp 0\n",
+    "report": REPORT,
+    "upper": REPORT.upper(),
+    "bare": REPORT[:-1],
+    "behind": REPORT + b"\n",
+    "altered": REPORT[:719] + (b"1" if REPORT[719:720] == b"0" else b"0") + b"\n",
+    "renamed": b"6" + REPORT[1:],
+    "letter": b"g" + REPORT[1:],
+    "rkey": REPORT_KEY,
+    "other": REPORT_KEY[::-1],
+    "rkey47": REPORT_KEY[1:],
+    "rkey49": REPORT_KEY + b"\0",
     **dict.fromkeys(command_lines.DASHED, b"machine 1 8 1\nlp 0\nPHYMEM.CACHE.WB\nend\n"),
 }
 LINES = 12  # random ones beside three of COMMANDS

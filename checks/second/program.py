@@ -1,6 +1,8 @@
-"""The program's command line, statuses and texts of docs/profile.md: its four commands, as they are built and with
+"""The program's command line, statuses and texts of docs/profile.md: its five commands, as they are built and with
 what is to come."""
 
+import hashlib
+import hmac
 import re
 import struct
 from functools import partial
@@ -13,12 +15,14 @@ from soak import soak_line
 
 USAGE = (
     "usage: tdx replay|run SCRIPT [--bundles F] [--keys F] [--secrets F] [--out-bundles F] [--guest-out F]"
-    " | tdx check SCRIPT | tdx soak N"
+    " | tdx check SCRIPT | tdx soak N | tdx verify FILE KEY"
 )
 INPUTS = ("--bundles", "--keys", "--secrets")
 OPTIONS = (*INPUTS, "--out-bundles", "--guest-out")
 SECRETS = "<512Q"
 MOST_SOAKED = 512
+REPORT_KEY = 48
+REPORT_PARTS = (8, 56, 104, 152, 200, 248, 312)
 
 
 class Ended(Exception):
@@ -123,10 +127,14 @@ def options_of(words):
 
 
 def asked(words):
-    """The command that words ask for, the one word that it has, and its options with their values."""
+    """The command that words ask for, the one word that it has or both, and its options with their values."""
     need_usage(words and words[0] in COMMANDS)
     rest, options = options_of(words[1:])
-    need_usage(len(rest) == 1 and (words[0] in RUNS or not options))
+    need_usage(words[0] in RUNS or not options)
+    if words[0] == "verify":
+        need_usage(len(rest) == 2)
+        return words[0], rest, options
+    need_usage(len(rest) == 1)
     if words[0] == "soak":
         need_usage(re.fullmatch("[1-9][0-9]{0,2}", rest[0]) and int(rest[0]) <= MOST_SOAKED)
     return words[0], rest[0], options
@@ -169,5 +177,27 @@ def soak(number, _options, _load, _late_pages):
     return soak_line(int(number), read, replay), {}, []
 
 
+def verdict(report, key):
+    """What the file of a report says under a key."""
+    if len(report) != 721 or report[720:] != b"\n":
+        return "no LENGTH"
+    if not re.fullmatch(b"[0-9a-fA-F]{720}", report[:720]):
+        return "no HEX"
+    text = bytes.fromhex(report[:720].decode())
+    if text[:8] != b"TDXREP01":
+        return "no MAGIC"
+    if hmac.digest(key, text[:312], hashlib.sha384) != text[312:]:
+        return "no MAC"
+    return " ".join(["yes", *(text[at:end].hex() for at, end in zip(REPORT_PARTS, REPORT_PARTS[1:]))])
+
+
+def verify(names, _options, load, _late_pages):
+    """The text of `verify`, which saves no file and runs nothing."""
+    report, key = (loaded(name, load) for name in names)
+    if len(key) != REPORT_KEY:
+        raise Ended(7, "report key file\n")
+    return f"{verdict(report, key)}\n", {}, []
+
+
 RUNS = {"replay": partial(run_of, replay), "run": partial(run_of, run_threads)}
-COMMANDS = {**RUNS, "check": check, "soak": soak}
+COMMANDS = {**RUNS, "check": check, "soak": soak, "verify": verify}

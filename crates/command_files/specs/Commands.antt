@@ -7,6 +7,7 @@ use Rattle.line_words.specs.Number.{number}
 use Rattle.command_files.specs.declared.commands.Named.{Named}
 use Rattle.command_files.specs.declared.commands.Command.{Command}
 use Rattle.command_files.specs.declared.commands.Command.TheVariants as command
+use Rattle.command_files.specs.declared.commands.ReportFiles.{ReportFiles}
 use Rattle.command_files.specs.declared.commands.Asked.{Asked}
 use Rattle.command_files.specs.declared.commands.Asked.TheVariants as asked
 
@@ -25,10 +26,16 @@ pub data CommandSeen : Type 0 where
   Run : NamedSeen → CommandSeen
   Check : List ℕ → CommandSeen
 
--- what words ask for: a command on a script, or the soak of so many pages
+-- the names of a report's file and of a key file
+pub record ReportFilesSeen : Type 0 where
+  pub report : List ℕ
+  pub key : List ℕ
+
+-- what words ask for: a command on a script, the soak of so many pages, or the check of a report under a key
 pub data AskedSeen : Type 0 where
   OfScript : CommandSeen → AskedSeen
   Soak : ℕ → AskedSeen
+  Verify : ReportFilesSeen → AskedSeen
 
 -- the script's name
 abbrev pub script_name : CommandSeen → List ℕ
@@ -57,15 +64,20 @@ command_seen (command.Replay n) = Replay (named_seen n)
 command_seen (command.Run n) = Run (named_seen n)
 command_seen (command.Check name) = Check name.now
 
+abbrev pub report_files_seen : ReportFiles → ReportFilesSeen
+report_files_seen n = record { report = n.report.now; key = n.key.now }
+
 abbrev pub asked_seen : Asked → AskedSeen
 asked_seen (asked.OfScript c) = OfScript (command_seen c)
 asked_seen (asked.Soak pages) = Soak pages
+asked_seen (asked.Verify n) = Verify (report_files_seen n)
 
 -- a soak is one of 1 to 512 pages
 abbrev pub HasFewPages : Option Asked → Type 0
 HasFewPages None = Unit {0}
 HasFewPages (Some (asked.OfScript c)) = Unit {0}
 HasFewPages (Some (asked.Soak pages)) = (1 ≤ pages) × (pages ≤ 512)
+HasFewPages (Some (asked.Verify n)) = Unit {0}
 
 -- ---- the command lines of clap
 
@@ -103,6 +115,10 @@ script_line = line_of (word_rule (codes "SCRIPT") ∷ [])
 abbrev pub pages_line : App
 pages_line = line_of (word_rule (codes "N") ∷ [])
 
+-- the rest of `verify`
+abbrev pub report_line : App
+report_line = line_of (word_rule (codes "FILE") ∷ word_rule (codes "KEY") ∷ [])
+
 -- what clap finds in these words, where its reading of them has no fault
 abbrev pub found_by : Kinds → List Row → Option (List Row)
 found_by [] rows = Some rows
@@ -132,6 +148,10 @@ few (Some n) = if nat_le 1 n && nat_le n 512 then Some n else None
 abbrev pub pages_of : List ℕ → Option ℕ
 pages_of word = if slice_index_or word 0 0 == 48 then None else few (number word)
 
+-- the report's file and the key file
+abbrev pub report_files_in : List Row → Option ReportFilesSeen
+report_files_in rows = option_and_then (λ report. option_map (λ key. record { report = report; key = key }) (first_of (codes "KEY") rows)) (first_of (codes "FILE") rows)
+
 -- ---- commands
 
 abbrev pub replay_in : List (List ℕ) → Option AskedSeen
@@ -146,6 +166,9 @@ check_in rest = option_map (λ name. OfScript (Check name)) (option_and_then (fi
 abbrev pub soak_in : List (List ℕ) → Option AskedSeen
 soak_in rest = option_map Soak (option_and_then pages_of (option_and_then (first_of (codes "N")) (found_in pages_line rest)))
 
+abbrev pub verify_in : List (List ℕ) → Option AskedSeen
+verify_in rest = option_map Verify (option_and_then report_files_in (found_in report_line rest))
+
 -- the first word is the command, and the rest is what clap's reading of that command's line makes of it
 abbrev pub asked_behind : List ℕ → List (List ℕ) → Option AskedSeen
 asked_behind word rest =
@@ -153,11 +176,12 @@ asked_behind word rest =
     else if bytes_eq word (codes "run") then run_in rest
     else if bytes_eq word (codes "check") then check_in rest
     else if bytes_eq word (codes "soak") then soak_in rest
+    else if bytes_eq word (codes "verify") then verify_in rest
     else None
 
 -- a word that is a command
 abbrev pub is_command : List ℕ → Bool
-is_command word = bytes_eq word (codes "replay") || bytes_eq word (codes "run") || bytes_eq word (codes "check") || bytes_eq word (codes "soak")
+is_command word = bytes_eq word (codes "replay") || bytes_eq word (codes "run") || bytes_eq word (codes "check") || bytes_eq word (codes "soak") || bytes_eq word (codes "verify")
 
 -- the first word is one
 unfoldable pub begins_with_command : List (List ℕ) → Bool

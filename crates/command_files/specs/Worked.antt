@@ -1,6 +1,6 @@
 -- Worked command lines, which compute (`are_read_so` in `proofs/Worked.antt`).
 use Rattle.std.specs.Prelude.{ℕ, List, [], ◌∷◌, Option, Some, None, codes}
-use Rattle.command_files.specs.Commands.{AskedSeen, OfScript, Soak, NamedSeen, Replay, Run, Check}
+use Rattle.command_files.specs.Commands.{AskedSeen, OfScript, Soak, Verify, NamedSeen, Replay, Run, Check}
 
 -- a script alone, and with a key file
 abbrev pub script : List ℕ → NamedSeen
@@ -62,4 +62,9 @@ worked_lines =
     ∷ (codes "soak" ∷ codes "0x7" ∷ [], None)
     ∷ (codes "soak" ∷ codes "x" ∷ [], None)
     ∷ (codes "soak" ∷ codes "7" ∷ codes "--keys" ∷ codes "k" ∷ [], None)
+    -- FILE and KEY are two words, in this order
+    ∷ (codes "verify" ∷ codes "f" ∷ codes "k" ∷ [], Some (Verify (record { report = codes "f"; key = codes "k" })))
+    ∷ (codes "verify" ∷ codes "f" ∷ [], None)
+    ∷ (codes "verify" ∷ codes "f" ∷ codes "k" ∷ codes "l" ∷ [], None)
+    ∷ (codes "verify" ∷ codes "f" ∷ codes "k" ∷ codes "--keys" ∷ codes "k" ∷ [], None)
     ∷ []

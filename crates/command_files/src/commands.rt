@@ -3,9 +3,9 @@
 ghost use Rattle.std.specs.Prelude.{◌≡◌, option_map, option_and_then, map, string_bytes, codes, IfOk, IfSome, OnErr, IsTrue, ◌≤◌};
 ghost use Rattle.std.specs.Str.{bytes_eq};
 ghost use Rattle.clap.specs.Words.{found_of, rows_of, first_of};
-ghost use Rattle.command_files.specs.Commands.{named_seen, asked_seen, named_in, pages_of, found_in, files_line, script_line, pages_line, asked_behind, asked_in, is_command, begins_with_command, HasFewPages};
+ghost use Rattle.command_files.specs.Commands.{named_seen, report_files_seen, asked_seen, named_in, report_files_in, pages_of, found_in, files_line, script_line, pages_line, report_line, asked_behind, asked_in, is_command, begins_with_command, HasFewPages};
 
-use crate::lines::{files_line, pages_line, read_line, script_line, value_of};
+use crate::lines::{files_line, pages_line, read_line, report_line, script_line, value_of};
 use clap::ArgMatches;
 use line_words::number;
 use std::alloc::Global;
@@ -31,11 +31,20 @@ pub enum Command<'a> {
     Check(&'a str),
 }
 
-/// What the words ask for: a command on a script, or the soak of so many pages.
+/// The names of a report's file and of a key file.
+#[derive(Clone, Copy, Drop)]
+pub struct ReportFiles<'a> {
+    pub report: &'a str,
+    pub key: &'a str,
+}
+
+/// What the words ask for: a command on a script, the soak of so many pages, or the check of a report
+/// under a key.
 #[derive(Clone, Copy, Drop)]
 pub enum Asked<'a> {
     OfScript(Command<'a>),
     Soak(u16),
+    Verify(ReportFiles<'a>),
 }
 
 const MOST_PAGES: u64 = 512;
@@ -59,6 +68,19 @@ fn named_in<'a>(found: &ArgMatches<'a>) -> Option<Named<'a>>
             out_bundles: value_of(found, "out-bundles"),
             guest_out: value_of(found, "guest-out"),
         }),
+        None => None,
+    }
+}
+
+// The report's file and the key file.
+fn report_files_in<'a>(found: &ArgMatches<'a>) -> Option<ReportFiles<'a>>
+    ensures { option_map report_files_seen result ≡ report_files_in (rows_of (found_of found.now)) }
+{
+    match value_of(found, "FILE") {
+        Some(report) => match value_of(found, "KEY") {
+            Some(key) => Some(ReportFiles { report, key }),
+            None => None,
+        },
         None => None,
     }
 }
@@ -118,6 +140,19 @@ fn read_pages(alloc: Global, rest: &[String]) -> Result<Option<u16>, OutOfMemory
     }
 }
 
+fn read_report_files<'a>(
+    alloc: Global,
+    rest: &'a [String],
+) -> Result<Option<ReportFiles<'a>>, OutOfMemory>
+    ensures { IfOk result (λ n. option_map report_files_seen n ≡ option_and_then report_files_in (found_in report_line (map string_bytes rest.now))) }
+{
+    let line = report_line(alloc)?;
+    match read_line(alloc, line, rest)? {
+        Some(found) => Ok(report_files_in(&found)),
+        None => Ok(None),
+    }
+}
+
 // What the words behind the first ask for, by the command that it is.
 fn asked_behind<'a>(
     alloc: Global,
@@ -146,6 +181,11 @@ fn asked_behind<'a>(
     } else if is(word, "soak") {
         match read_pages(alloc, rest)? {
             Some(pages) => Ok(Some(Asked::Soak(pages))),
+            None => Ok(None),
+        }
+    } else if is(word, "verify") {
+        match read_report_files(alloc, rest)? {
+            Some(named) => Ok(Some(Asked::Verify(named))),
             None => Ok(None),
         }
     } else {

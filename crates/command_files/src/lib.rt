@@ -13,6 +13,6 @@ mod commands;
 mod inputs;
 mod lines;
 
-pub use commands::{Asked, Command, Named, read_command};
+pub use commands::{Asked, Command, Named, ReportFiles, read_command};
 pub use inputs::{Input, InputFault, Inputs, KeyBytes, take_inputs};
 pub use lines::{empty_line, read_line, value_of, with_option, with_word};

@@ -2,7 +2,7 @@
 
 ghost use Rattle.std.specs.Prelude.{◌≡◌, [], true, option_map, map, string_bytes, IfOk};
 ghost use Rattle.clap.specs.Words.{app_of, found_of, rows_of, first_of, with_rule, is_simple_and_free};
-ghost use Rattle.command_files.specs.Commands.{option_rule, word_rule, line_of, files_line, script_line, pages_line, found_in};
+ghost use Rattle.command_files.specs.Commands.{option_rule, word_rule, line_of, files_line, script_line, pages_line, report_line, found_in};
 
 use clap::error::ErrorKind;
 use clap::{Arg, ArgMatches, Command};
@@ -71,6 +71,14 @@ pub fn pages_line<'a>(alloc: Global) -> Result<Command<'a>, OutOfMemory>
     ensures { IfOk result (λ l. app_of l ≡ pages_line) }
 {
     with_word(alloc, empty_line(alloc), "N")
+}
+
+/// The rest of `verify`.
+pub fn report_line<'a>(alloc: Global) -> Result<Command<'a>, OutOfMemory>
+    ensures { IfOk result (λ l. app_of l ≡ report_line) }
+{
+    let line = with_word(alloc, empty_line(alloc), "FILE")?;
+    with_word(alloc, line, "KEY")
 }
 
 /// What the library finds in the words of such a line, which takes its memory along.

@@ -33,13 +33,16 @@ fn asked_text(alloc: Global, line: &str) -> Result<String, Fail> {
         Some(Asked::OfScript(Command::Run(named))) => named_text(alloc, "run", &named),
         Some(Asked::OfScript(Command::Check(script))) => Ok(format!(in alloc; "check {script}")?),
         Some(Asked::Soak(pages)) => Ok(format!(in alloc; "soak {pages}")?),
+        Some(Asked::Verify(named)) => {
+            Ok(format!(in alloc; "verify {} key {}", named.report, named.key)?)
+        }
     }
 }
 
 // Each row: what is asked for, and behind bars the lines that ask for it.
 const ROWS: &[&str] = &[
     // the first word
-    "usage|  s| s| replays s| -- replay s| Replay s| help| --help| soak| check| run| replay",
+    "usage|  s| s| replays s| -- replay s| Replay s| help| --help| soak| check| run| replay| verify",
     "replay s| replay s",
     "run s| run s",
     "check s| check s| check -- s",
@@ -78,6 +81,12 @@ const ROWS: &[&str] = &[
     "soak 512| soak 512",
     "usage| soak 0| soak 513| soak 2 3| soak x| soak | soak 1 | soak -| soak --",
     "usage| soak +1| soak -1| soak 01| soak 0x1| soak 00| soak 1x| soak 18446744073709551617",
+    // FILE and KEY, in this order
+    "verify f key k| verify f k| verify f -- k| verify -- f k| verify f k --",
+    "verify f key f| verify f f",
+    "verify  key | verify  ",
+    "verify - key -k| verify - -- -k",
+    "usage| verify f| verify f k l| verify f --k| verify f k --keys k| verify --report-key k f",
 ];
 
 #[test]

@@ -1,6 +1,6 @@
 -- What holds of every command on a script, and of words that are no command, is said of what words ask for.
 use Rattle.std.proofs.Common.{Option, Some, None}
-use Rattle.command_files.specs.Commands.{CommandSeen, AskedSeen, OfScript, Soak}
+use Rattle.command_files.specs.Commands.{CommandSeen, AskedSeen, OfScript, Soak, Verify}
 use Rattle.script_runner.specs.Asked.{OfScripts}
 
 -- what words ask for that are this command, or none
@@ -12,3 +12,4 @@ pub of_scripts : (D : Option AskedSeen → Type 0) (P : Option CommandSeen → T
 of_scripts D P f None d = f None d
 of_scripts D P f (Some (OfScript c)) d = f (Some c) d
 of_scripts D P f (Some (Soak n)) d = tt
+of_scripts D P f (Some (Verify n)) d = tt

@@ -13,6 +13,7 @@ pub mod Endings
 pub mod Loading
 pub mod Histories
 pub mod Soaked
+pub mod Verified
 pub mod Running
 pub mod Blind
 pub mod Unsaved

@@ -2,7 +2,7 @@
 use Rattle.std.proofs.Common.{◌≡◌, ◌⊎◌, inl, inr, refl, ap, ℕ, ◌≤◌, List, Option, Some, None, IfSome, arith}
 use Rattle.flat_core.specs.AccessLaw.{AccessesAreOwn}
 use Rattle.mig_laws.specs.Image.{ImageLaw}
-use Rattle.command_files.specs.Commands.{CommandSeen, AskedSeen, OfScript, Soak}
+use Rattle.command_files.specs.Commands.{CommandSeen, AskedSeen, OfScript, Soak, Verify}
 use Rattle.command_files.specs.Inputs.{Reads}
 use Rattle.bundle_store.specs.Outside.{Rose}
 use Rattle.script_runner.specs.Saving.{Writes}
@@ -19,6 +19,7 @@ use Rattle.script_runner.proofs.Blind as blind
 use Rattle.script_runner.proofs.Histories as past
 use Rattle.script_runner.proofs.Asked.{asks, of_scripts}
 use Rattle.script_runner.proofs.Soaked.{does_soak}
+use Rattle.script_runner.proofs.Verified.{does_verify}
 
 -- ---- of one command on a script
 
@@ -93,7 +94,7 @@ module _ (access : AccessesAreOwn) (worlds : BlindLaws) (image : ImageLaw) (carr
   all_contents (Some held) asked r r' w w' o o' status d told =
       of_scripts (Does (Some held) r r' w w' o o' status) (λ c. ByContents held c r r' w w' o o' status) (by_contents held r r' w w' o o' status told) asked d
 
--- the usage line is put where the words are no command, and a soak never ends in its status
+-- the usage line is put where the words are no command, and neither a soak nor the check of a report ends in its status
 pub only_usage : (contents : Option (List ℕ → Option (List ℕ))) (asked : Option AskedSeen) (r r' : Reads) (w w' : Writes) (o o' : Outputs) (status : ℕ) → DoesCommand contents asked r r' w w' o o' status → status ≡ 1 → asked ≡ None
 only_usage contents None r r' w w' o o' status d one = refl
 only_usage contents (Some (OfScript c)) r r' w w' o o' status d one = absurd (let q = (past.put_usage contents (Some c) r r' w w' o o' status d one).0 in cc)
@@ -103,6 +104,14 @@ only_usage contents (Some (Soak n)) r r' w w' o o' status d one = absurd (by (do
     by (inl s) = omega (arith, s, one)
     by (inr (inl s)) = (let q = s.0 in omega (arith, q, one))
     by (inr (inr s)) = omega (arith, s, one)
+only_usage contents (Some (Verify n)) r r' w w' o o' status d one = absurd (by (does_verify contents n r r' w w' o o' status d).statuses)
+  where
+    by : (status ≡ 0) ⊎ (status ≡ 3) ⊎ (status ≡ 4) ⊎ (status ≡ 5) ⊎ (status ≡ 7) → ⊥
+    by (inl s) = omega (arith, s, one)
+    by (inr (inl s)) = omega (arith, s, one)
+    by (inr (inr (inl s))) = omega (arith, s, one)
+    by (inr (inr (inr (inl s)))) = omega (arith, s, one)
+    by (inr (inr (inr (inr s)))) = omega (arith, s, one)
 
 pub used : (contents : Option (List ℕ → Option (List ℕ))) (asked : Option AskedSeen) (r r' : Reads) (w w' : Writes) (o o' : Outputs) (status : ℕ) → DoesCommand contents asked r r' w w' o o' status → asked ≡ None → (status ≡ 1) ⊎ (status ≡ 5)
 used contents None r r' w w' o o' status d none = past.used contents None r r' w w' o o' status d refl

@@ -1,7 +1,7 @@
 -- What a soak does.
 use Rattle.std.proofs.Common.{◌≡◌, inl, inr, refl, sym, subst, ℕ, List, Option, Some, None, Ok, Err, arith}
 use Rattle.bundle_store.specs.declared.outside.PutFault.TheVariants as put
-use Rattle.command_files.specs.Commands.{AskedSeen, OfScript, Soak}
+use Rattle.command_files.specs.Commands.{AskedSeen, OfScript, Soak, Verify}
 use Rattle.command_files.specs.Inputs.{Reads}
 use Rattle.soak_runs.specs.Soaked.{soak_text}
 use Rattle.script_runner.specs.Ending.{Ended, soak_end}
@@ -63,4 +63,5 @@ pub of_soaks : (contents : Option (List ℕ → Option (List ℕ))) (asked : Opt
     → OfSoaks asked (λ n. DoesSoak n r r' w w' o o' status)
 of_soaks contents None r r' w w' o o' status d = tt
 of_soaks contents (Some (OfScript c)) r r' w w' o o' status d = tt
+of_soaks contents (Some (Verify n)) r r' w w' o o' status d = tt
 of_soaks contents (Some (Soak n)) r r' w w' o o' status d = does_soak contents n r r' w w' o o' status d

@@ -1,8 +1,8 @@
--- What is said of a command on a script, and what of a soak.
+-- What is said of a command on a script, what of a soak, and what of the check of a report.
 use Rattle.std.specs.Prelude.{◌≡◌, ◌⊎◌, ℕ, List, Option, Some, None, Ok, Err}
 use Rattle.bundle_store.specs.Outside.{Rose}
 use Rattle.bundle_store.specs.declared.outside.PutFault.TheVariants as put
-use Rattle.command_files.specs.Commands.{CommandSeen, AskedSeen, OfScript, Soak}
+use Rattle.command_files.specs.Commands.{CommandSeen, ReportFilesSeen, AskedSeen, OfScript, Soak, Verify}
 use Rattle.command_files.specs.Inputs.{Reads}
 use Rattle.soak_runs.specs.Soaked.{soak_text}
 use Rattle.script_runner.specs.Saving.{Writes}
@@ -13,12 +13,21 @@ abbrev pub OfScripts : Option AskedSeen → (Option CommandSeen → Type 0) → 
 OfScripts None P = P None
 OfScripts (Some (OfScript c)) P = P (Some c)
 OfScripts (Some (Soak n)) P = Unit {0}
+OfScripts (Some (Verify n)) P = Unit {0}
 
 -- it is said of a soak of so many pages
 abbrev pub OfSoaks : Option AskedSeen → (ℕ → Type 0) → Type 0
 OfSoaks None P = Unit {0}
 OfSoaks (Some (OfScript c)) P = Unit {0}
 OfSoaks (Some (Soak n)) P = P n
+OfSoaks (Some (Verify n)) P = Unit {0}
+
+-- it is said of the check of a report
+abbrev pub OfVerifies : Option AskedSeen → (ReportFilesSeen → Type 0) → Type 0
+OfVerifies None P = Unit {0}
+OfVerifies (Some (OfScript c)) P = Unit {0}
+OfVerifies (Some (Soak n)) P = Unit {0}
+OfVerifies (Some (Verify n)) P = P n
 
 -- want of memory is put, alone or behind a put of this text that found none
 abbrev pub PutsWantFor : List ℕ → Outputs → Outputs → ℕ → Type 0

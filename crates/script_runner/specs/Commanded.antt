@@ -1,4 +1,4 @@
--- What the words come to, a command on a script with the files that its options name, or a soak: what is loaded, put and saved.
+-- What the words come to, a command on a script with the files that its options name, a soak, or the check of a report: what is loaded, put and saved.
 use Rattle.std.specs.Prelude.{◌≡◌, ◌≢◌, ◌⊎◌, ℕ, ◌^◌, ◌≤◌, List, [], ◌∷◌, slice_index, Option, Some, None, Result, Ok, Err}
 use Rattle.std.specs.Global.{Vec}
 use Rattle.script_text.specs.declared.faults.Reason.TheVariants.{Length}
@@ -17,9 +17,14 @@ use Rattle.bundle_store.specs.History.{Put}
 use Rattle.command_files.specs.declared.inputs.InputFault.{InputFault}
 use Rattle.command_files.specs.declared.inputs.InputFault.TheVariants as fault
 use Rattle.command_files.specs.declared.inputs.Inputs.{Inputs}
-use Rattle.command_files.specs.Commands.{NamedSeen, CommandSeen, Replay, Run, Check, AskedSeen, OfScript, Soak, script_name}
+use Rattle.command_files.specs.Commands.{NamedSeen, CommandSeen, Replay, Run, Check, ReportFilesSeen, AskedSeen, OfScript, Soak, Verify, script_name}
 use Rattle.command_files.specs.Inputs.{Reads, Loads, TakesInputs}
-use Rattle.script_runner.specs.Ending.{ToSave, Ended, HandedOut, keys_or_none, usage_end, bad_end, unread_end, memory_end, run_end, check_end, soak_end, fault_end, container_end, keys_end, secrets_end, unwritten_end, input_name, IsOrderOf}
+use Rattle.report_core.specs.declared.facts.Facts.{Facts}
+use Rattle.report_core.specs.declared.reports.ReportFault.{ReportFault}
+use Rattle.report_checks.specs.declared.checked.CheckFault.{CheckFault}
+use Rattle.report_checks.specs.declared.checked.CheckFault.TheVariants as check
+use Rattle.report_checks.specs.Checked.{ChecksFiles}
+use Rattle.script_runner.specs.Ending.{ToSave, Ended, HandedOut, keys_or_none, usage_end, bad_end, unread_end, memory_end, run_end, check_end, soak_end, verdict_end, fault_end, container_end, keys_end, secrets_end, report_key_end, unwritten_end, input_name, IsOrderOf}
 use Rattle.script_runner.specs.Saving.{Writes, Saves}
 use Rattle.script_runner.specs.Threads.{ThreadsOf}
 use Rattle.script_runner.specs.Brings.{HandsWords}
@@ -100,17 +105,34 @@ pub record ReachesPart (contents : Option (List ℕ → Option (List ℕ))) (c :
   pub script_loaded : Loads contents (2 ^ 24) (script_name c) old answer between
   pub further : AnswerPart contents c between new answer
 
+-- a report's check is told, or why there is none; want of memory is no ending
+abbrev pub VerifyEnd : ReportFilesSeen → Result (Result Facts ReportFault) CheckFault → Ended → Type 0
+VerifyEnd n (Ok verdict) e = e ≡ verdict_end verdict
+VerifyEnd n (Err check.Report) e = e ≡ unread_end n.report
+VerifyEnd n (Err check.Key) e = e ≡ unread_end n.key
+VerifyEnd n (Err check.KeyLength) e = e ≡ report_key_end
+VerifyEnd n (Err check.OutOfMemory) e = ⊥
+
+abbrev pub Verifies : Option (List ℕ → Option (List ℕ)) → ReportFilesSeen → Reads → Reads → Ended → Type 0
+Verifies contents n old new e = (answer : Result (Result Facts ReportFault) CheckFault) × ChecksFiles contents n old new answer × VerifyEnd n answer e
+
+-- its files were loaded, whatever came of it
+abbrev pub VerifiesPart : Option (List ℕ → Option (List ℕ)) → ReportFilesSeen → Reads → Reads → Type 0
+VerifiesPart contents n old new = (answer : Result (Result Facts ReportFault) CheckFault) × ChecksFiles contents n old new answer
+
 -- words that are no command load nothing, and neither does a soak
 abbrev pub Comes : Option (List ℕ → Option (List ℕ)) → Option AskedSeen → Reads → Reads → Ended → Type 0
 Comes contents None old new e = (new ≡ old) × (e ≡ usage_end)
 Comes contents (Some (OfScript c)) old new e = Reaches contents c old new e
 Comes contents (Some (Soak n)) old new e = (new ≡ old) × (e ≡ soak_end n)
+Comes contents (Some (Verify n)) old new e = Verifies contents n old new e
 
--- the same, where memory was wanting on the way, as it may be before the script is loaded
+-- the same, where memory was wanting on the way, as it may be before the first load
 abbrev pub ComesPart : Option (List ℕ → Option (List ℕ)) → Option AskedSeen → Reads → Reads → Type 0
 ComesPart contents None old new = new ≡ old
 ComesPart contents (Some (OfScript c)) old new = (new ≡ old) ⊎ ReachesPart contents c old new
 ComesPart contents (Some (Soak n)) old new = new ≡ old
+ComesPart contents (Some (Verify n)) old new = (new ≡ old) ⊎ VerifiesPart contents n old new
 
 -- ---- what is put
 

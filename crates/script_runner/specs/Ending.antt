@@ -29,6 +29,9 @@ use Rattle.command_files.specs.declared.inputs.InputFault.TheVariants as fault
 use Rattle.command_files.specs.declared.inputs.KeyBytes.{KeyBytes}
 use Rattle.command_files.specs.Commands.{NamedSeen, CommandSeen, Replay, Run, Check, script_name}
 use Rattle.command_files.specs.Inputs.{place_fault, first, bundles_read, keys_of}
+use Rattle.report_core.specs.declared.facts.Facts.{Facts}
+use Rattle.report_core.specs.declared.reports.ReportFault.{ReportFault}
+use Rattle.report_checks.specs.Checked.{verdict_text}
 use Rattle.script_runner.specs.declared.ending.Ending.{Ending}
 
 -- a file that is to be saved
@@ -61,7 +64,7 @@ ending_seen e = record {
 -- texts, each by its status
 
 abbrev pub usage_end : Ended
-usage_end = record { status = 1; text = codes "usage: tdx replay|run SCRIPT [--bundles F] [--keys F] [--secrets F] [--out-bundles F] [--guest-out F] | tdx check SCRIPT | tdx soak N" ++ 10 ∷ []; files = [] }
+usage_end = record { status = 1; text = codes "usage: tdx replay|run SCRIPT [--bundles F] [--keys F] [--secrets F] [--out-bundles F] [--guest-out F] | tdx check SCRIPT | tdx soak N | tdx verify FILE KEY" ++ 10 ∷ []; files = [] }
 
 abbrev pub bad_end : ℕ → Reason → Ended
 bad_end line reason = record { status = 2; text = codes "script line " ++ (decimal line ++ (codes " " ++ (reason_text reason ++ 10 ∷ []))); files = [] }
@@ -132,6 +135,10 @@ check_end s = record { status = 0; text = check_text s; files = [] }
 abbrev pub soak_end : ℕ → Ended
 soak_end n = record { status = 0; text = soak_text n; files = [] }
 
+-- the line of what is said of a report's file
+abbrev pub verdict_end : Result Facts ReportFault → Ended
+verdict_end verdict = record { status = 0; text = verdict_text verdict; files = [] }
+
 -- what a command comes to with a script where nothing is wrong
 abbrev pub success_end : CommandSeen → ScriptSeen → HandedOut → (order : List ℕ) → Ended
 success_end (Replay n) s handed order = run_end n s handed order
@@ -153,6 +160,10 @@ keys_end = record { status = 7; text = codes "key file" ++ 10 ∷ []; files = []
 -- the secrets file hasn't its length
 abbrev pub secrets_end : Ended
 secrets_end = record { status = 7; text = codes "secrets file" ++ 10 ∷ []; files = [] }
+
+-- the report key file hasn't its length
+abbrev pub report_key_end : Ended
+report_key_end = record { status = 7; text = codes "report key file" ++ 10 ∷ []; files = [] }
 
 -- a save failed
 abbrev pub unwritten_end : List ℕ → Ended

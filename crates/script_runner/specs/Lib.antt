@@ -9,4 +9,5 @@ pub mod Ends
 pub mod Done
 pub mod Commanded
 pub mod Asked
+pub mod Verified
 pub mod Promised

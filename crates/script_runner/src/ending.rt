@@ -5,7 +5,7 @@ ghost use Rattle.bundle_store.specs.Containers.{AreInOrder};
 ghost use Rattle.script_text.specs.Laws.{IsInForm};
 ghost use Rattle.script_text.specs.Seen.{ScriptSeen};
 ghost use Rattle.command_files.specs.Commands.{CommandSeen, Replay, Run, named_seen};
-ghost use Rattle.script_runner.specs.Ending.{ending_seen, usage_end, unread_end, bad_end, calls_in, ops_in, check_end, soak_end, container_end, keys_end, secrets_end, unwritten_end, input_name, keys_or_none};
+ghost use Rattle.script_runner.specs.Ending.{ending_seen, usage_end, unread_end, bad_end, calls_in, ops_in, check_end, soak_end, verdict_end, container_end, keys_end, secrets_end, report_key_end, unwritten_end, input_name, keys_or_none};
 ghost use Rattle.script_runner.specs.Threads.{texts_end};
 ghost use Rattle.script_runner.specs.Brings.{HandsWords};
 ghost use Rattle.script_runner.specs.Commanded.{handed_in, InputsEnd, EndsRun};
@@ -13,6 +13,8 @@ ghost use Rattle.script_runner.specs.Commanded.{handed_in, InputsEnd, EndsRun};
 use command_files::{Input, InputFault, Inputs, KeyBytes, Named};
 use leaf_engine::Gate;
 use leaf_table::Given;
+use report_checks::verdict_line;
+use report_core::{Facts, ReportFault};
 use run_texts::{KeyPair, Texts, opened_bundles, replay_texts, threaded_texts};
 use script_text::{Reason, Script};
 use script_words::come_in_as_words;
@@ -34,7 +36,7 @@ pub struct Ending<'a> {
 }
 
 const USAGE: &str =
-    "usage: tdx replay|run SCRIPT [--bundles F] [--keys F] [--secrets F] [--out-bundles F] [--guest-out F] | tdx check SCRIPT | tdx soak N\n";
+    "usage: tdx replay|run SCRIPT [--bundles F] [--keys F] [--secrets F] [--out-bundles F] [--guest-out F] | tdx check SCRIPT | tdx soak N | tdx verify FILE KEY\n";
 
 // An ending that saves nothing.
 fn plain<'a>(alloc: Global, status: u8, text: Vec<u8>) -> Ending<'a>
@@ -102,6 +104,13 @@ fn bad_secrets<'a>(alloc: Global) -> Result<Ending<'a>, AllocError>
     ensures { IfOk result (λ e. ending_seen e ≡ secrets_end) }
 {
     Ok(plain(alloc, 7, "secrets file\n".as_bytes().to_vec(alloc)?))
+}
+
+/// The report key file hasn't its length.
+pub fn bad_report_key<'a>(alloc: Global) -> Result<Ending<'a>, AllocError>
+    ensures { IfOk result (λ e. ending_seen e ≡ report_key_end) }
+{
+    Ok(plain(alloc, 7, "report key file\n".as_bytes().to_vec(alloc)?))
 }
 
 /// Nothing was written under that name.
@@ -296,4 +305,14 @@ pub fn soak<'a>(alloc: Global, pages: u16) -> Result<Ending<'a>, AllocError>
         Ok(line) => Ok(plain(alloc, 0, line)),
         Err(OutOfMemory) => Err(AllocError),
     }
+}
+
+/// The line of what is said of a report's file.
+pub fn verdict<'a>(
+    alloc: Global,
+    verdict: &Result<Facts, ReportFault>,
+) -> Result<Ending<'a>, AllocError>
+    ensures { IfOk result (λ e. ending_seen e ≡ verdict_end verdict.now) }
+{
+    Ok(plain(alloc, 0, verdict_line(alloc, verdict)?))
 }

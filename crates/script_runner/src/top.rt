@@ -6,13 +6,15 @@ ghost use Rattle.script_runner.specs.Ending.{ending_seen, file_named, memory_end
 ghost use Rattle.script_runner.specs.Ends.{PutsPart};
 ghost use Rattle.script_runner.specs.Done.{PutsOnce, PutsHeadline};
 ghost use Rattle.script_runner.specs.Commanded.{Comes, ComesPart, TellsBy, PutsWant, SavesAll, PutsAndSaves, DoesCommand};
-ghost use Rattle.script_runner.specs.Asked.{OfScripts, OfSoaks, DoesSoak};
+ghost use Rattle.script_runner.specs.Asked.{OfScripts, OfSoaks, OfVerifies, DoesSoak};
+ghost use Rattle.script_runner.specs.Verified.{DoesVerify, VerifiesHeld};
 ghost use Rattle.script_runner.specs.Promised.{ByHistories, ByContents};
 ghost use Rattle.script_runner.specs.Blind.{BlindLaws};
 ghost use Rattle.script_runner.specs.Brings.{CarryingLaws};
 
 use crate::commanded::of_command;
 use crate::ending::{Ending, soak, unwritten, usage};
+use crate::reports::verify;
 use bundle_store::{Files, PutFault, SaveFault, Sink};
 use bundle_texts::bundles_read_again;
 use command_files::{Asked, read_command};
@@ -71,6 +73,7 @@ fn decide<'a, R: Threads + Sync, F: Files, G: Gate + Sync>(
         Ok(None) => usage(alloc),
         Ok(Some(Asked::OfScript(command))) => of_command(threads, alloc, &command, files, gate),
         Ok(Some(Asked::Soak(pages))) => soak(alloc, pages),
+        Ok(Some(Asked::Verify(named))) => verify(alloc, &named, files),
         Err(OutOfMemory) => Err(AllocError),
     }
 }
@@ -223,7 +226,8 @@ pub fn tdx_main<R: Threads + Sync, F: Files, K: Sink, G: Gate + Sync>(
     gate: &G,
 ) -> u8
     // The call loads what the words name, in order, puts what that comes to, once, and then saves the
-    // container and the guest file, each at most once; for a soak it loads and saves nothing. Want of
+    // container and the guest file, each at most once; for a soak it loads and saves nothing, and for the
+    // check of a report it loads its file and the key file, and saves nothing. Want of
     // memory alone cuts this short, and is put instead. This holds of all files and outputs, whatever
     // they tell.
     ensures does_command { DoesCommand (F.contents files.old) (asked_in (map string_bytes words.now)) (record { loads = F.loads files.old; faults = F.read_faults files.old; bytes = F.bytes_read files.old }) (record { loads = F.loads files.new; faults = F.read_faults files.new; bytes = F.bytes_read files.new }) (record { contents = F.contents files.old; saves = F.saves files.old; faults = F.write_faults files.old }) (record { contents = F.contents files.new; saves = F.saves files.new; faults = F.write_faults files.new }) (record { told = K.told out.old; puts = K.puts out.old; faults = K.faults out.old }) (record { told = K.told out.new; puts = K.puts out.new; faults = K.faults out.new }) result }
@@ -238,6 +242,11 @@ pub fn tdx_main<R: Threads + Sync, F: Files, K: Sink, G: Gate + Sync>(
     ensures by_contents { IfSome (F.contents files.old) (λ held. OfScripts (asked_in (map string_bytes words.now)) (λ c. ByContents held c (record { loads = F.loads files.old; faults = F.read_faults files.old; bytes = F.bytes_read files.old }) (record { loads = F.loads files.new; faults = F.read_faults files.new; bytes = F.bytes_read files.new }) (record { contents = F.contents files.old; saves = F.saves files.old; faults = F.write_faults files.old }) (record { contents = F.contents files.new; saves = F.saves files.new; faults = F.write_faults files.new }) (record { told = K.told out.old; puts = K.puts out.old; faults = K.faults out.old }) (record { told = K.told out.new; puts = K.puts out.new; faults = K.faults out.new }) result)) }
     // What a soak loads, saves and puts, and which status it comes to.
     ensures soak { OfSoaks (asked_in (map string_bytes words.now)) (λ n. DoesSoak n (record { loads = F.loads files.old; faults = F.read_faults files.old; bytes = F.bytes_read files.old }) (record { loads = F.loads files.new; faults = F.read_faults files.new; bytes = F.bytes_read files.new }) (record { contents = F.contents files.old; saves = F.saves files.old; faults = F.write_faults files.old }) (record { contents = F.contents files.new; saves = F.saves files.new; faults = F.write_faults files.new }) (record { told = K.told out.old; puts = K.puts out.old; faults = K.faults out.old }) (record { told = K.told out.new; puts = K.puts out.new; faults = K.faults out.new }) result) }
+    // What the check of a report loads, saves and puts, and which status it comes to: by histories, and by
+    // contents where they are told. It says yes with facts exactly where the file is that of their report
+    // under the key, and each no names the first fault.
+    ensures verify { OfVerifies (asked_in (map string_bytes words.now)) (λ n. DoesVerify (F.contents files.old) n (record { loads = F.loads files.old; faults = F.read_faults files.old; bytes = F.bytes_read files.old }) (record { loads = F.loads files.new; faults = F.read_faults files.new; bytes = F.bytes_read files.new }) (record { contents = F.contents files.old; saves = F.saves files.old; faults = F.write_faults files.old }) (record { contents = F.contents files.new; saves = F.saves files.new; faults = F.write_faults files.new }) (record { told = K.told out.old; puts = K.puts out.old; faults = K.faults out.old }) (record { told = K.told out.new; puts = K.puts out.new; faults = K.faults out.new }) result) }
+    ensures verify_contents { IfSome (F.contents files.old) (λ held. OfVerifies (asked_in (map string_bytes words.now)) (λ n. VerifiesHeld held n (record { loads = F.loads files.old; faults = F.read_faults files.old; bytes = F.bytes_read files.old }) (record { loads = F.loads files.new; faults = F.read_faults files.new; bytes = F.bytes_read files.new }) (record { told = K.told out.old; puts = K.puts out.old; faults = K.faults out.old }) (record { told = K.told out.new; puts = K.puts out.new; faults = K.faults out.new }) result)) }
     // The words alone decide on the usage line.
     ensures usage { result ≡ 1 → asked_in (map string_bytes words.now) ≡ None }
     ensures used { asked_in (map string_bytes words.now) ≡ None → (result ≡ 1) ⊎ (result ≡ 5) }

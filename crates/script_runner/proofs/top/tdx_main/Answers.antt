@@ -1,6 +1,7 @@
 use Rattle.std.proofs.Common.{refl}
 use Rattle.script_runner.proofs.Promised.{all_histories, all_headlines, all_contents, only_usage, used}
 use Rattle.script_runner.proofs.Soaked.{of_soaks}
+use Rattle.script_runner.proofs.Verified.{of_verifies, all_verifies}
 use Rattle.script_runner.proofs.top.tdx_main.Goals as goal
 
 pub returns-clause-headline : goal.returns-clause-headline
@@ -17,6 +18,12 @@ returns-clause-by_contents g c =
 
 pub returns-clause-soak : goal.returns-clause-soak
 returns-clause-soak g c = of_soaks _ _ _ _ _ _ _ _ _ c.do_command.ensures.does
+
+pub returns-clause-verify : goal.returns-clause-verify
+returns-clause-verify g c = of_verifies _ _ _ _ _ _ _ _ _ c.do_command.ensures.does
+
+pub returns-clause-verify_contents : goal.returns-clause-verify_contents
+returns-clause-verify_contents g c = all_verifies _ _ _ _ _ _ _ _ _ c.do_command.ensures.does
 
 pub returns-clause-usage : goal.returns-clause-usage
 returns-clause-usage g c one = only_usage _ _ _ _ _ _ _ _ _ c.do_command.ensures.does one
