@@ -14,16 +14,12 @@ use Rattle.flat_core.specs.Opening.{Opening}
 use Rattle.flat_core.specs.Row.{Item, Passes}
 use Rattle.flat_core.specs.Conditions.{is_host}
 use Rattle.flat_core.specs.KeyRows.{reclaim_conditions}
-use Rattle.flat_core.specs.MemRows.{removed_states}
-use Rattle.flat_core.specs.Tracking.{tracked_page}
-use Rattle.flat_core.specs.Tree.{number_at, entry_at, empty_below}
+use Rattle.flat_core.specs.Tree.{entry_at}
 use Rattle.flat_core.specs.Inputs.{Input, input_in, tag_holds}
 use Rattle.flat_core.specs.ImportRows.{page_to_fill, fill_page}
-use Rattle.flat_core.specs.Lawful.{Lawful, IsAlive, is_free}
+use Rattle.flat_core.specs.Lawful.{Lawful, IsAlive}
 use Rattle.flat_core.specs.Table.{row_of}
 use Rattle.flat_core.proofs.Maps.{unlisted, node_named}
-use Rattle.flat_core.proofs.Ranges.{named_alive, page_removed, sept_removed}
-use Rattle.flat_core.proofs.Passed.{sept_passed, remove_passed, sept_remove_passed}
 use Rattle.flat_core.proofs.Parts.{IsLive}
 use Rattle.flat_core.proofs.Shapes.{Aspect, aspect_of, changes_root, Shape, notes, fills, takes, reclaims, unmaps, begins, changes_life, changes_op, changes_vp, enters, flushes, changes_entry, advances}
 use Rattle.flat_core.proofs.ShapeOf.{shape_of}
