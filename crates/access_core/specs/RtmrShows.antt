@@ -1,5 +1,5 @@
 -- The words of TDCS that an extension of an RTMR stores show its act.
-use Rattle.std.proofs.Common.{◌≡◌, ℕ, ◌+◌, ◌-◌, ◌*◌, ◌/◌, ◌%◌, ◌<◌, ◌≤◌, Bool, true, false, ◌==◌, ◌&&◌, nat_lt, List, [], ◌∷◌, Option, Some, refl, ap, sym, ◌∙◌, subst, arith}
+use Rattle.std.proofs.Common.{◌≡◌, ℕ, ◌+◌, ◌-◌, ◌*◌, ◌/◌, ◌%◌, ◌<◌, ◌≤◌, Bool, true, false, ◌==◌, ◌&&◌, nat_lt, List, Option, Some, refl, ap, sym, ◌∙◌, subst, arith}
 use Rattle.std.specs.Prelude.{nat_le}
 use Rattle.std.proofs.lemmas.Bool.{eq-eqb, eqb-true}
 use Rattle.std.proofs.lemmas.Bool.Decides.{nat_tests}
@@ -15,11 +15,10 @@ use Rattle.flat_core.proofs.Tests.{by_test}
 use Rattle.word_rules.specs.Lines.{in_lines}
 use Rattle.word_rules.specs.Rules.{RtmrWord}
 use Rattle.word_rules.specs.Spots.{or_unused, tdcs_classes}
-use Rattle.word_rules.specs.Cells.{Shows, IsAs, cell, td_lock_lines, tdcs_lines, lock_word}
+use Rattle.word_rules.specs.Cells.{Shows, IsAs, td_lock_lines, tdcs_lines, lock_word}
 use Rattle.lock_words.specs.LockWords.{put_word}
-use Rattle.leaf_parts.proofs.Aside.{aside, back, kept-but, tdcs-but}
 use Rattle.leaf_parts.proofs.Begun.{TwoControls}
-use Rattle.leaf_parts.proofs.Told.{tdcs-shown}
+use Rattle.leaf_parts.proofs.Stored.{tdcs-changed}
 use Rattle.access_core.specs.RtmrTrees.{rtmr_at}
 
 -- the line of an RTMR's word, and what it is
@@ -96,8 +95,8 @@ module _ (m : Machine) (words : WordPlace → ℕ) (slots : ℕ → Option (List
       (λ y. (let o : ((j - 16) / 6 == i) ≡ false = other y in rw (itself t, o) refl))
       (λ y. rw y refl)
 
-  word-here : (j : ℕ) → j < 512 → IsAs (in_lines (td_lock_lines locks t (tdcs_lines w' t)) j) (after (place.Word d j))
-  word-here j b =
+  word-here : (j : ℕ) → IsAs (in_lines (td_lock_lines locks t (tdcs_lines s.world t)) j) (words (place.Word d j)) → IsAs (in_lines (td_lock_lines locks t (tdcs_lines w' t)) j) (after (place.Word d j))
+  word-here j was =
       by_test (j == 16 + (6 * i + 5)) (λ e. hit j 5 (after (place.Word d j)) (omega arith) e (rw (itself d, e) refl)) (λ n5.
       by_test (j == 16 + (6 * i + 4)) (λ e. hit j 4 (after (place.Word d j)) (omega arith) e (rw (itself d, n5, e) refl)) (λ n4.
       by_test (j == 16 + (6 * i + 3)) (λ e. hit j 3 (after (place.Word d j)) (omega arith) e (rw (itself d, n5, n4, e) refl)) (λ n3.
@@ -107,33 +106,10 @@ module _ (m : Machine) (words : WordPlace → ℕ) (slots : ℕ → Option (List
       (let same : words (place.Word d j) ≡ after (place.Word d j) = rw (itself d, n5, n4, n3, n2, n1, n0) refl in
       let line = old-line j (λ y. grind (arith, nat_tests)) in
       subst (λ (x : ℕ). IsAs (in_lines (td_lock_lines locks t (tdcs_lines w' t)) j) x) same
-      (subst (λ (o : Option ℕ). IsAs o (words (place.Word d j))) (sym line) (tdcs-shown m words slots s sh t j d (z.root ∷ []) z.list z.tdcs_page alive.life z.tdcs_in b)))))))))
-
-  tdcs-word : (j : ℕ) → j < 512 → IsAs (cell (record s { world = w' }) (place.Word d j)) (after (place.Word d j))
-  tdcs-word j b =
-      let line : cell (record s { world = w' }) (place.Word d j) ≡ in_lines (td_lock_lines locks t (tdcs_lines w' t)) j = rw (z.tdcs_page.kind, z.tdcs_page.owner, alive.life, z.list, itself d) refl in
-      subst (λ (o : Option ℕ). IsAs o (after (place.Word d j))) (sym line) (word-here j b)
+      (subst (λ (o : Option ℕ). IsAs o (words (place.Word d j))) (sym line) was))))))))
 
   pub extended-shown : Shows m after slots (record s { world = w' })
   extended-shown = record {
-    word = back (kept-but w' (aside d m words s sh.word) (record {
-      kinds = refl;
-      owners = refl;
-      blocked = refl;
-      key_table = refl;
-      page = λ q o n. record {
-        words = λ j. refl;
-        tdr = λ is j. refl;
-        owned = λ h. record {
-          stands = λ y. y;
-          level = refl;
-          number = refl;
-          entries = λ l e. refl;
-          vp = λ j. refl;
-          stream = λ j. refl;
-          control = λ is y. tdcs-but refl (λ l e. refl) t d (z.root ∷ []) z.list o (λ u j. rw u refl);
-        };
-      };
-    })) after (λ r. refl) (λ r. refl) (λ k. refl) (λ r j o. rw o refl) tdcs-word;
+    word = tdcs-changed m s words t d z.root sh.word alive.life z.list z.tdcs_page z.tdcs_in w' (λ u n j. rw n refl) after (λ r. refl) (λ r. refl) (λ k. refl) (λ r j o. rw o refl) word-here;
     hasher = sh.hasher;
   }

@@ -23,12 +23,11 @@ use Rattle.word_rules.specs.Spots.{or_unused, tdcs_classes, stream_classes, is_c
 use Rattle.word_rules.specs.Permissions.{Respects, Owes}
 use Rattle.word_rules.specs.Cells.{Shows}
 use Rattle.lock_words.specs.Grips.{holds, holds_alone}
-use Rattle.lock_words.specs.LockWords.{TdStands}
 use Rattle.act_rules.proofs.Rows.{immutable-exported}
 use Rattle.leaf_engine.specs.declared.needs.Place.{Place}
 use Rattle.leaf_engine.specs.Changes.{Memory, Put, changed}
 use Rattle.leaf_engine.specs.Means.{Instant, Locks, Means, MeansRow, MayChange, MayOweAll, Work, work_of, OfCall, hold}
-use Rattle.leaf_parts.proofs.Begun.{IsTd, op_lock, page_lock, keys_lock}
+use Rattle.leaf_parts.proofs.Begun.{locks-kept, IsTd, op_lock, page_lock, keys_lock}
 use Rattle.leaf_parts.proofs.Checks.{spot_of, at-spot, at-tdcs, td-row-means}
 use Rattle.export_sessions.specs.declared.changes.Session.{Session}
 use Rattle.export_sessions.specs.SessionTrees.{stream_changes, td_puts, session_changes, numbered_tree, Exported, session_rest, with_mrtd, session_end, immutable_task}
@@ -82,9 +81,6 @@ module _ (m : Machine) (c : Instant) (t slot : ℕ) (la : Lawful m c.state.world
   op-alone = rw itself refl
 
   -- what it changes of words
-  stands-on : TdStands w t → TdStands w' t
-  stands-on a = record { alive = record { kind = a.alive.kind; life = a.alive.life }; has_tdcs = a.has_tdcs }
-
   respects : Respects g w w'
   respects = immutable-exported g w m t slot tdr-held op-alone
 
@@ -152,7 +148,7 @@ module _ (m : Machine) (c : Instant) (t slot : ℕ) (la : Lawful m c.state.world
         answers = record { reply_is = refl; cached_is = refl; enters_is = refl; notes_are = refl; tells_are = refl; bundles_are = rw (itself, none-before) refl };
         fills_allowed = tt;
         respects = respects;
-        locks_stay = ((refl, λ a. a), ((refl, stands-on), ((refl, λ a. a), tt)));
+        locks_stay = locks-kept w w' refl (λ u a. record { kind = a.kind; life = a.life }) held;
         shows = session-shown m slot c.state c.memory t sh la x some;
       },
       may-change,

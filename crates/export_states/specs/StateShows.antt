@@ -1,6 +1,6 @@
 -- Words that show a state show the one after an export once they say it: of a virtual processor the session of its export, of
 -- a TD whether its state and how many states of its virtual processors were exported.
-use Rattle.std.proofs.Common.{◌≡◌, ℕ, ◌<◌, true, ◌==◌, List, [], ◌∷◌, Option, refl, sym, subst}
+use Rattle.std.proofs.Common.{◌≡◌, ℕ, ◌<◌, true, ◌==◌, List, Option, refl, sym, subst}
 use Rattle.std.proofs.lemmas.Bool.{eq-eqb, eqb-true}
 use Rattle.td_words.specs.declared.names.PageKind.TheVariants as kind
 use Rattle.td_words.specs.declared.machines.Machine.{Machine}
@@ -8,16 +8,15 @@ use Rattle.td_words.specs.declared.places.TheConstants.{TDCS_TD_EXPORTED, TDCS_V
 use Rattle.td_words.specs.Place.{WordPlace}
 use Rattle.td_words.specs.Place as place
 use Rattle.flat_core.specs.World.{World, put}
-use Rattle.flat_core.specs.Processor.{LockId}
 use Rattle.flat_core.specs.Lawful.{IsAlive, IsPageOf}
 use Rattle.flat_core.specs.Event.{State}
 use Rattle.flat_core.proofs.Tests.{by_test}
 use Rattle.word_rules.specs.Lines.{in_lines}
-use Rattle.word_rules.specs.Cells.{Shows, IsAs, cell, lock_word, td_lock_lines, tdcs_lines, vp_lines}
+use Rattle.word_rules.specs.Cells.{Shows, IsAs, vp_lines}
 use Rattle.lock_words.specs.LockWords.{put_word}
-use Rattle.leaf_parts.proofs.Aside.{aside, back, kept-but, control-kept, tdcs-but}
+use Rattle.leaf_parts.proofs.Aside.{aside, back, kept-but, control-kept}
 use Rattle.leaf_parts.proofs.Begun.{TwoControls}
-use Rattle.leaf_parts.proofs.Told.{tdcs-shown}
+use Rattle.leaf_parts.proofs.Stored.{tdcs-stored}
 use Rattle.leaf_parts.proofs.Vps.{vp-shown}
 
 module _ (m : Machine) (words : WordPlace → ℕ) (slots : ℕ → Option (List ℕ)) (s : State) (t : ℕ) (sh : Shows m words slots s) (alive : IsAlive s.world.pages s.world.tds t) where
@@ -60,12 +59,6 @@ module _ (m : Machine) (words : WordPlace → ℕ) (slots : ℕ → Option (List
     }
 
   module _ (y : TwoControls m s.world t) (n : ℕ) where
-    abbrev locks : LockId → ℕ
-    locks = lock_word s.lps s.lp_count
-
-    there : (y.tdcs == y.tdcs) ≡ true
-    there = eq-eqb y.tdcs y.tdcs refl
-
     mine : (t == t) ≡ true
     mine = eq-eqb t t refl
 
@@ -76,28 +69,9 @@ module _ (m : Machine) (words : WordPlace → ℕ) (slots : ℕ → Option (List
     abbrev count-words : WordPlace → ℕ
     count-words = put_word words (place.Word y.tdcs TDCS_VPS_EXPORTED) n
 
-    count-line : (i : ℕ) → i < 512 → IsAs (in_lines (td_lock_lines locks t (tdcs_lines count-after t)) i) (count-words (place.Word y.tdcs i))
-    count-line i b = by_test (i == 13)
-        (λ e. rw (e, eqb-true i 13 e, there, mine) refl)
-        (λ o. (let was = tdcs-shown m words slots s sh t i y.tdcs (y.root ∷ []) y.list y.tdcs_page alive.life y.tdcs_in b in
-        let line : in_lines (td_lock_lines locks t (tdcs_lines count-after t)) i ≡ in_lines (td_lock_lines locks t (tdcs_lines w t)) i = rw o refl in
-        let same : words (place.Word y.tdcs i) ≡ count-words (place.Word y.tdcs i) = rw (there, o) refl in
-        subst (λ (x : ℕ). IsAs (in_lines (td_lock_lines locks t (tdcs_lines count-after t)) i) x) same (subst (λ (z : Option ℕ). IsAs z (words (place.Word y.tdcs i))) (sym line) was)))
-
     pub vps-counted : Shows m count-words slots (record s { world = count-after })
     vps-counted = record {
-      word = back (kept-but count-after (aside y.tdcs m words s sh.word) (record {
-        kinds = refl;
-        owners = refl;
-        blocked = refl;
-        key_table = refl;
-        page = λ q o n. record {
-          words = λ i. refl;
-          tdr = λ is i. refl;
-          owned = λ own. record { stands = λ z. z; level = refl; number = refl; entries = λ l e. refl; vp = λ i. refl; stream = λ i. refl; control = λ is z. tdcs-but refl (λ l e. refl) t y.tdcs (y.root ∷ []) y.list o (λ d i. rw d refl) };
-        };
-      })) count-words (λ r. refl) (λ r. refl) (λ k. refl) (λ r i o. rw o refl) (λ i b. (let line : cell (record s { world = count-after }) (place.Word y.tdcs i) ≡ in_lines (td_lock_lines locks t (tdcs_lines count-after t)) i = rw (y.tdcs_page.kind, y.tdcs_page.owner, alive.life, y.list, there) refl in
-          subst (λ (o : Option ℕ). IsAs o (count-words (place.Word y.tdcs i))) (sym line) (count-line i b)));
+      word = tdcs-stored m s words t y.tdcs y.root sh.word alive.life y.list y.tdcs_page y.tdcs_in count-after (λ u o i. rw o refl) 13 n (rw mine refl) (λ i o. rw o refl);
       hasher = sh.hasher;
     }
 
@@ -108,27 +82,8 @@ module _ (m : Machine) (words : WordPlace → ℕ) (slots : ℕ → Option (List
     abbrev td-words : WordPlace → ℕ
     td-words = put_word words (place.Word y.tdcs TDCS_TD_EXPORTED) n
 
-    td-line : (i : ℕ) → i < 512 → IsAs (in_lines (td_lock_lines locks t (tdcs_lines td-after t)) i) (td-words (place.Word y.tdcs i))
-    td-line i b = by_test (i == 12)
-        (λ e. rw (e, eqb-true i 12 e, there, mine) refl)
-        (λ o. (let was = tdcs-shown m words slots s sh t i y.tdcs (y.root ∷ []) y.list y.tdcs_page alive.life y.tdcs_in b in
-        let line : in_lines (td_lock_lines locks t (tdcs_lines td-after t)) i ≡ in_lines (td_lock_lines locks t (tdcs_lines w t)) i = rw o refl in
-        let same : words (place.Word y.tdcs i) ≡ td-words (place.Word y.tdcs i) = rw (there, o) refl in
-        subst (λ (x : ℕ). IsAs (in_lines (td_lock_lines locks t (tdcs_lines td-after t)) i) x) same (subst (λ (z : Option ℕ). IsAs z (words (place.Word y.tdcs i))) (sym line) was)))
-
     pub td-noted : Shows m td-words slots (record s { world = td-after })
     td-noted = record {
-      word = back (kept-but td-after (aside y.tdcs m words s sh.word) (record {
-        kinds = refl;
-        owners = refl;
-        blocked = refl;
-        key_table = refl;
-        page = λ q o n. record {
-          words = λ i. refl;
-          tdr = λ is i. refl;
-          owned = λ own. record { stands = λ z. z; level = refl; number = refl; entries = λ l e. refl; vp = λ i. refl; stream = λ i. refl; control = λ is z. tdcs-but refl (λ l e. refl) t y.tdcs (y.root ∷ []) y.list o (λ d i. rw d refl) };
-        };
-      })) td-words (λ r. refl) (λ r. refl) (λ k. refl) (λ r i o. rw o refl) (λ i b. (let line : cell (record s { world = td-after }) (place.Word y.tdcs i) ≡ in_lines (td_lock_lines locks t (tdcs_lines td-after t)) i = rw (y.tdcs_page.kind, y.tdcs_page.owner, alive.life, y.list, there) refl in
-          subst (λ (o : Option ℕ). IsAs o (td-words (place.Word y.tdcs i))) (sym line) (td-line i b)));
+      word = tdcs-stored m s words t y.tdcs y.root sh.word alive.life y.list y.tdcs_page y.tdcs_in td-after (λ u o i. rw o refl) 12 n (rw mine refl) (λ i o. rw o refl);
       hasher = sh.hasher;
     }

@@ -1,6 +1,6 @@
 -- Behind the beginning of its row the leaf that creates a virtual processor means the row.
-use Rattle.std.proofs.Common.{◌≡◌, ℕ, ◌+◌, ◌-◌, ◌<◌, ◌≤◌, true, false, ◌==◌, ◌&&◌, if◌then◌else◌, List, [], ◌∷◌, ◌++◌, length, Some, None, refl, ap, ◌∙◌, inl, inr, arith}
-use Rattle.std.specs.Prelude.{nat_le, nat_lt, not, drop}
+use Rattle.std.proofs.Common.{◌≡◌, ℕ, ◌+◌, ◌-◌, ◌<◌, ◌≤◌, Bool, true, false, ◌==◌, ◌&&◌, if◌then◌else◌, List, [], ◌∷◌, ◌++◌, length, Option, Some, None, refl, ap, ◌∙◌, inl, inr, arith}
+use Rattle.std.specs.Prelude.{nat_le, nat_lt, not}
 use Rattle.std.proofs.lemmas.Bool.{eq-eqb, ltb-true, lt-ltb, leb-true, not-true}
 use Rattle.std.proofs.lemmas.Bool.Decides.{nat_tests}
 use Rattle.td_words.specs.declared.names.PageKind.TheVariants as kind
@@ -31,7 +31,7 @@ use Rattle.leaf_parts.proofs.Acted.{opening}
 use Rattle.leaf_parts.proofs.Aside.{apart}
 use Rattle.leaf_parts.proofs.Begun.{IsTd}
 use Rattle.leaf_parts.proofs.Checks.{spot_of, at-spot, tdcs-load}
-use Rattle.leaf_parts.proofs.Lines.{each-may, zeros}
+use Rattle.leaf_parts.proofs.Lines.{each-may}
 use Rattle.leaf_parts.proofs.Vps.{vp-line, vp-class, vp-spot}
 use Rattle.vcpu_control.specs.VpTrees.{vp_list, create_room, create_rest}
 use Rattle.vcpu_control.specs.VpLocks.{td_locks, page_locks, td-held, op-held, held-td, held-op, held-page, alone-page, alone-op}
@@ -122,10 +122,14 @@ module _ (m : Machine) (c : Instant) (t p : ℕ) (la : Lawful m c.state.world) (
         (λ y. rw (itself t, a, entered-same (i - 6), y) refl)
 
     -- a word of its own page
+    or-zero : (b : Bool) (o : Option ℕ) → IsAs o 0 → IsAs (if b then Some 0 else o) 0
+    or-zero true o a = refl
+    or-zero false o a = a
+
     new-line : (i : ℕ) → IsAs (in_lines (vp_lines w' p) i) (if i == 0 then n else 0)
     new-line i = by_test (i == 0)
         (λ e. rw (itself p, e) refl)
-        (λ e. rw e (zeros (drop 1 (vp_lines w' p)) (rw (itself p) (refl, (refl, (refl, (refl, (refl, (λ r. refl, tt))))))) i))
+        (λ e. rw (itself p, e) (or-zero (i == 1) _ (or-zero (i == 2) _ (or-zero (i == 3) _ (or-zero (i == 4) _ (or-zero (i == 5) _ (or-zero (nat_le 8 i && nat_lt i 16) None tt)))))))
 
     -- the locks that it holds
     td : g.has (Locked (OfPage t)) ≡ true
