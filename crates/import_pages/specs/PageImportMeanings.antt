@@ -197,20 +197,20 @@ module _ (m : Machine) (c : Instant) (b : Option Incoming) (t slot page : ℕ) (
       counter-owes : Owes g w' (place.Word q 0) KeepsNothing
       counter-owes = at-spot g w' (place.Word q 0) (spot_of StreamWord t q) (λ z. owes z KeepsNothing) (stream-spot w' t q 0 (record { kind = stream.kind; owner = stream.owner })) (inr (inr (inl (locks.tdr, (locks.op, (sole, tt))))))
 
-      same : (import_page m b t slot page).act w ≡ act_by entry.Mapped
-      same = ap act_by is
+      acts-mapped : (import_page m b t slot page).act w ≡ act_by entry.Mapped
+      acts-mapped = ap act_by is
 
       mapped-ended : Means m c work mapped_locks (page_import_end m t x (record { at = at; page = p; children = None; room = room })) []
       mapped-ended = (
         record {
-          answers = record { reply_is = refl; cached_is = refl; enters_is = refl; notes_are = refl; tells_are = refl; bundles_are = ap (λ (v : World). v.outgoing.bundles) same };
+          answers = record { reply_is = refl; cached_is = refl; enters_is = refl; notes_are = refl; tells_are = refl; bundles_are = ap (λ (v : World). v.outgoing.bundles) acts-mapped };
           fills_allowed = tt;
-          respects = subst (λ (v : World). Respects g w v) (sym same) (leaves g w w' (all-same w w' refl (λ u. record { op = refl; controls = refl; epoch = refl; empty = λ z. refl; named = λ z. refl })) (λ z. refl) refl);
-          locks_stay = subst (λ (v : World). LocksStay w v mapped_locks) (sym same) (locks-kept w w' refl (λ u z. record { kind = z.kind; life = z.life }) mapped_locks);
-          shows = subst (λ (v : World). (let mem = changed_all (word_puts p ws 0 512 ++ counter_changes room) c.memory in Shows m mem.words mem.slots (record (c.state) { world = v }))) (sym same)
+          respects = subst (λ (v : World). Respects g w v) (sym acts-mapped) (leaves g w w' (all-same w w' refl (λ u. record { op = refl; controls = refl; epoch = refl; empty = λ z. refl; named = λ z. refl })) (λ z. refl) refl);
+          locks_stay = subst (λ (v : World). LocksStay w v mapped_locks) (sym acts-mapped) (locks-kept w w' refl (λ u z. record { kind = z.kind; life = z.life }) mapped_locks);
+          shows = subst (λ (v : World). (let mem = changed_all (word_puts p ws 0 512 ++ counter_changes room) c.memory in Shows m mem.words mem.slots (record (c.state) { world = v }))) (sym acts-mapped)
               (mapped-shown m c.state c.memory t p (page_of_gpa gpa) k ws sh y.alive node.page.kind stream in_stream);
         },
-        subst (λ (v : World). MayChange m g w v c.memory (word_puts p ws 0 512 ++ counter_changes room)) (sym same)
+        subst (λ (v : World). MayChange m g w v c.memory (word_puts p ws 0 512 ++ counter_changes room)) (sym acts-mapped)
             (puts-change m g w w' p ws inside word-owes (counter_changes room) (λ mem. (((in_stream, omega arith), (KeepsNothing, counter-owes, tt)), tt)) (word-writes 0) 512 (omega arith) (omega arith) c.memory),
       )
 
@@ -247,8 +247,8 @@ module _ (m : Machine) (c : Instant) (b : Option Incoming) (t slot page : ℕ) (
         abbrev node_taken : World
         node_taken = take_node page kind.Reg t 0 (number_at 0 (input_in b).header.gpa) c.state.world
 
-        same : (import_page m b t slot page).act w ≡ act_by entry.Free
-        same = ap act_by is
+        acts-free : (import_page m b t slot page).act w ≡ act_by entry.Free
+        acts-free = ap act_by is
 
         respects : Respects free_grip w (act_by entry.Free)
         respects =
@@ -295,14 +295,14 @@ module _ (m : Machine) (c : Instant) (b : Option Incoming) (t slot page : ℕ) (
         taken-ended : Means m c work taken_locks (page_import_end m t x (taking (children w t))) []
         taken-ended =
             map-end m c taken_locks mapping at may (put w.words page ws) (word_puts page ws 0 512) filled (import_page m b t slot page) (counter_changes room)
-            (ap (λ (v : World). v.pages) same) (ap (λ (v : World). v.tds.lives) same) (ap (λ (v : World). v.tds.controls) same)
-            (record { reply_is = refl; cached_is = refl; enters_is = refl; notes_are = refl; tells_are = refl; bundles_are = ap (λ (v : World). v.outgoing.bundles) same })
+            (ap (λ (v : World). v.pages) acts-free) (ap (λ (v : World). v.tds.lives) acts-free) (ap (λ (v : World). v.tds.controls) acts-free)
+            (record { reply_is = refl; cached_is = refl; enters_is = refl; notes_are = refl; tells_are = refl; bundles_are = ap (λ (v : World). v.outgoing.bundles) acts-free })
             (puts-fill m free_grip w (act_by entry.Free) page ws in_page (λ i. host-fills free_grip w page i host free-own) 0 512 (omega arith))
-            (subst (λ (v : World). Respects free_grip w v) (sym same) respects)
-            (subst (λ (v : World). (let mem = changed_all (counter_changes room) after in Shows m mem.words mem.slots (record (c.state) { world = v }))) (sym same)
+            (subst (λ (v : World). Respects free_grip w v) (sym acts-free) respects)
+            (subst (λ (v : World). (let mem = changed_all (counter_changes room) after in Shows m mem.words mem.slots (record (c.state) { world = v }))) (sym acts-free)
             (counted-shown m (record (c.state) { world = mapped mapping (put w.words page ws) w }) after t (page_of_gpa gpa) k ws
             (map-shown m c taken_locks mapping at may (put w.words page ws) (word_puts page ws 0 512) filled) y.alive.life stream-then in_stream))
-            (subst (λ (v : World). MayOweAll m free_grip v after (counter_changes room)) (sym same) (((in_stream, omega arith), (KeepsNothing, counter-then, tt)), tt))
+            (subst (λ (v : World). MayOweAll m free_grip v after (counter_changes room)) (sym acts-free) (((in_stream, omega arith), (KeepsNothing, counter-then, tt)), tt))
 
       pub free-means : Means m c work tree_locks (to_fill_tree t page at room entry.Free e.page further) (page_to_fill w t gpa page entry.Free ++ tag_holds x ∷ [])
       free-means =
