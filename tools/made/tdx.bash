@@ -7,13 +7,13 @@ _tdx() {
     run) options='--bundles --keys --secrets --out-bundles --guest-out' ;;
   esac
   if [[ $COMP_CWORD -eq 1 ]]; then
-    mapfile -t COMPREPLY < <(compgen -W 'replay run check soak' -- "$word")
+    mapfile -t COMPREPLY < <(compgen -W 'replay run check soak verify' -- "$word")
   elif [[ -n $options && $word == -* && $last != @(--bundles|--guest-out|--keys|--out-bundles|--secrets) ]]; then
     for option in $options; do
       [[ $before == *" $option "* ]] || left+=("$option")
     done
     mapfile -t COMPREPLY < <(compgen -W "${left[*]}" -- "$word")
-  elif [[ ${COMP_WORDS[1]} == @(replay|run|check) ]]; then
+  elif [[ ${COMP_WORDS[1]} == @(replay|run|check|verify) ]]; then
     compopt -o default
   fi
 }
