@@ -16,3 +16,5 @@ mod outputs;
 mod replays;
 #[cfg(test)]
 mod too_long;
+#[cfg(test)]
+mod verifies;
