@@ -48,6 +48,8 @@ def leave(number, _frame):
 
 
 signal.signal(signal.SIGTERM, leave)
+# A process that this one forks is ended as the system does it: Python's own way may come too late where it waits for a lock.
+os.register_at_fork(after_in_child=lambda: signal.signal(signal.SIGTERM, signal.SIG_DFL))
 
 
 class Folder:
