@@ -364,7 +364,7 @@ class Events:
 
     def of_call(self, words, reply, lists=()):
         """How many events a call had by its reply, and at most so many of one that has entered a guest whose list is
-        one of these."""
+        one of these, or that more than one condition of its row answers so."""
         status = reply.split()[0]
         fitting = [it for it in self.calls if it[0].fits(words)]
         demand(fitting, f"{LOCKS} has no row of {' '.join(words)}")

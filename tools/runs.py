@@ -5,8 +5,10 @@ import re
 from outside import TOP, ran
 
 TDX = TOP + "/tdx"
-# The options of `tdx replay`, each with a value: files that it reads, and files that it writes.
-INPUTS, OUTPUTS = ("--bundles", "--keys", "--secrets"), ("--out-bundles", "--guest-out")
+# The options of `tdx replay`, each with a value: files that it reads, of which `tdx-view` takes all but the last, and files
+# that it writes.
+VIEWED = ("--bundles", "--keys", "--secrets")
+INPUTS, OUTPUTS = (*VIEWED, "--report-key"), ("--out-bundles", "--guest-out")
 
 
 def lines_of(script):

@@ -162,7 +162,7 @@ def by_model(script, options):
 
 def of_run(script, options, replies):
     """The events of a run that gave these replies by their numbers, or None where nothing tells them."""
-    options = {name: value for name, value in options.items() if name in runs.INPUTS}
+    options = {name: value for name, value in options.items() if name in runs.VIEWED}
     for tells in (by_program, by_model):
         events = tells(script, options)
         if events and {f"{it.processor}.{it.line}": it.reply for it in events if it.reply is not None} == replies:

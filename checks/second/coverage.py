@@ -102,6 +102,11 @@ REFUSALS = {
         (*EARLY, *SESSION, *IMPORT, *WALKS, *states("FREE", "MAPPED", "PENDING", "BLOCKEDW"), *EXPORTED,
          "TLB_TRACKING_NOT_DONE"),
     ),
+    "MEM.PAGE.RELOCATE": (
+        (1, 2, 3, 4, 5, 6),
+        (*EARLY, *SESSION, *IMPORT, *WALKS, *states("FREE", "MAPPED", "PENDING", "BLOCKEDW"), *EXPORTED, THIRD,
+         "TLB_TRACKING_NOT_DONE"),
+    ),
     "MEM.RANGE.BLOCK": (
         (1, 2, 3, 4, 5),
         (*EARLY, *SESSION, *IMPORT, *WALKS, *states("FREE", "BLOCKED", "PENDING_BLOCKED", "NL_BLOCKED", "BLOCKEDW"),
@@ -182,6 +187,7 @@ OPERATIONS = {
         "completed at PENDING", "completed at MAPPED", *GAPS, "EPT_VIOLATION at FREE", "BUSY T", "BUSY P",
     ),
     "rtmr": ("completed", "BUSY R"),
+    "report": ("completed", "BUSY R"),
     "vmcall": ("VMCALL",),
 }
 # What a guest meets where memory is blocked.
@@ -231,14 +237,17 @@ BESIDE_GUESTS = {
     "MEM.RANGE.BLOCK": (*BESIDES, BEFORE),
     "MEM.RANGE.UNBLOCK": TAKING,
     "MEM.PAGE.REMOVE": TAKING,
+    "MEM.PAGE.RELOCATE": (
+        *TAKING, "SUCCESS at BLOCKED", "SUCCESS at PENDING_BLOCKED", "PAGE_METADATA_INCORRECT of the entry's own page",
+    ),
     "MEM.SEPT.REMOVE": TAKING,
     "EXPORT.MEM": TAKING,
     "MEM.TRACK": BESIDES,
-    # What is cached of a TD on a processor. None that was removed is kept: no page leaves a TD before that.
+    # What is cached of a TD on a processor. None that was removed or moved is kept: no page leaves a TD before that.
     "translations": (
         *(f"{what} {which}"
           for what in ("dropped for a new association", "dropped at a later epoch", "dropped by VP.FLUSH")
-          for which in ("as the map says", "of a blocked page", "of a page that was removed")),
+          for which in ("as the map says", "of a blocked page", "of a page that was removed", "where the map has another page")),
         "kept at an entry as the map says", "kept at an entry of a blocked page", "left of another TD",
     ),
     "guests at once": (*(f"{count}" for count in range(1, 9)), "of two TDs"),
@@ -247,6 +256,8 @@ BESIDE_GUESTS = {
 ENTERS = ("VP.ENTER",)
 
 
+# Who wants the key of reports.
+KEYLESS = {f"{command}: report key file" for command in ("replay", "run", "verify")}
 VERDICTS = {f"verify: {verdict}" for verdict in ("yes", "no LENGTH", "no HEX", "no MAGIC", "no MAC")}
 
 
@@ -262,7 +273,8 @@ def wanted():
     for outcomes in (OPERATIONS, BLOCKING, BESIDE_GUESTS, EXPORTING, IMPORTING):
         names.update(f"{name}: {came}" for name, all_came in outcomes.items() for came in all_came)
     names.update(f"reason {reason}" for reason in REASONS)
-    return names | command_lines.wanted() | {f"status {status}" for status in (*range(4), 6, "7 key file", "7 secrets file", "7 report key file")} | VERDICTS
+    statuses = (*range(4), 6, "7 key file", "7 secrets file", "7 report key file")
+    return names | command_lines.wanted() | {f"status {status}" for status in statuses} | VERDICTS | KEYLESS
 
 
 def name_of(name, arguments):
@@ -294,6 +306,8 @@ def of_answer(words, status, text, processors):
     and what came of guests and beside them."""
     yield from command_lines.reached(words, status)
     yield f"status {status} {text.strip()}" if status == 7 else f"status {status}"
+    if (status, text) == (7, "report key file\n"):
+        yield f"{words[0]}: report key file"
     if status == 0 and words[:1] == ["verify"]:
         yield f"verify: {'yes' if text.startswith('yes ') else text.strip()}"
     if status == 2:

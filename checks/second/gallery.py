@@ -31,6 +31,8 @@ def of_example(name, command, world=""):
         words, files = [*words, "--secrets", "secrets"], {**files, "secrets": texts[f"{world}secrets"]}
     if "keys" in texts:
         words, files = [*words, "--keys", "keys"], {**files, "keys": texts["keys"]}
+    if "report-key" in texts:
+        words, files = [*words, "--report-key", "report-key"], {**files, "report-key": texts["report-key"]}
     if "source" in texts:
         words, files = [*words, "--bundles", "arriving"], {**files, "arriving": arriving(name, texts["source"].decode().strip())}
     saved = {}

@@ -2,20 +2,18 @@
 
 A *story* tells lives of TDs, with other calls between them. A *race* has a TD somewhere in its life, and processors
 that call for the same pages and locks at once. A *crowd* has a TD that runs, processors that enter its VCPUs, and
-others that give it pages, block, track and remove them meanwhile. A *meeting* changes a map under a guest that is
+others that give it pages, block, track, move and remove them meanwhile. A *meeting* changes a map under a guest that is
 just on its way, exports its page, or lets guests in at once, as it comes rarely in a crowd. A *noise* has calls
 without any order. A *session* exports a TD as far as calls go, and tries all calls in one of its states; others
 enter its VCPUs meanwhile. An *arrival* takes in what a source of its own has sent, with bundles that somebody has
 turned among them; it tries all calls in one of its states, or its guests run in the end, or its token goes back to the
 source. Faulty scripts are one of these with bad lines put in. Last there are scripts at a limit
 of the grammar, and command lines that name no script. What comes rarely by chance, as a race for one call, comes in
-turn. Most scripts come with a container, a secrets file and a key file, a few of these with a bad one.
+turn. Most scripts come with a container, a secrets file, a key file and a report key file, a few of these with a bad one.
 
 A call that makes a bundle has the word SLOT in the place of its slot until its script is whole (`with_slots`).
 """
 
-import hashlib
-import hmac
 import random
 import struct
 
@@ -25,6 +23,7 @@ import hostile
 from bundles import ABORT_TOKEN, EPOCH_TOKEN, IMMUTABLE, MEMORY, START_TOKEN, TD_STATE, VCPU_STATE, Header
 from machine import Outside, run
 from program import processors_of
+from reports import KEY_BYTES, MOST_OF_A_LIST, report_of
 from rows import FIELDS, GPA_END, PAGE_BYTES, alignment
 from scripts import (
     BY_TOKEN, CALLS, CALLS_OF_A_PROCESSOR, ITEMS, OPERATIONS_OF_A_LIST, SCRIPT_END, SLOTS, call_of, number, read,
@@ -45,8 +44,8 @@ GIVES_UP = ("IMPORT.ABORT",)
 # Calls whose last conditions are met only where a TD's tree stands.
 DEEP = (
     "MR.EXTEND", "MEM.SEPT.ADD", "MEM.SEPT.RD", "MEM.PAGE.ADD", "MEM.PAGE.AUG", "VP.ENTER", "VP.FLUSH",
-    "MEM.SEPT.REMOVE", "MEM.PAGE.REMOVE", "MEM.RANGE.BLOCK", "MEM.RANGE.UNBLOCK", "EXPORT.RESTORE", "EXPORT.BLOCKW",
-    "EXPORT.UNBLOCKW", "EXPORT.MEM",
+    "MEM.SEPT.REMOVE", "MEM.PAGE.REMOVE", "MEM.PAGE.RELOCATE", "MEM.RANGE.BLOCK", "MEM.RANGE.UNBLOCK", "EXPORT.RESTORE",
+    "EXPORT.BLOCKW", "EXPORT.UNBLOCKW", "EXPORT.MEM",
 )
 
 # All calls, each as often as it is to come.
@@ -125,6 +124,7 @@ class Life:
         self.waiting = [pages.pop() for _ in range(min(chance.choice((1, 1, 2)), max(0, len(pages) - 1)))]
         self.spare = [pages.pop() for _ in range(len(pages) > 1)]  # of a table that comes and goes
         self.streams = [pages.pop() for _ in range(min(chance.choice((0, 1, 1, 4)), max(0, len(pages) - 8)))]
+        self.frames = [pages.pop() for _ in range(len(pages) > 4)]  # to which its private pages are moved
         self.gpa = chance.choice((0, 511, 513, 1 << 18, 3 << 33)) * PAGE_BYTES
         if like is not None:
             self.become(pages, like)
@@ -143,7 +143,7 @@ class Life:
 
     def owned(self):
         """The pages of the TD, without its TDR."""
-        return self.control + self.vcpus + self.tables + self.private + self.waiting + self.spare + self.streams
+        return self.control + self.vcpus + self.tables + self.private + self.waiting + self.spare + self.streams + self.frames
 
     def page_at(self, gpa):
         """The page that its life puts at that address."""
@@ -153,6 +153,9 @@ class Life:
     def pages_of(self, call):
         """The pages beside its TDR whose locks that call of its life tries."""
         name, *words = call.split()
+        if name == "MEM.PAGE.RELOCATE":
+            page = int(words[2], 0)
+            return [its for its in (self.page_at(int(words[1], 0)), *self.frames) if its != page] + [page]
         pages = [int(word) for kind, word in zip(CALLS[call_of(call)], words) if kind == "page"][1:]
         if pages or CALLS[name][1:2] != ("gpa",):
             return pages
@@ -191,11 +194,27 @@ class Life:
         """A TD's epoch that advances, or doesn't."""
         return [f"MEM.TRACK {self.td}"] * chance.choice((0, 1, 1, 1, 2))
 
+    def tracked(self, gpa):
+        """A block of a private page that is tracked."""
+        return [f"MEM.RANGE.BLOCK {self.td} {gpa} 0", f"MEM.TRACK {self.td}"]
+
+    def move(self, gpa, goes_back=False):
+        """A private page that is moved to another frame, or back to its own."""
+        return f"MEM.PAGE.RELOCATE {self.td} {gpa} {self.page_at(gpa) if goes_back else self.frames[0]}"
+
+    def move_round(self, chance, gpa):
+        """A private page that is blocked and moved, in most cases there and back."""
+        blocks = f"MEM.RANGE.BLOCK {self.td} {gpa} 0"
+        there = [blocks, *self.tracking(chance), self.move(gpa), *self.entries(chance)[: chance.randrange(2)]]
+        return there + [blocks, *self.tracking(chance), self.move(gpa, True)] * chance.choice((0, 1, 1))
+
     def page_round(self, chance):
-        """A private page that is blocked, and unblocked or removed."""
+        """A private page that is blocked, and unblocked, removed or moved."""
         if not self.gpas:
             return []
         gpa = chance.choice(self.gpas)
+        if self.frames and chance.random() < 0.25:
+            return self.move_round(chance, gpa)
         kept, gone = f"MEM.RANGE.UNBLOCK {self.td} {gpa} 0", f"MEM.PAGE.REMOVE {self.td} {gpa}"
         later = chance.choice(([kept], [kept], [gone], [gone, f"MEM.PAGE.AUG {self.td} {gpa} {self.page_at(gpa)}"]))
         return [f"MEM.RANGE.BLOCK {self.td} {gpa} 0", *self.tracking(chance), *later]
@@ -262,7 +281,8 @@ class Life:
             late = chance.random() < 0.3
             paused = [call for call in paused if not late or not call.startswith("EXPORT.MEM")]
             return live, paused, [self.token(1), self.token(0), *self.rest(chance)] * late + [self.token(1)]
-        names = (("MEM.RANGE.BLOCK", " 0"), ("MEM.RANGE.UNBLOCK", " 0"), ("MEM.PAGE.REMOVE", ""))
+        names = [("MEM.RANGE.BLOCK", " 0"), ("MEM.RANGE.UNBLOCK", " 0"), ("MEM.PAGE.REMOVE", "")]
+        names += [("MEM.PAGE.RELOCATE", f" {page}") for page in self.frames]
         left = [f"{name} {self.td} {gpa}{level}" for gpa in self.gpas or [self.gpa] for name, level in names]
         restores = [f"EXPORT.RESTORE {self.td} {gpa}" for gpa in self.gpas]
         again = [call for part in self.export(chance, chance.random() < 0.5) for call in part]
@@ -540,6 +560,8 @@ def race(chance, scene, turn):
     name, answered = tuple(CALLS)[due], []
     if name.startswith("EXPORT"):
         give_stream(scene, life)
+    if name == "MEM.PAGE.RELOCATE" and not life.frames:
+        life.frames = [scene.host.pop(0)] * (len(scene.host) > 4)
     for _ in range(20):
         if not answered:
             whole = led_to(chance, scene, life, name)
@@ -556,6 +578,9 @@ def race(chance, scene, turn):
     again = [chance.choice((whole[at], *whole[at : at + 4])) for _ in range(24)]
     if name in IN_ROUNDS:
         again = whole[at - 3 : at + 1] * 6
+    if name == "MEM.PAGE.RELOCATE":
+        gpa = int(whole[at].split()[2], 0)
+        again = [call for goes_back in (True, False) * 4 for call in (*life.tracked(gpa), life.move(gpa, goes_back))]
     if name in ("EXPORT.UNBLOCKW", "EXPORT.RESTORE"):
         blocks = whole[at].replace(name, "EXPORT.BLOCKW")
         again = [blocks, whole[at]] * 12
@@ -698,12 +723,20 @@ def crowd(chance, scene, _turn):
     return blocks, [(0, exact_events(scene, build))] + bursts(chance, range(scene.lps), 300 * scene.lps)
 
 
+def operations_of_list(operations):
+    """As many of these operations as a list may have, and of its reports."""
+    reports = [place for place, its in enumerate(operations) if its == "report"]
+    for place in reversed(reports[MOST_OF_A_LIST:]):
+        del operations[place]
+    return operations[:OPERATIONS_OF_A_LIST]
+
+
 def begins(scene, life, index, operations):
     """Lets the list of that VCPU begin with these operations."""
     head = f"code {life.td} {index}"
     old = next((block for block in scene.code if block[0] == head), [head, "end"])
     scene.code = [block for block in scene.code if block[0] != head]
-    scene.code.append([head, *(operations + old[1:-1])[:OPERATIONS_OF_A_LIST], "end"])
+    scene.code.append([head, *operations_of_list(operations + old[1:-1]), "end"])
 
 
 class Meeting:
@@ -775,6 +808,30 @@ class Meeting:
         self.meanwhile = [*self.perhaps_tracked(), self.ranged("MEM.PAGE.REMOVE", self.life.gpa), again]
         self.events = self.chance.randrange(4)
 
+    def moves_a_page(self):
+        """A page is moved beside a guest that entered behind the tracking, and perhaps before the next one, and back again."""
+        there, back = self.life.move(self.life.gpa), self.life.move(self.life.gpa, True)
+        self.before = self.life.tracked(self.life.gpa)
+        self.meanwhile = [*self.perhaps_tracked(), there, *self.life.tracked(self.life.gpa), back, there]
+        self.events = self.chance.randrange(6)
+
+    def moves_a_page_that_is_stored_to(self):
+        """A guest stores by its translation until it leaves, behind the block and behind the tracking; then the page is
+        moved, and a second guest loads it."""
+        self.stores()
+        begins(self.scene, self.life, 1, [f"load 2 {self.life.gpa:#x}"])
+        moves = self.life.move(self.life.gpa)
+        self.meanwhile = [*self.life.tracked(self.life.gpa), moves, moves, self.ranged("MEM.SEPT.RD", self.life.gpa, 0)]
+        self.entries, self.events = [self.enter(0, 3), self.enter(1), self.enter(0)], 5 + self.visit % 3
+
+    def measures_at_once(self):
+        """Of two guests one measures or makes a report just when the other one does."""
+        operations = (["rtmr 1", "report"], ["report", "rtmr 1"])
+        begins(self.scene, self.life, 0, operations[self.visit % 2])
+        begins(self.scene, self.life, 1, operations[self.visit // 2 % 2])
+        self.entries, self.events = [self.enter(0), self.enter(0)], self.chance.choice((1, 2))
+        self.meanwhile = [self.enter(1), self.enter(1)]
+
     def removes_a_table(self):
         """The same of a page of the secure EPT."""
         self.lists({0: self.beyond})
@@ -793,11 +850,12 @@ class Meeting:
         self.entries = [self.enter(index) for index in range(3)]
 
     def moves_a_vcpu(self):
-        """A VCPU comes to a processor that has cached what was removed since, or the one that cached it is flushed, or
-        enters again."""
+        """A VCPU comes to a processor that has cached what was removed or moved since, or the one that cached it is flushed,
+        or enters again."""
         flush = f"VP.FLUSH {self.life.td} {self.life.vcpus[1]}"
         self.entries = [self.enter(1, 1), (self.enter(0), flush, self.enter(1, 1))[self.visit % 3], self.enter(0)]
-        self.meanwhile = [*self.block(self.life.gpa, 0), self.ranged("MEM.PAGE.REMOVE", self.life.gpa)]
+        leaves = (self.ranged("MEM.PAGE.REMOVE", self.life.gpa), self.life.move(self.life.gpa))[self.visit // 3 % 2]
+        self.meanwhile = [*self.block(self.life.gpa, 0), leaves]
         self.events = 5 + 4
 
     def flushes_another(self):
@@ -848,8 +906,9 @@ class Meeting:
 
 MEETINGS = (
     Meeting.blocks_under_a_walk, Meeting.makes_the_way, Meeting.takes_a_block_back, Meeting.removes_a_page,
-    Meeting.removes_a_table, Meeting.finds_nothing, Meeting.moves_a_vcpu, Meeting.flushes_another,
-    Meeting.blocks_writes_under_a_walk, Meeting.exports_a_page, Meeting.shares_a_processor,
+    Meeting.moves_a_page, Meeting.moves_a_page_that_is_stored_to, Meeting.removes_a_table, Meeting.finds_nothing,
+    Meeting.moves_a_vcpu, Meeting.flushes_another, Meeting.measures_at_once, Meeting.blocks_writes_under_a_walk,
+    Meeting.exports_a_page, Meeting.shares_a_processor,
 )
 # Two more kinds of meetings, which have guests in at once: of two TDs, or eight of one TD.
 KINDS = len(MEETINGS) + 2
@@ -862,7 +921,7 @@ def meeting(chance, scene, turn):
     if kind >= len(MEETINGS):
         return at_once(chance, scene)
     life = scene.lives[0]
-    if not all(life.spare and life.first_waiting for life in scene.lives[: 1 + (kind in OF_TWO_TDS)]):
+    if not all(life.spare and life.frames and life.first_waiting for life in scene.lives[: 1 + (kind in OF_TWO_TDS)]):
         return crowd(chance, scene, turn)
     give_stream(scene, life)
     scene.lps = chance.choice((3, 3, 4))
@@ -1154,7 +1213,7 @@ def text_of(lines):
 
 # What a guest operation may do, on memory that its TD has, and on other memory.
 ACCESSES = ("load", "store", "load shared", "store shared", "accept")
-KINDS_OF_OPERATIONS = ("set", "secret", "add", "rtmr", "vmcall", "load", *ACCESSES)
+KINDS_OF_OPERATIONS = ("set", "secret", "add", "rtmr", "report", "vmcall", "load", *ACCESSES)
 BAD_KINDS = (*ACCESSES, "load shared", "store shared")
 
 
@@ -1188,6 +1247,8 @@ def operation(chance, scene, life, own, bad):
         return f"accept {page_written.format(gpa - gpa % PAGE_BYTES)}"
     if kind == "rtmr":
         return f"rtmr {rtmr}"
+    if kind == "report":
+        return kind
     if kind == "vmcall":
         return f"vmcall {register}"
     return f"{kind.split()[0]} {register} {gpa_written.format(gpa)}"
@@ -1203,11 +1264,13 @@ def list_of(chance, scene, life, index):
         begin += [f"{chance.choice(('load', 'store'))} {chance.randrange(8)} {gpa}" for gpa in life.gpas * 2]
     if chance.random() < 0.2:
         begin += [f"rtmr {chance.randrange(4)}"] * 20
+    if chance.random() < 0.3:
+        begin.insert(chance.randint(0, len(begin)), "report")
     spoilt = chance.choice((0, 0.01, 0.05, 0.3))
     count = chance.choice((0, 4, 20, 60, 200))
     own = life.vcpus[index]
     operations = [operation(chance, scene, life, own, chance.random() < spoilt) for _ in range(count)]
-    return [f"code {life.td} {index}", *(begin + operations)[:OPERATIONS_OF_A_LIST], "end"]
+    return [f"code {life.td} {index}", *operations_of_list(begin + operations), "end"]
 
 
 def code_block(chance, scene, vcpu):
@@ -1221,10 +1284,11 @@ def code_block(chance, scene, vcpu):
         lambda: f"{chance.choice(('load', 'store'))} {chance.randrange(8)} {scene.written(chance.choice(gpa))}",
         lambda: f"accept {scene.written(chance.choice(gpa) % GPA_END // PAGE_BYTES * PAGE_BYTES)}",
         lambda: f"rtmr {chance.randrange(4)}",
+        lambda: "report",
         lambda: f"vmcall {chance.randrange(8)}",
     )
     operations = [chance.choice(makes)() for _ in range(chance.choice((0, 1, 8, 20, OPERATIONS_OF_A_LIST)))]
-    return [f"code {vcpu[0]} {vcpu[1]}", *operations, "end"]
+    return [f"code {vcpu[0]} {vcpu[1]}", *operations_of_list(operations), "end"]
 
 
 def code_blocks(chance, scene):
@@ -1295,7 +1359,8 @@ BAD_INSIDE = (
     "HOST.READ 0 0x", "HOST.READ -1 0", "HOST.READ 0 18446744073709551616", "HOST.READ 0 0x10000000000000000",
     "HOST.READ 0X1 0", "HOST.READ 0 0xfg", "MNG.RD 1", "MNG.RD 1 LIF", "MNG.RD 1 life", "MNG.RD 7 NOFIELD",
     "MNG.RD 7 OPS", "MNG.RD 0 mrtd", "MNG.RD x LIF", "MNG.RD x OP", "MNG.RD 1 OP OP", "MNG.RD OP 1",
-    "MEM.PAGE.RELOCATE 1 0 2", "MEM.TRACK", "EXPORT.ABORT", "EXPORT.ABORT 1 x", "EXPORT.ABORT x", "EXPORT.ABORT x 2",
+    "MEM.PAGE.RELOCATE 1 0", "MEM.PAGE.RELOCATE 1 x 2 3", "MEM.PAGE.RELOCATE 1 0 x", "report", "MEM.TRACK",
+    "EXPORT.ABORT", "EXPORT.ABORT 1 x", "EXPORT.ABORT x", "EXPORT.ABORT x 2",
     "EXPORT.ABORT 1 2 3", "EXPORT.TRACK 1 2", "EXPORT.TRACK x 4096 1", "EXPORT.STATE.TD 1 4096",
     "EXPORT.STATE.IMMUTABLE 1 18446744073709551615", "EXPORT.STATE.VP 1 2 0x1000", "EXPORT.STATE.TD 1 {slot}",
     "EXPORT.TRACK 1 {slot} x", "EXPORT.STATE.TD 1 4095\nEXPORT.TRACK 1 4095 0",
@@ -1312,7 +1377,8 @@ BAD_IN_CODE = (
     "set 0 0 0", "add 0 8", "add 8 0", "add 7 7 7", "add 0 r1", "load 0 4", "load 0 0x1000000000000",
     "load 8 0", "load 0", "store 0 0xffffffffffff", "store x 4", "store 7 0 0", "accept 0x1008",
     "accept 0x800000000000", "accept", "accept 0 0", "accept x", "rtmr 4", "rtmr", "rtmr x", "vmcall 8",
-    "vmcall 0 0", "vmcall -1", "vmcall\t0", "{full}",
+    "vmcall 0 0", "vmcall -1", "vmcall\t0", "{full}", "report 0", "report x", "Report", "reports",
+    "report\nreport\nreport\nreport\nreport", "report\nreport\nreport\nreport\nreport 0",
 )
 FIRST_LINES = ("", "end", "foo", "lp 0", "machine", "machine 1 8", "machine 1 8 x", "machine 0 8 1", "machine 9 8 x",
                "machine 9 8 1", "machine 8 7 1", "machine 8 1025 1", "machine 1 8 0", "machine 1 8 16", "schedule 0",
@@ -1431,11 +1497,18 @@ COMMANDS = (
     "verify renamed rkey", "verify letter rkey", "verify report other", "verify report rkey47", "verify report rkey49",
     "verify report far", "verify far rkey", "verify empty rkey", "verify none rkey47", "verify report none",
     "verify none none", "verify rkey rkey", "verify report", "verify report rkey rkey", "verify report rkey --keys keys",
+    "replay reporting", "run reporting", "check reporting", "replay reporting --report-key report-key", "run reporting --report-key=rkey",
+    "replay reporting --report-key rkey47", "run script --report-key rkey49", "replay script --report-key far",
+    "replay script --report-key none", "replay reporting --secrets short", "replay reporting --report-key empty --secrets long",
+    "replay script --report-key none --keys short", "replay reporting --keys short", "check reporting --report-key rkey",
+    "replay --report-key rkey script --report-key rkey", "replay reporting --secrets none", "verify report --report-key rkey",
+    "replay script --secrets secrets --report-key rkey47 --guest-out guest", "run reporting --report-key", "soak 1 --report-key rkey",
 )
-# A report and its key: facts of any bytes, and their MAC.
-REPORT_KEY = bytes(range(7, 55))
-REPORT_TEXT = b"TDXREP01" + bytes((7 * at) % 256 for at in range(304))
-REPORT = (REPORT_TEXT + hmac.digest(REPORT_KEY, REPORT_TEXT, hashlib.sha384)).hex().encode() + b"\n"
+# A report and its key, of facts of any bytes.
+REPORT_KEY = bytes(range(7, 7 + KEY_BYTES))
+MEASURED = bytes((7 * at) % 256 for at in range(240))
+RTMRS = [MEASURED[at : at + 48] for at in range(48, 240, 48)]
+REPORT = report_of(REPORT_KEY, MEASURED[:48], RTMRS, range(8)).hex().encode() + b"\n"
 # What stands beside the script then: files in form, and others that are cut short or too long.
 OTHERS = {
     "secrets": bytes(range(256)) * 16,
@@ -1456,6 +1529,8 @@ OTHERS = {
     "renamed": b"6" + REPORT[1:],
     "letter": b"g" + REPORT[1:],
     "rkey": REPORT_KEY,
+    "report-key": REPORT_KEY[::-1],
+    "reporting": b"machine 1 8 1\ncode 1 0\nreport\nend\n",
     "other": REPORT_KEY[::-1],
     "rkey47": REPORT_KEY[1:],
     "rkey49": REPORT_KEY + b"\0",
@@ -1465,6 +1540,7 @@ LINES = 12  # random ones beside three of COMMANDS
 # Lengths that a secrets file may not have, and those that a key file may not have.
 BAD_LENGTHS = (0, 1, 8, 64, 512, 4088, 4095, 4097, 4104, 8192, 65_536, 65_537)
 BAD_KEYS = (0, 1, 32, 63, 65, 128, 4096, 65_537)
+BAD_REPORT_KEYS = (0, 1, 47, 49, 64, 720, 65_537)
 
 
 def secrets_of(chance):
@@ -1480,11 +1556,11 @@ def secrets_of(chance):
     return struct.pack("<512Q", *words)
 
 
-def with_secrets(chance, words, script):
-    """Those words of a command line with a secrets file, in most cases, and all files: now and then one that isn't
-    there, or that hasn't its length."""
+def with_secrets(chance, is_sure, words, script):
+    """Those words of a command line with a secrets file, surely or in most cases, and all files: now and then one that
+    isn't there, or that hasn't its length."""
     files = {"script": script}
-    draw = chance.random()
+    draw = max(is_sure, chance.random())
     if draw < 0.2:
         return words, files
     if draw > 0.03 + 0.2:
@@ -1508,6 +1584,15 @@ def with_keys(chance, scene, is_sure, words, files):
     return [*words, "--keys", "keys"], files
 
 
+def with_report_key(chance, is_sure, words, files):
+    """The same with a report key file, surely or in nearly all cases."""
+    draw = max(is_sure, chance.random())
+    if draw < 0.02:
+        return words, files
+    files["report-key"] = chance.randbytes(KEY_BYTES) if draw > 0.025 else bytes(chance.choice(BAD_REPORT_KEYS))
+    return [*words, "--report-key", "report-key"], files
+
+
 def case(seed, place):
     """The case at that place: the words of command lines, and the files that are there by their names."""
     chance = Chance(f"{seed} {place}")
@@ -1517,7 +1602,8 @@ def case(seed, place):
         files = {"script": text_of(["machine 1 8 1"]), **OTHERS}
         return given + [command_lines.line(chance, files) for _ in range(LINES)], files
     script, scene = script_of(chance, round_, kind)
-    words, files = with_keys(chance, scene, kind in RACES, *with_secrets(chance, ["replay", "script"], script))
+    words, files = with_keys(chance, scene, kind in RACES, *with_secrets(chance, kind in RACES, ["replay", "script"], script))
+    words, files = with_report_key(chance, kind in RACES, words, files)
     if scene is not None:
         words, files = [*words, "--bundles", "bundles"], {**files, "bundles": bundles.container_of(scene.inputs)}
     return [words], files
@@ -1529,7 +1615,8 @@ def migration(seed, place):
     chance = Chance(f"migration {seed} {place}")
     round_, kind = divmod(place, len(MIGRATIONS))
     script, scene = script_of(chance, round_, MIGRATIONS[kind])
-    words, files = with_keys(chance, scene, True, *with_secrets(chance, ["replay", "script"], script))
+    words, files = with_keys(chance, scene, True, *with_secrets(chance, False, ["replay", "script"], script))
+    words, files = with_report_key(chance, True, words, files)
     its = scene.source
     lines = [f"machine 1 {its.scene.size} {its.scene.hkids}", "lp 0", *its.calls, "end", *joined(its.scene.code)]
     files |= {"source": text_of(lines), "bundles": bundles.container_of(scene.inputs)}

@@ -4,6 +4,7 @@ import hashlib
 import struct
 
 from machine import EXCLUSIVELY, SHARED
+from reports import report_of
 from rows import GPA_END, PAGE_BYTES, entry_key, entry_state
 
 READABLE = ("MAPPED", "BLOCKEDW", "EXPORTED_BLOCKEDW", "EXPORTED_DIRTY", "EXPORTED_DIRTY_BLOCKEDW")
@@ -25,8 +26,10 @@ def meet_translations(processor, td_page, what):
     for _, number, page, _ in (kept for kept in processor.translations if kept[0] == td_page):
         gpa = number * PAGE_BYTES
         entry = td.entries.get(entry_key(gpa, 0))
-        if entry is None or entry.page != page:
+        if entry is None:
             which = "of a page that was removed"
+        elif entry.page != page:
+            which = "where the map has another page"
         elif is_reached(td, gpa, 0) and entry.state in READABLE:
             which = "as the map says"
         else:
@@ -166,6 +169,17 @@ class Guest:
         added = struct.pack("<6Q", *self.vcpu.registers[:6])
         self.td.rtmrs[place] = hashlib.sha384(self.td.rtmrs[place] + added).digest()
         self.note(f"rtmr {place} {self.td.rtmrs[place].hex()}")
+        self.complete()
+        yield
+        yield from self.release()
+        return None
+
+    def report(self):
+        """`report`"""
+        if not (yield from self.attempt(("R", self.td_page), SHARED)):
+            return "BUSY R"
+        key, mrtd = self.machine.outside.report_key, bytes.fromhex(self.td.mrtd)
+        self.note(f"report {report_of(key, mrtd, self.td.rtmrs, self.vcpu.registers).hex()}")
         self.complete()
         yield
         yield from self.release()
@@ -318,5 +332,6 @@ OPERATIONS = {
     "store": Guest.store,
     "accept": Guest.accept,
     "rtmr": Guest.rtmr,
+    "report": Guest.report,
     "vmcall": Guest.vmcall,
 }

@@ -3,7 +3,7 @@
 import guests
 from machine import EXCLUSIVELY, SHARED
 from rows import (
-    entry_key, need, need_entry, need_life, of_page, td_at, td_with_op, vcpu_at, walk,
+    entry_key, need, need_entry, need_free, need_life, of_page, td_at, td_with_op, vcpu_at, walk,
 )
 
 EPOCH_END = 2**32 - 1
@@ -15,6 +15,7 @@ ARGUMENTS = {
     "VP.FLUSH": ("page", "page"),
     "MEM.SEPT.REMOVE": ("page", "gpa", "upper level"),
     "MEM.PAGE.REMOVE": ("page", "gpa"),
+    "MEM.PAGE.RELOCATE": ("page", "gpa", "page"),
     "MEM.RANGE.BLOCK": ("page", "gpa", "level"),
     "MEM.RANGE.UNBLOCK": ("page", "gpa", "level"),
     "MEM.TRACK": ("page",),
@@ -132,6 +133,30 @@ def page_remove(machine, td_page, gpa):
     return remove(machine, td, td_page, key, "MEM.PAGE.REMOVE")
 
 
+def page_relocate(machine, td_page, gpa, page):
+    """MEM.PAGE.RELOCATE TDR GPA PAGE"""
+    td, key = yield from td_running(machine, td_page, gpa, 0)
+    need_entry(td, gpa, 0, "BLOCKED", "PENDING_BLOCKED")
+    entry = td.entries[key]
+    yield of_page(entry.page, EXCLUSIVELY)
+    if page == entry.page:
+        machine.met.append("MEM.PAGE.RELOCATE: PAGE_METADATA_INCORRECT of the entry's own page")
+    need(page != entry.page, f"PAGE_METADATA_INCORRECT {page}")
+    yield of_page(page, EXCLUSIVELY)
+    need_free(machine, page)
+    need_tracked(machine, td, entry.page, "MEM.PAGE.RELOCATE")
+
+    def effect():
+        meet_guests(machine, td, "MEM.PAGE.RELOCATE")
+        old, was = entry.page, entry.state
+        machine.takes(td_page, page, "PT_REG", machine.pages[old].words)
+        entry.page, entry.state = page, UNBLOCKED[was]
+        machine.gives_back(td_page, old)
+        machine.met.append(f"MEM.PAGE.RELOCATE: SUCCESS at {was}")
+
+    return effect
+
+
 def range_block(machine, td_page, gpa, level):
     """MEM.RANGE.BLOCK TDR GPA LEVEL"""
     td, key = yield from td_running(machine, td_page, gpa, level)
@@ -181,6 +206,7 @@ ROWS = {
     "VP.FLUSH": vp_flush,
     "MEM.SEPT.REMOVE": sept_remove,
     "MEM.PAGE.REMOVE": page_remove,
+    "MEM.PAGE.RELOCATE": page_relocate,
     "MEM.RANGE.BLOCK": range_block,
     "MEM.RANGE.UNBLOCK": range_unblock,
     "MEM.TRACK": mem_track,

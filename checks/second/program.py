@@ -1,8 +1,6 @@
 """The program's command line, statuses and texts of docs/profile.md: its five commands, as they are built and with
 what is to come."""
 
-import hashlib
-import hmac
 import re
 import struct
 from functools import partial
@@ -10,19 +8,18 @@ from functools import partial
 from bundles import BadContainer, bundles_of, container_of
 from calls import row
 from machine import Machine, Outside, Processor, run
+from reports import KEY_BYTES, verdict
 from scripts import Fault, read
 from soak import soak_line
 
 USAGE = (
-    "usage: tdx replay|run SCRIPT [--bundles F] [--keys F] [--secrets F] [--out-bundles F] [--guest-out F]"
+    "usage: tdx replay|run SCRIPT [--bundles F] [--keys F] [--secrets F] [--out-bundles F] [--guest-out F] [--report-key F]"
     " | tdx check SCRIPT | tdx soak N | tdx verify FILE KEY"
 )
-INPUTS = ("--bundles", "--keys", "--secrets")
-OPTIONS = (*INPUTS, "--out-bundles", "--guest-out")
+INPUTS = ("--bundles", "--keys", "--secrets", "--report-key")
+OPTIONS = ("--bundles", "--keys", "--secrets", "--out-bundles", "--guest-out", "--report-key")
 SECRETS = "<512Q"
 MOST_SOAKED = 512
-REPORT_KEY = 48
-REPORT_PARTS = (8, 56, 104, 152, 200, 248, 312)
 
 
 class Ended(Exception):
@@ -146,9 +143,11 @@ def outside_of(script, files, late_pages=False):
         raise Ended(7, "key file\n")
     if len(files.get("--secrets", bytes(4096))) != 4096:
         raise Ended(7, "secrets file\n")
+    if len(files.get("--report-key", bytes(0 if script.reports else KEY_BYTES))) != KEY_BYTES:
+        raise Ended(7, "report key file\n")
     secrets = struct.unpack(SECRETS, files.get("--secrets", bytes(4096)))
-    keys = files.get("--keys", bytes(64))
-    return Outside(script.code, files["--bundles"], keys, secrets, late_pages=late_pages)
+    keys, report_key = files.get("--keys", bytes(64)), files.get("--report-key", bytes(KEY_BYTES))
+    return Outside(script.code, files["--bundles"], keys, secrets, late_pages=late_pages, report_key=report_key)
 
 
 def run_of(runs, name, options, load, late_pages):
@@ -177,24 +176,10 @@ def soak(number, _options, _load, _late_pages):
     return soak_line(int(number), read, replay), {}, []
 
 
-def verdict(report, key):
-    """What the file of a report says under a key."""
-    if len(report) != 721 or report[720:] != b"\n":
-        return "no LENGTH"
-    if not re.fullmatch(b"[0-9a-fA-F]{720}", report[:720]):
-        return "no HEX"
-    text = bytes.fromhex(report[:720].decode())
-    if text[:8] != b"TDXREP01":
-        return "no MAGIC"
-    if hmac.digest(key, text[:312], hashlib.sha384) != text[312:]:
-        return "no MAC"
-    return " ".join(["yes", *(text[at:end].hex() for at, end in zip(REPORT_PARTS, REPORT_PARTS[1:]))])
-
-
 def verify(names, _options, load, _late_pages):
     """The text of `verify`, which saves no file and runs nothing."""
     report, key = (loaded(name, load) for name in names)
-    if len(key) != REPORT_KEY:
+    if len(key) != KEY_BYTES:
         raise Ended(7, "report key file\n")
     return f"{verdict(report, key)}\n", {}, []
 

@@ -21,7 +21,7 @@ BUILD = (
 SECOND_VCPU = ("VP.CREATE 1 9", "VP.INIT 1 9 0")
 SHARED = (1 << 47) + 20 * 4096
 ENTERS, SECOND_ENTERS = "VP.ENTER 1 4 65535", "VP.ENTER 1 9 65535"
-KEYS = bytes(range(64))
+KEYS, REPORT_KEY = bytes(range(64)), bytes(range(48))
 WAITING_PAGE = 24  # of processor 0; each processor has one of its own
 PASS = "add 6 7"
 
@@ -87,15 +87,16 @@ def shares_a_word(chance):
 
 
 def extends_and_accepts(chance):
-    """Guests extend one RTMR, or accept one page."""
-    code = [chance.choice((["rtmr 0"], ["accept 4096"], ["accept 4096", "rtmr 0"])) for _ in (0, 1)]
+    """Guests extend one RTMR, make reports of it, or accept one page."""
+    code = [chance.choice((["rtmr 0"], ["report"], ["accept 4096"], ["accept 4096", "rtmr 0"])) for _ in (0, 1)]
     lists, (first, second) = two_guests(*code)
     return lists, [[*first[:-1], "MEM.PAGE.AUG 1 4096 10", ENTERS, ENTERS], second]
 
 
 def takes_memory_away(chance):
-    """A page is blocked, tracked and removed beside its guest."""
-    host = ["MEM.RANGE.BLOCK 1 0 0", "MEM.TRACK 1", "MEM.PAGE.REMOVE 1 0", "HOST.READ 8 0"]
+    """A page is blocked, tracked and removed or moved beside its guest."""
+    leaves = chance.choice(("MEM.PAGE.REMOVE 1 0", "MEM.PAGE.RELOCATE 1 0 9"))
+    host = ["MEM.RANGE.BLOCK 1 0 0", "MEM.TRACK 1", leaves, "HOST.READ 8 0"]
     blocks = [["HOST.WRITE 0 0 5", *BUILD, "MR.FINALIZE 1", *host[: chance.randint(2, 4)]], [ENTERS]]
     return {0: ["load 1 0", "load 1 0"]}, blocks
 

@@ -4,6 +4,7 @@ import functools
 import re
 
 from calls import ARGUMENTS
+from reports import MOST_OF_A_LIST
 from rows import FIELDS, GPA_END
 
 SCRIPT_END = 1 << 24
@@ -31,6 +32,7 @@ OPERATIONS = {
     "store": (REGISTER, range(0, 2 * GPA_END, 8)),
     "accept": (range(0, GPA_END, 4096),),
     "rtmr": (range(4),),
+    "report": (),
     "vmcall": (REGISTER,),
 }
 SLOTS = range(4096)
@@ -136,6 +138,7 @@ class Script:
         self.code = {}  # by TDR page and index: operations
         self.slots = set()
         self.seals = False  # whether a call seals or opens a bundle
+        self.reports = False  # whether a guest makes a report
         self.block = None  # the list into which lines go, and what reads them
 
     def line(self, first, line):
@@ -208,6 +211,9 @@ class Script:
         """Reads a guest operation."""
         operation = operation_in(line)
         need(len(code) < OPERATIONS_OF_A_LIST, "FULL")
+        if operation == ("report",):
+            need(code.count(operation) < MOST_OF_A_LIST, "FULL")
+            self.reports = True
         code.append(operation)
 
 

@@ -7,6 +7,7 @@ import built
 import generator
 import program
 from gallery import examples
+from tracing import INPUTS
 
 VIEW = os.path.join(built.TOP, "crates", "tdx_view", "out", "tdx_view")
 
@@ -24,9 +25,9 @@ def cases(count, seed):
 
 
 def inputs_of(words):
-    """These words without the files that are saved."""
+    """These words without the files that are saved, and without the report key."""
     (name,), options = program.options_of(words)
-    return [name, *(word for option in program.INPUTS if option in options for word in (option, options[option]))]
+    return [name, *(word for option in INPUTS if option in options for word in (option, options[option]))]
 
 
 def by_program(words, files):

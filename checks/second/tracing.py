@@ -3,7 +3,12 @@
 import program
 from bundles import bundles_of
 from machine import EXCLUSIVELY, lock_name
+from reports import KEY_BYTES
 from scripts import read
+
+
+# The files that a run takes in, but for the report key: no event shows a report.
+INPUTS = tuple(option for option in program.INPUTS if option != "--report-key")
 
 
 def lines_of_calls(text):
@@ -54,15 +59,16 @@ def events_of(script, lines, processors):
 
 def given(words, load):
     """The bytes of the script that these words name, the script, and the processors of its run with their input files. No
-    bundle is sealed, so keys are needed beside a container alone."""
+    bundle is sealed, so keys are needed beside a container alone, and no report is shown."""
     (name,), options = program.options_of(words)
     text = program.loaded(name, load)
     script = read(text)
-    files = {option: program.loaded(options[option], load) for option in program.INPUTS if option in options}
+    files = {option: program.loaded(options[option], load) for option in INPUTS if option in options}
     if "--bundles" in files:
         files["--bundles"] = bundles_of(files["--bundles"])
     else:
         files = {"--bundles": {}, "--keys": bytes(64), **files}
+    files["--report-key"] = bytes(KEY_BYTES)
     return text, script, program.processors_of(script, program.outside_of(script, files))
 
 

@@ -3,12 +3,12 @@ _tdx() {
   local word=${COMP_WORDS[COMP_CWORD]} last=${COMP_WORDS[COMP_CWORD - 1]} before=" ${COMP_WORDS[*]:0:COMP_CWORD} " option options='' left=()
   COMPREPLY=()
   case ${COMP_WORDS[1]} in
-    replay) options='--bundles --keys --secrets --out-bundles --guest-out' ;;
-    run) options='--bundles --keys --secrets --out-bundles --guest-out' ;;
+    replay) options='--bundles --keys --secrets --out-bundles --guest-out --report-key' ;;
+    run) options='--bundles --keys --secrets --out-bundles --guest-out --report-key' ;;
   esac
   if [[ $COMP_CWORD -eq 1 ]]; then
     mapfile -t COMPREPLY < <(compgen -W 'replay run check soak verify' -- "$word")
-  elif [[ -n $options && $word == -* && $last != @(--bundles|--guest-out|--keys|--out-bundles|--secrets) ]]; then
+  elif [[ -n $options && $word == -* && $last != @(--bundles|--guest-out|--keys|--out-bundles|--report-key|--secrets) ]]; then
     for option in $options; do
       [[ $before == *" $option "* ]] || left+=("$option")
     done

@@ -1,2 +1,4 @@
-pub mod Extensions
 pub mod Acceptances
+pub mod Extensions
+pub mod ReportsTold
+pub mod WordsTold

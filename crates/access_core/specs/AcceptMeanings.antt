@@ -32,7 +32,7 @@ use Rattle.lock_words.specs.LockWords.{tdcs_of}
 use Rattle.leaf_engine.specs.Facts.{GuestFits, Facts}
 use Rattle.leaf_engine.specs.Trees.{Tree, done}
 use Rattle.leaf_engine.specs.Changes.{changed_all, Change, Clear, changed}
-use Rattle.leaf_engine.specs.Means.{Instant, Means, Work, work_of, OfOperation, IsAtOperation, hold, grasp_of, exit_item, LocksStay, MayChangeBy, MayFill, MayFillAll}
+use Rattle.leaf_engine.specs.Means.{Instant, Means, Work, work_of, OfOperation, IsAtOperation, hold, grasp_of, exit_item, LocksStay, MayChangeBy, MayFill, FillsAllowed}
 use Rattle.leaf_parts.specs.Words.{page_told}
 use Rattle.leaf_parts.proofs.Begun.{TwoControls, page-in, page_lock, holds-newest, alone-newest}
 use Rattle.leaf_parts.proofs.Checks.{tdr-load}
@@ -153,7 +153,7 @@ module _ (m : Machine) (c : Instant) (t v gpa : ℕ) (limit : m.pages ≤ 1024) 
   act-is : (b : Bool) → is_pending_at w t gpa ≡ b → tell_words [] (pass_operation v (accept_page b t gpa w)) ≡ k.act w
   act-is b is = ap (λ (y : Bool). tell_words [] (pass_operation v (accept_page y t gpa w))) (sym is)
 
-  ended : (fills changes : List Change) → Ends fills changes (k.act w) → MayFillAll m (grasp_of c (both e.page)) w fills → Means m c k (both e.page) (done fills changes) []
+  ended : (fills changes : List Change) → Ends fills changes (k.act w) → FillsAllowed m (grasp_of c (both e.page)) (grasp_of c (both e.page)) w fills → Means m c k (both e.page) (done fills changes) []
   ended fills changes ends filled = (
     record {
       answers = record { reply_is = refl; cached_is = refl; enters_is = refl; notes_are = refl; tells_are = refl; bundles_are = ends.bundles_are };
@@ -241,7 +241,7 @@ module _ (m : Machine) (c : Instant) (t v gpa : ℕ) (limit : m.pages ≤ 1024) 
     )
 
     maps-end : is_pending_at w t gpa ≡ true → Means m c k (both e.page) (accepted true v at (index_at 0 gpa) e.page (w.vps.positions v)) []
-    maps-end pends = ended (Clear e.page ∷ []) changes (subst (λ (y : World). Ends (Clear e.page ∷ []) changes y) (act-is true pends) maps) (filled pends, tt)
+    maps-end pends = ended (Clear e.page ∷ []) changes (subst (λ (y : World). Ends (Clear e.page ∷ []) changes y) (act-is true pends) maps) ((filled pends, tt), (tt, tt))
 
     accepted-end : Means m c k (both e.page) (accepted (is_pending_at w t gpa) v at (index_at 0 gpa) e.page (w.vps.positions v)) []
     accepted-end = by_test (is_pending_at w t gpa)

@@ -7,6 +7,8 @@ pub mod OperationMeanings
 pub mod RtmrTrees
 pub mod RtmrShows
 pub mod RtmrMeanings
+pub mod ReportTrees
+pub mod ReportMeanings
 pub mod AcceptTrees
 pub mod AcceptShows
 pub mod AcceptMeanings

@@ -44,15 +44,15 @@ running-controls m c t v la fits =
     two-controls m c.state.world t la fits.alive two
 
 -- words are loaded one after another, where each of them may be
-abbrev listed : (ℕ → ℕ) → (from left : ℕ) → List ℕ
+abbrev pub listed : (ℕ → ℕ) → (from left : ℕ) → List ℕ
 listed said n zero = []
 listed said n (suc left) = said n ∷ listed said (n + 1) left
 
-words-mean : (m : Machine) (c : Instant) (k : Work) (hs : List Held) (rest : List (Item Reply)) (at : ℕ → WordPlace) (said : ℕ → ℕ) → ((n : ℕ) → n < 6 → (f : ℕ → Tree) → Means m c k hs (f (said n)) rest → Means m c k hs (Load Whole (at n) f) rest)
-    → (left n : ℕ) → n + left ≤ 6 → (further : List ℕ → Tree) → Means m c k hs (further (listed said n left)) rest → Means m c k hs (with_words at n left further) rest
-words-mean m c k hs rest at said one zero n few further h = h
-words-mean m c k hs rest at said one (suc left) n few further h =
-    one n (omega (arith, few)) (λ x. with_words at (n + 1) left (λ xs. further (x ∷ xs))) (words-mean m c k hs rest at said one left (n + 1) (omega (arith, few)) (λ xs. further (said n ∷ xs)) h)
+pub words-mean : (m : Machine) (c : Instant) (k : Work) (hs : List Held) (rest : List (Item Reply)) (at : ℕ → WordPlace) (said : ℕ → ℕ) (count : ℕ) → ((n : ℕ) → n < count → (f : ℕ → Tree) → Means m c k hs (f (said n)) rest → Means m c k hs (Load Whole (at n) f) rest)
+    → (left n : ℕ) → n + left ≤ count → (further : List ℕ → Tree) → Means m c k hs (further (listed said n left)) rest → Means m c k hs (with_words at n left further) rest
+words-mean m c k hs rest at said count one zero n few further h = h
+words-mean m c k hs rest at said count one (suc left) n few further h =
+    one n (omega (arith, few)) (λ x. with_words at (n + 1) left (λ xs. further (x ∷ xs))) (words-mean m c k hs rest at said count one left (n + 1) (omega (arith, few)) (λ xs. further (said n ∷ xs)) h)
 
 module _ (m : Machine) (c : Instant) (t v line i : ℕ) (few : i < 4) (la : Lawful m c.state.world) (sh : Shows m c.memory.words c.memory.slots c.state) (fits : GuestFits c.state.world c.me c.kept t v) (starts : IsAtOperation c.state.world v) where
   abbrev w : World
@@ -140,8 +140,8 @@ module _ (m : Machine) (c : Instant) (t v line i : ℕ) (few : i < 4) (la : Lawf
   -- under R alone
   held-means : Means m c k hs (extend_held v line i z.tdcs) []
   held-means =
-      words-mean m c k hs [] (rtmr_at z.tdcs i) (λ n. w.hidden.rtmrs t (6 * i + n)) rtmr-load 6 0 (omega arith) (λ old. with_words (register_at v) 0 6 (λ registers. with_position v (λ at. extended v line z.tdcs i at (extension old registers))))
-      (words-mean m c k hs [] (register_at v) (w.hidden.registers v) (λ n small f h. register-load m c t v la sh fits hs n (omega (arith, small)) k f [] h) 6 0 (omega arith)
+      words-mean m c k hs [] (rtmr_at z.tdcs i) (λ n. w.hidden.rtmrs t (6 * i + n)) 6 rtmr-load 6 0 (omega arith) (λ old. with_words (register_at v) 0 6 (λ registers. with_position v (λ at. extended v line z.tdcs i at (extension old registers))))
+      (words-mean m c k hs [] (register_at v) (w.hidden.registers v) 6 (λ n small f h. register-load m c t v la sh fits hs n (omega (arith, small)) k f [] h) 6 0 (omega arith)
       (λ registers. with_position v (λ at. extended v line z.tdcs i at (extension (six_words (λ n. w.hidden.rtmrs t (6 * i + n))) registers)))
       (position-load m c t v la sh fits hs k (λ at. extended v line z.tdcs i at (extension (six_words (λ n. w.hidden.rtmrs t (6 * i + n))) (six_words (w.hidden.registers v)))) [] extended-end))
 

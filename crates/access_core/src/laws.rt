@@ -2,12 +2,13 @@
 
 ghost use Rattle.access_core.specs.OperationTrees.{AddMeans, SetMeans, SharedLoadMeans, SharedStoreMeans, VmcallMeans};
 ghost use Rattle.access_core.specs.RtmrTrees.{RtmrMeans};
+ghost use Rattle.access_core.specs.ReportTrees.{ReportMeans};
 ghost use Rattle.access_core.specs.AcceptTrees.{AcceptMeans};
 ghost use Rattle.access_core.specs.WalkTrees.{WalksMean, WalksAreTold};
 ghost use Rattle.access_core.specs.ReachTrees.{AccessesMean};
 ghost use Rattle.access_core.specs.AcceptReach.{PendingIsUnreached, PendingMayBeFilled};
 
-/// The leaves of `set`, `add`, `vmcall`, `rtmr` and `accept`, and of loads and stores of shared
+/// The leaves of `set`, `add`, `vmcall`, `rtmr`, `report` and `accept`, and of loads and stores of shared
 /// words, mean their rows. The leaf that loads an entry in a guest's walk (`walk`) means that
 /// event, and its answer tells how the walk goes on (`told`). The leaf of an access to a private
 /// word through a cached translation means that event (`access`).
@@ -18,6 +19,7 @@ pub fn operations_mean()
     ensures load { SharedLoadMeans }
     ensures store { SharedStoreMeans }
     ensures rtmr { RtmrMeans }
+    ensures report { ReportMeans }
     ensures accept { AcceptMeans }
     ensures walk { WalksMean }
     ensures access { AccessesMean }

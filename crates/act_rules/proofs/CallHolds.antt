@@ -157,6 +157,16 @@ names-last o (call.MrExtend t gpa) =
     inr (by-entry o (call.MrExtend t gpa) t gpa 0 (td_tries t Exclusive ++ shared (OfTree t) ∷ []) Shared (λ w. refl) (rw (eq-eqb t t refl) refl) (rw (eq-eqb t t refl) refl) (rw (eq-eqb t t refl) refl))
 names-last o (call.MemSeptRemove t gpa level) = inr (named o (call.MemSeptRemove t gpa level) t gpa level (λ w. refl))
 names-last o (call.MemPageRemove t gpa) = inr (named o (call.MemPageRemove t gpa) t gpa 0 (λ w. refl))
+names-last o (call.MemPageRelocate t gpa p) = inr (record {
+  tdr = t;
+  front = td_tries t Shared ++ alone (OfTree t) ∷ shared (OfEpoch t) ∷ [];
+  named = λ w. alone (OfPage (entry_at w t 0 gpa).page) ∷ alone (OfPage p) ∷ [];
+  are = λ w. refl;
+  stay = λ v w same. ap (λ (x : ℕ). alone (OfPage x) ∷ alone (OfPage p) ∷ []) (same.entries 0 (number_at 0 gpa)).page;
+  page = rw (eq-eqb t t refl) refl;
+  op = rw (eq-eqb t t refl) refl;
+  tree = rw (eq-eqb t t refl) refl;
+})
 names-last o (call.MemRangeBlock t gpa level) = inr (named o (call.MemRangeBlock t gpa level) t gpa level (λ w. refl))
 names-last o (call.MemRangeUnblock t gpa level) = inr (named o (call.MemRangeUnblock t gpa level) t gpa level (λ w. refl))
 names-last o (call.ExportBlockw t gpa) =
@@ -238,6 +248,7 @@ row-entries o me (call.MemSeptRemove u gpa level) w t ps tree page = let n = off
 row-entries o me (call.MemPageAdd u gpa p source) w t ps tree page = let n = off t u (λ y. tree (rw y refl)) in λ l k. rw n (as-it-is _)
 row-entries o me (call.MemPageAug u gpa p) w t ps tree page = let n = off t u (λ y. tree (rw y refl)) in λ l k. rw n (as-it-is _)
 row-entries o me (call.MemPageRemove u gpa) w t ps tree page = let n = off t u (λ y. tree (rw y refl)) in λ l k. rw n (as-it-is _)
+row-entries o me (call.MemPageRelocate u gpa p) w t ps tree page = let n = off t u (λ y. tree (rw y refl)) in λ l k. rw n (as-it-is _)
 row-entries o me (call.MemRangeBlock u gpa level) w t ps tree page = let n = off t u (λ y. tree (rw y refl)) in λ l k. rw n (as-it-is _)
 row-entries o me (call.MemRangeUnblock u gpa level) w t ps tree page = let n = off t u (λ y. tree (rw y refl)) in λ l k. rw n (as-it-is _)
 row-entries o me (call.ExportBlockw u gpa) w t ps tree page = restated w u (number_at 0 gpa) (entry_at w u 0 gpa).mark (write_blocked (entry_at w u 0 gpa).state) (write-blocked-free (entry_at w u 0 gpa).state) t
@@ -279,7 +290,7 @@ module _ (o : Opening) (w : World) (t : ℕ) where
             (λ y. restated w u (number_at 0 gpa) 0 entry.Mapped (sym (pending-used (entry_at w u 0 gpa).state y)) t) (λ y l n. as-it-is _);
         streams = accepted (λ x. x.tds.streams t ≡ w.tds.streams t) (is_pending_at w u gpa) u gpa w (λ y. refl) (λ y. refl);
       })
-      (λ i. same-names w _ t refl) (λ r. same-names w _ t refl) op row is
+      (λ i. same-names w _ t refl) (same-names w _ t refl) (λ r. same-names w _ t refl) op row is
 
   operation-moved : (row : OperationRow) (mv : Move (Option Outcome)) → NamesSame w (operation_world row Succeeds w) t → NamesSame w (operation_world row mv w) t
   operation-moved row Succeeds h = h

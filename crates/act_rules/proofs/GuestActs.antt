@@ -23,7 +23,7 @@ use Rattle.flat_core.specs.Conditions.{running_ops, is_host}
 use Rattle.flat_core.specs.Effects.{put_in, pass_operation, tell_words, leave_guest}
 use Rattle.flat_core.specs.Tree.{same_state, entry_at, number_at, page_of_gpa, word_of_gpa}
 use Rattle.flat_core.specs.Translations.{is_of_page, allows_access, look_up}
-use Rattle.flat_core.specs.Guest.{ByRow, operation_of, set_value, add_registers, shared_load, shared_store, shared_page, accept_page, is_pending_at, extend_rtmr, call_host, reach}
+use Rattle.flat_core.specs.Guest.{ByRow, operation_of, set_value, add_registers, shared_load, shared_store, shared_page, accept_page, is_pending_at, extend_rtmr, report_facts, call_host, reach}
 use Rattle.flat_core.specs.Lawful.{Lawful, IsPageOf, is_free}
 use Rattle.flat_core.specs.Guests.{guest_locks, entry_locks}
 use Rattle.flat_core.specs.Inside.{InGuest, LineAt, StandsAt}
@@ -89,6 +89,7 @@ module _ (t v : ℕ) (w : World) where
       (λ r gpa. kept w (operation_world (shared_store o.machine v r gpa) Succeeds w) refl refl refl refl)
       (λ gpa. accepted (λ x. SameSpots w (then_passed x)) (is_pending_at w t gpa) t gpa w (mapped gpa) (λ n. kept w (then_passed w) refl refl refl refl))
       (λ i. kept w (operation_world (extend_rtmr t v line i) Succeeds w) refl refl refl refl)
+      (kept w (operation_world (report_facts t v line) Succeeds w) refl refl refl refl)
       (λ r. kept w (operation_world (call_host v r) Succeeds w) refl refl refl refl)
       op row is
 
@@ -160,6 +161,7 @@ module _ (o : Opening) (me t v : ℕ) (g : Grip) (w : World) (la : Lawful o.mach
       (λ r gpa ps h. one-stored g w (operation_world (shared_store o.machine v r gpa) Succeeds w) (shared_page gpa) (word_of_gpa gpa) _ refl (host-written (shared_page gpa) (word_of_gpa gpa) ps.1.0 h.0))
       (λ gpa ps h. accepted (λ x. MayStore g w (then_passed t v w x)) (is_pending_at w t gpa) t gpa w (λ y. zeros-stored gpa y h.1.0.1 none) (λ n. none-stored g w (then_passed t v w w) refl))
       (λ i ps h. none-stored g w (operation_world (extend_rtmr t v line i) Succeeds w) refl)
+      (λ ps h. none-stored g w (operation_world (report_facts t v line) Succeeds w) refl)
       (λ r ps h. none-stored g w (operation_world (call_host v r) Succeeds w) refl)
       op row is ps h
 

@@ -68,7 +68,7 @@ module _ (o : Opening) (w : World) (t n : ℕ) (used : is_free (w.tds.entries t 
       operation_row o u v line (λ x. StillNames (operation_world x Succeeds w))
       (λ r x. (used, refl)) (λ r s. (used, refl)) (λ r gpa. (used, refl)) (λ r gpa. (used, refl))
       (λ gpa. accepted StillNames (is_pending_at w u gpa) u gpa w (page-accepted u gpa) (λ y. (used, refl)))
-      (λ i. (used, refl)) (λ r. (used, refl)) op row is
+      (λ i. (used, refl)) (used, refl) (λ r. (used, refl)) op row is
 
   reach-names : (u v : ℕ) (access : Access) (r gpa page : ℕ) → StillNames (reach u v access r gpa page w)
   reach-names u v Read r gpa page = (used, refl)
@@ -143,6 +143,7 @@ named-tried o t v line (op.Add r s) row w k l m is e = tt
 named-tried o t v line (op.Load r gpa) row w k l m is e = tt
 named-tried o t v line (op.Store r gpa) row w k l m is e = tt
 named-tried o t v line (op.Rtmr i) row w k l m is e = tt
+named-tried o t v line op.Report row w k l m is e = tt
 named-tried o t v line (op.Vmcall r) row w k l m is e = tt
 
 module _ (o : Opening) (w : World) where
@@ -296,6 +297,7 @@ module _ (w w' : World) (t : ℕ) where
   due-stays (Some (op.Load r gpa)) hs names k = (k.0, named-stays (op.Load r gpa) hs (λ y. y) k.1)
   due-stays (Some (op.Store r gpa)) hs names k = (k.0, named-stays (op.Store r gpa) hs (λ y. y) k.1)
   due-stays (Some (op.Rtmr i)) hs names k = (k.0, named-stays (op.Rtmr i) hs (λ y. y) k.1)
+  due-stays (Some op.Report) hs names k = (k.0, named-stays op.Report hs (λ y. y) k.1)
   due-stays (Some (op.Vmcall r)) hs names k = (k.0, named-stays (op.Vmcall r) hs (λ y. y) k.1)
 
   other-theirs : (o : Opening) (g : Guest) → g.tdr ≡ t → WhereHeld g.operation.held → SameVp w w' g.vp → HoldsTheirs o w g → HoldsTheirs o w' g

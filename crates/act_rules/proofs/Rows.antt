@@ -31,7 +31,7 @@ use Rattle.flat_core.specs.KeyRows.{reclaim_conditions}
 use Rattle.flat_core.specs.VpRows.{create_vp}
 use Rattle.flat_core.specs.Tree.{is_passed, page_of_gpa, number_at, entry_at, empty_below, levels_above}
 use Rattle.flat_core.specs.Tracking.{tracked_page}
-use Rattle.flat_core.specs.MemRows.{removed_states}
+use Rattle.flat_core.specs.MemRows.{removed_states, unblocked_state, move_page}
 use Rattle.flat_core.specs.ExportRows.{add_stream, write_blocked, count_dirt, count_restored, note_pause}
 use Rattle.flat_core.specs.Digests.{six_words}
 use Rattle.flat_core.specs.Sessions.{bundles_so_far, payload_words, About, about, make_bundle, begin_session, set_mig_epoch, count_bundle, count_export, note_td_export, note_vp_export}
@@ -40,7 +40,7 @@ use Rattle.flat_core.specs.ImportRows.{begin_import, import_immutable, page_to_f
 use Rattle.flat_core.specs.BundleRows.{start_epoch, track_export, token_kind, token_epoch, export_immutable, export_page, export_token, export_td, export_vp}
 use Rattle.flat_core.proofs.Maps.{kind_named, node_named}
 use Rattle.flat_core.proofs.Ranges.{named_alive, page_removed, sept_removed, export_passed, can_export}
-use Rattle.flat_core.proofs.Passed.{vp_of, sept_passed, remove_passed, sept_remove_passed}
+use Rattle.flat_core.proofs.Passed.{vp_of, sept_passed, remove_passed, relocate_passed, sept_remove_passed}
 use Rattle.flat_core.proofs.Keeps.{live_of}
 use Rattle.flat_core.proofs.Tests.{by_test, host_kind, tdr_kind}
 use Rattle.word_rules.specs.Guards.{Grip, Locked}
@@ -504,6 +504,17 @@ page-unmapped g w t gpa k o td tree own =
     let a : Respects g w w1 = leaves g w w1 (all-same w w1 refl (λ u. record { op = refl; controls = refl; epoch = refl; empty = λ b. refl; named = λ n. refl })) (λ h. refl) refl in
     respects-compose.both g w w1 (unmap_page t 0 (number_at 0 gpa) w1) a (unmapped g w1 t 0 (number_at 0 gpa) k o td tree own)
 
+-- MEM.PAGE.RELOCATE: the page leaves the map, and another one enters it
+pub page-moved-on : (g : Grip) (w : World) (t gpa page : ℕ) → w.pages.kinds (entry_at w t 0 gpa).page ≡ kind.Reg → w.pages.owners (entry_at w t 0 gpa).page ≡ t → (page == (entry_at w t 0 gpa).page) ≡ false → is_host w page ≡ true
+    → HoldsTd g t → g.sole (Locked (OfTree t)) ≡ true → g.sole (Locked (OfPage (entry_at w t 0 gpa).page)) ≡ true → g.sole (Locked (OfPage page)) ≡ true → Respects g w (move_page t (number_at 0 gpa) page w)
+page-moved-on g w t gpa page k o other host td tree own new =
+    let w1 : World = unmap_page t 0 (number_at 0 gpa) w in
+    let w2 : World = map_page page kind.Reg (unblocked_state (entry_at w t 0 gpa).state) t 0 (number_at 0 gpa) w1 in
+    let w3 : World = move_page t (number_at 0 gpa) page w in
+    let a : Respects g w w1 = unmapped g w t 0 (number_at 0 gpa) k o td tree own in
+    let b : Respects g w1 w2 = mapped g w1 page kind.Reg (unblocked_state (entry_at w t 0 gpa).state) t 0 (number_at 0 gpa) (rw other host) new td tree in
+    respects-compose.both g w w2 w3 (respects-compose.both g w w1 w2 a b) (leaves g w2 w3 (all-same w2 w3 refl (λ u. record { op = refl; controls = refl; epoch = refl; empty = λ z. refl; named = λ z. refl })) (λ z. refl) refl)
+
 pub rows-respect : RowsRespect
 rows-respect o me (call.HostRead page word) g w la ps h = stays g w
 rows-respect o me (call.HostWrite page word value) g w la ps h = written g w page word value
@@ -542,6 +553,10 @@ rows-respect o me (call.MemPageRemove tdr gpa) g w la ps h =
     let q = remove_passed o.machine w tdr gpa ps in
     let node = node_named o.machine w la tdr 0 (number_at 0 gpa) (named_alive w tdr gpa 0 removed_states rest q) (page_removed (entry_at w tdr 0 gpa).state q.state).used in
     page-unmapped g w tdr gpa node.page.kind node.page.owner (search) (search) (search)
+rows-respect o me (call.MemPageRelocate tdr gpa page) g w la ps h =
+    let q = relocate_passed o.machine w tdr gpa page ps in
+    let node = node_named o.machine w la tdr 0 (number_at 0 gpa) (named_alive w tdr gpa 0 removed_states _ q.named) (page_removed (entry_at w tdr 0 gpa).state q.named.state).used in
+    page-moved-on g w tdr gpa page node.page.kind node.page.owner (not-true _ q.other) q.host (search) (search) (search) (search)
 rows-respect o me (call.MemSeptRemove tdr gpa level) g w la ps h =
     let rest = empty_below w tdr gpa level ∷ tracked_page w tdr (entry_at w tdr level gpa).page ∷ [] in
     let q = sept_remove_passed o.machine w tdr gpa level ps in

@@ -10,8 +10,9 @@ use Rattle.command_files.specs.declared.inputs.Input.TheVariants as input
 use Rattle.command_files.specs.declared.inputs.InputFault.{InputFault}
 use Rattle.command_files.specs.declared.inputs.InputFault.TheVariants as fault
 use Rattle.command_files.specs.declared.inputs.Inputs.{Inputs}
+use Rattle.command_files.specs.declared.inputs.Needs.{Needs}
 use Rattle.command_files.specs.Commands.{NamedSeen}
-use Rattle.command_files.specs.Inputs.{Reads, LoadsNamed, LoadsNext, TakesInputs, AreSecrets, IsDue, load_fault, keys_fault, form_fault, unread_fault, due, first, bundles_in, keys_in, HasKeys}
+use Rattle.command_files.specs.Inputs.{Reads, LoadsNamed, LoadsNext, TakesInputs, AreSecrets, IsDue, load_fault, needed_fault, keys_fault, report_key_fault, form_fault, unread_fault, due, first, bundles_in, keys_in, report_key_in, IsThere}
 
 -- so many words of 0 are those of no file
 zero_at : (n i : ℕ) → slice_index (replicate n 0) i ≡ 0
@@ -32,11 +33,21 @@ due_err d (fault.Unread i) h = h
 due_err d (fault.Container place) h = h
 due_err d fault.Keys h = h
 due_err d fault.Secrets h = h
+due_err d fault.ReportKey h = h
 due_err d fault.OutOfMemory h = tt
 
--- so it is where there is none before it
+-- a fault comes before the next, which comes where there is none
+some : (d next : Option InputFault) (f : InputFault) → d ≡ Some f → first d next ≡ Some f
+some None next f h = absurd (cc)
+some (Some g) next f h = h
+
+none : (d next : Option InputFault) → d ≡ None → first d next ≡ next
+none None next h = refl
+none (Some g) next h = absurd (cc)
+
+-- so it is with answers
 pub due_next : {X : Type 0} (d next : Option InputFault) (r : Result X InputFault) → d ≡ None → IsDue next r → IsDue (first d next) r
-due_next d next r none h = subst (λ (x : Option InputFault). IsDue (first x next) r) (sym none) h
+due_next d next r h is = subst (λ (x : Option InputFault). IsDue x r) (sym (none d next h)) is
 
 -- a load is as good for each input
 pub read_alike : (i j : Input) (a : Option (Result (Vec ℕ) LoadFault)) → load_fault i a ≡ None → load_fault j a ≡ None
@@ -47,100 +58,115 @@ read_alike i j (Some (Err load.TooLong)) h = refl
 read_alike i j (Some (Err load.Failed)) h = absurd (cc)
 read_alike i j (Some (Err load.OutOfMemory)) h = absurd (cc)
 
-module _ (contents : Option (List ℕ → Option (List ℕ))) (needed : Bool) (c : NamedSeen) (old : Reads) (b : Option (Result (Vec ℕ) LoadFault)) (mid : Reads) (loaded : LoadsNamed contents (2 ^ 29) c.bundles old b mid) where
-  -- the container can't be read
-  pub no_bundles : (f : InputFault) → load_fault input.Bundles b ≡ Some f → TakesInputs contents needed c old mid (Err f)
-  no_bundles f h = record {
+module _ (contents : Option (List ℕ → Option (List ℕ))) where
+  -- nothing is loaded behind a fault, and the next input where there is none
+  left_out : (d : Option InputFault) (f : InputFault) (name : Option (List ℕ)) (m : Reads) → d ≡ Some f → LoadsNext contents d name m None m
+  left_out None f name m h = absurd (cc)
+  left_out (Some g) f name m h = (refl, refl)
+
+  loaded_next : (d : Option InputFault) (name : Option (List ℕ)) (old : Reads) (a : Option (Result (Vec ℕ) LoadFault)) (new : Reads) → d ≡ None → LoadsNamed contents (2 ^ 16) name old a new → LoadsNext contents d name old a new
+  loaded_next None name old a new h is = is
+  loaded_next (Some g) name old a new h is = absurd (cc)
+
+module _ (contents : Option (List ℕ → Option (List ℕ))) (needs : Needs) (c : NamedSeen) (old : Reads) (b : Option (Result (Vec ℕ) LoadFault)) (mid : Reads) (loaded : LoadsNamed contents (2 ^ 29) c.bundles old b mid) where
+  -- an input can't be read, which is told
+  stopped : (k s r : Option (Result (Vec ℕ) LoadFault)) (far further new : Reads)
+      → LoadsNext contents (load_fault input.Bundles b) c.keys mid k far
+      → LoadsNext contents (first (load_fault input.Bundles b) (load_fault input.Keys k)) c.secrets far s further
+      → LoadsNext contents (first (load_fault input.Bundles b) (first (load_fault input.Keys k) (load_fault input.Secrets s))) c.report_key further r new
+      → (f : InputFault) → unread_fault b k s r ≡ Some f → TakesInputs contents needs c old new (Err f)
+  stopped k s r far further new keys secrets report_key f h = record {
     bundles = b;
-    keys = None;
-    secrets = None;
+    keys = k;
+    secrets = s;
+    report_key = r;
     behind_bundles = mid;
-    behind_keys = mid;
+    behind_keys = far;
+    behind_secrets = further;
     bundles_loaded = loaded;
-    keys_loaded = subst (λ (x : Option InputFault). LoadsNext contents x c.keys mid None mid) (sym h) (refl, refl);
-    secrets_loaded = subst (λ (x : Option InputFault). LoadsNext contents (first x (load_fault input.Keys None)) c.secrets mid None mid) (sym h) (refl, refl);
-    is_due = due_err (due needed b None None) f (ap (λ (x : Option InputFault). first (first x (first (load_fault input.Keys None) (load_fault input.Secrets None))) (form_fault needed b None None)) h);
+    keys_loaded = keys;
+    secrets_loaded = secrets;
+    report_key_loaded = report_key;
+    is_due = due_err (due needs b k s r) f (some (unread_fault b k s r) (form_fault needs b k s r) f h);
     bundle_list = tt;
     key_bytes = tt;
     words = tt;
+    report_key_bytes = tt;
   }
 
-  module _ (none : load_fault input.Bundles b ≡ None) (k : Option (Result (Vec ℕ) LoadFault)) (far : Reads) (loaded' : LoadsNamed contents (2 ^ 16) c.keys mid k far) where
-    next_keys : LoadsNext contents (load_fault input.Bundles b) c.keys mid k far
-    next_keys = subst (λ (x : Option InputFault). LoadsNext contents x c.keys mid k far) (sym none) loaded'
+  -- the container
+  pub no_bundles : (f : InputFault) → load_fault input.Bundles b ≡ Some f → TakesInputs contents needs c old mid (Err f)
+  no_bundles f h =
+      stopped None None None mid mid mid (left_out contents _ f c.keys mid h) (left_out contents _ f c.secrets mid (some _ None f h)) (left_out contents _ f c.report_key mid (some _ None f h)) f (some _ None f h)
 
-    -- the key file can't be read
-    pub no_keys : (f : InputFault) → load_fault input.Keys k ≡ Some f → TakesInputs contents needed c old far (Err f)
+  module _ (read : load_fault input.Bundles b ≡ None) (k : Option (Result (Vec ℕ) LoadFault)) (far : Reads) (loaded' : LoadsNamed contents (2 ^ 16) c.keys mid k far) where
+    behind : (next : Option InputFault) → first (load_fault input.Bundles b) next ≡ next
+    behind next = none (load_fault input.Bundles b) next read
+
+    next_keys : LoadsNext contents (load_fault input.Bundles b) c.keys mid k far
+    next_keys = loaded_next contents _ c.keys mid k far read loaded'
+
+    -- the key file
+    pub no_keys : (f : InputFault) → load_fault input.Keys k ≡ Some f → TakesInputs contents needs c old far (Err f)
     no_keys f h =
-        let both : first (load_fault input.Bundles b) (load_fault input.Keys k) ≡ Some f = ap (λ (x : Option InputFault). first x (load_fault input.Keys k)) none ∙ h in
-        let unread : unread_fault b k None ≡ Some f =
-        ap (λ (x : Option InputFault). first x (first (load_fault input.Keys k) (load_fault input.Secrets None))) none ∙ ap (λ (x : Option InputFault). first x (load_fault input.Secrets None)) h in
-        record {
+        stopped k None None far far far next_keys (left_out contents _ f c.secrets far (behind _ ∙ h)) (left_out contents _ f c.report_key far (behind _ ∙ some _ None f h)) f (behind _ ∙ some _ None f h)
+
+    module _ (read' : load_fault input.Keys k ≡ None) (s : Option (Result (Vec ℕ) LoadFault)) (further : Reads) (loaded'' : LoadsNamed contents (2 ^ 16) c.secrets far s further) where
+      behind_both : (next : Option InputFault) → first (load_fault input.Bundles b) (first (load_fault input.Keys k) next) ≡ next
+      behind_both next = behind (first (load_fault input.Keys k) next) ∙ none (load_fault input.Keys k) next read'
+
+      next_secrets : LoadsNext contents (first (load_fault input.Bundles b) (load_fault input.Keys k)) c.secrets far s further
+      next_secrets = loaded_next contents _ c.secrets far s further (behind (load_fault input.Keys k) ∙ read') loaded''
+
+      -- the secrets file
+      pub no_secrets : (f : InputFault) → load_fault input.Secrets s ≡ Some f → TakesInputs contents needs c old further (Err f)
+      no_secrets f h = stopped k s None far further further next_keys next_secrets (left_out contents _ f c.report_key further (behind_both _ ∙ h)) f (behind_both _ ∙ some _ None f h)
+
+      module _ (read'' : load_fault input.Secrets s ≡ None) (r : Option (Result (Vec ℕ) LoadFault)) (new : Reads) (loaded''' : LoadsNamed contents (2 ^ 16) c.report_key further r new) where
+        next_report_key : LoadsNext contents (first (load_fault input.Bundles b) (first (load_fault input.Keys k) (load_fault input.Secrets s))) c.report_key further r new
+        next_report_key = loaded_next contents _ c.report_key further r new (behind_both (load_fault input.Secrets s) ∙ read'') loaded'''
+
+        unread_is : unread_fault b k s r ≡ load_fault input.ReportKey r
+        unread_is = behind_both _ ∙ none (load_fault input.Secrets s) (load_fault input.ReportKey r) read''
+
+        -- the report key file
+        pub no_report_key : (f : InputFault) → load_fault input.ReportKey r ≡ Some f → TakesInputs contents needs c old new (Err f)
+        no_report_key f h = stopped k s r far further new next_keys next_secrets next_report_key f (unread_is ∙ h)
+
+        -- all were read
+        pub all_read : (result : Result Inputs InputFault) → load_fault input.ReportKey r ≡ None → IsDue (form_fault needs b k s r) result → IfOk result (λ inputs. inputs.bundles.items ≡ bundles_in b) → IfOk result (λ inputs. inputs.keys ≡ keys_in k) → IfOk result (λ inputs. AreSecrets s inputs.secrets.items) → IfOk result (λ inputs. inputs.report_key ≡ report_key_in r) → TakesInputs contents needs c old new result
+        all_read result read''' is listed bytes words key = record {
           bundles = b;
           keys = k;
-          secrets = None;
+          secrets = s;
+          report_key = r;
           behind_bundles = mid;
           behind_keys = far;
+          behind_secrets = further;
           bundles_loaded = loaded;
           keys_loaded = next_keys;
-          secrets_loaded = subst (λ (x : Option InputFault). LoadsNext contents x c.secrets far None far) (sym both) (refl, refl);
-          is_due = due_err (due needed b k None) f (ap (λ (x : Option InputFault). first x (form_fault needed b k None)) unread);
-          bundle_list = tt;
-          key_bytes = tt;
-          words = tt;
+          secrets_loaded = next_secrets;
+          report_key_loaded = next_report_key;
+          is_due = due_next (unread_fault b k s r) (form_fault needs b k s r) result (unread_is ∙ read''') is;
+          bundle_list = listed;
+          key_bytes = bytes;
+          words = words;
+          report_key_bytes = key;
         }
 
-    module _ (none' : load_fault input.Keys k ≡ None) (s : Option (Result (Vec ℕ) LoadFault)) (new : Reads) (loaded'' : LoadsNamed contents (2 ^ 16) c.secrets far s new) where
-      both_none : first (load_fault input.Bundles b) (load_fault input.Keys k) ≡ None
-      both_none = ap (λ (x : Option InputFault). first x (load_fault input.Keys k)) none ∙ none'
+-- what a file hands out is there where that file is needed, was read, and has its form
+there : {X : Type 0} (i : Input) (bytes : ℕ) (f : InputFault) (given_in : Option (Result (Vec ℕ) LoadFault) → Option X) → ((given : Vec ℕ) → IsThere true (given_in (Some (Ok given))))
+    → (needed : Bool) (a : Option (Result (Vec ℕ) LoadFault)) → load_fault i a ≡ None → needed_fault bytes f needed a ≡ None → IsThere needed (given_in a)
+there i bytes f given_in is true None h k = absurd (cc)
+there i bytes f given_in is true (Some (Ok given)) h k = is given
+there i bytes f given_in is true (Some (Err load.Absent)) h k = absurd (cc)
+there i bytes f given_in is true (Some (Err load.TooLong)) h k = absurd (cc)
+there i bytes f given_in is true (Some (Err load.Failed)) h k = absurd (cc)
+there i bytes f given_in is true (Some (Err load.OutOfMemory)) h k = absurd (cc)
+there i bytes f given_in is false a h k = tt
 
-      next_secrets : LoadsNext contents (first (load_fault input.Bundles b) (load_fault input.Keys k)) c.secrets far s new
-      next_secrets = subst (λ (x : Option InputFault). LoadsNext contents x c.secrets far s new) (sym both_none) loaded''
+pub keyed : (needed : Bool) (a : Option (Result (Vec ℕ) LoadFault)) → load_fault input.Keys a ≡ None → keys_fault needed a ≡ None → IsThere needed (keys_in a)
+keyed needed a h k = there input.Keys 64 fault.Keys keys_in (λ given. tt) needed a h k
 
-      unread_is : unread_fault b k s ≡ load_fault input.Secrets s
-      unread_is =
-          ap (λ (x : Option InputFault). first x (first (load_fault input.Keys k) (load_fault input.Secrets s))) none ∙ ap (λ (x : Option InputFault). first x (load_fault input.Secrets s)) none'
-
-      -- the secrets file can't be read
-      pub no_secrets : (f : InputFault) → load_fault input.Secrets s ≡ Some f → TakesInputs contents needed c old new (Err f)
-      no_secrets f h = record {
-        bundles = b;
-        keys = k;
-        secrets = s;
-        behind_bundles = mid;
-        behind_keys = far;
-        bundles_loaded = loaded;
-        keys_loaded = next_keys;
-        secrets_loaded = next_secrets;
-        is_due = due_err (due needed b k s) f (ap (λ (x : Option InputFault). first x (form_fault needed b k s)) (unread_is ∙ h));
-        bundle_list = tt;
-        key_bytes = tt;
-        words = tt;
-      }
-
-      -- all were read
-      pub all_read : (r : Result Inputs InputFault) → load_fault input.Secrets s ≡ None → IsDue (form_fault needed b k s) r → IfOk r (λ inputs. inputs.bundles.items ≡ bundles_in b) → IfOk r (λ inputs. inputs.keys ≡ keys_in k) → IfOk r (λ inputs. AreSecrets s inputs.secrets.items) → TakesInputs contents needed c old new r
-      all_read r none'' is listed bytes words = record {
-        bundles = b;
-        keys = k;
-        secrets = s;
-        behind_bundles = mid;
-        behind_keys = far;
-        bundles_loaded = loaded;
-        keys_loaded = next_keys;
-        secrets_loaded = next_secrets;
-        is_due = due_next (unread_fault b k s) (form_fault needed b k s) r (unread_is ∙ none'') is;
-        bundle_list = listed;
-        key_bytes = bytes;
-        words = words;
-      }
-
--- keys that are needed are there
-pub keyed : (needed : Bool) (a : Option (Result (Vec ℕ) LoadFault)) → load_fault input.Keys a ≡ None → keys_fault needed a ≡ None → HasKeys needed (keys_in a)
-keyed true None h k = absurd (cc)
-keyed true (Some (Ok given)) h k = tt
-keyed true (Some (Err load.Absent)) h k = absurd (cc)
-keyed true (Some (Err load.TooLong)) h k = absurd (cc)
-keyed true (Some (Err load.Failed)) h k = absurd (cc)
-keyed true (Some (Err load.OutOfMemory)) h k = absurd (cc)
-keyed false a h k = tt
+pub report_keyed : (needed : Bool) (a : Option (Result (Vec ℕ) LoadFault)) → load_fault input.ReportKey a ≡ None → report_key_fault needed a ≡ None → IsThere needed (report_key_in a)
+report_keyed needed a h k = there input.ReportKey 48 fault.ReportKey report_key_in (λ given. tt) needed a h k

@@ -19,6 +19,7 @@ pub record NamedSeen : Type 0 where
   pub secrets : Option (List ℕ)
   pub out_bundles : Option (List ℕ)
   pub guest_out : Option (List ℕ)
+  pub report_key : Option (List ℕ)
 
 -- a script is replayed under its schedule, or run in threads, with these files; or the script of that name is checked
 pub data CommandSeen : Type 0 where
@@ -57,6 +58,7 @@ named_seen n = record {
   secrets = option_map (λ name. name.now) n.secrets;
   out_bundles = option_map (λ name. name.now) n.out_bundles;
   guest_out = option_map (λ name. name.now) n.guest_out;
+  report_key = option_map (λ name. name.now) n.report_key;
 }
 
 abbrev pub command_seen : Command → CommandSeen
@@ -105,6 +107,7 @@ files_line = line_of (
     ∷ option_rule (codes "secrets")
     ∷ option_rule (codes "out-bundles")
     ∷ option_rule (codes "guest-out")
+    ∷ option_rule (codes "report-key")
     ∷ [])
 
 -- the rest of `check`
@@ -138,6 +141,7 @@ named_in rows = option_map (λ script. record {
   secrets = first_of (codes "secrets") rows;
   out_bundles = first_of (codes "out-bundles") rows;
   guest_out = first_of (codes "guest-out") rows;
+  report_key = first_of (codes "report-key") rows;
 }) (first_of (codes "SCRIPT") rows)
 
 abbrev pub few : Option ℕ → Option ℕ

@@ -14,6 +14,7 @@ use Rattle.command_files.specs.declared.inputs.InputFault.{InputFault}
 use Rattle.command_files.specs.declared.inputs.InputFault.TheVariants as fault
 use Rattle.command_files.specs.declared.inputs.Inputs.{Inputs}
 use Rattle.command_files.specs.declared.inputs.KeyBytes.{KeyBytes}
+use Rattle.command_files.specs.declared.inputs.Needs.{Needs}
 use Rattle.command_files.specs.Commands.{NamedSeen}
 
 -- ---- loads
@@ -72,30 +73,40 @@ length_fault bytes f (Some (Err load.TooLong)) = Some f
 length_fault bytes f (Some (Err load.Failed)) = None
 length_fault bytes f (Some (Err load.OutOfMemory)) = None
 
--- the key file hasn't 64 bytes, or none is named where keys are needed
-abbrev pub keys_fault : (needed : Bool) → Option (Result (Vec ℕ) LoadFault) → Option InputFault
-keys_fault needed None = if needed then Some fault.Keys else None
-keys_fault needed (Some answer) = length_fault 64 fault.Keys (Some answer)
+-- the same, or none is named where one is needed
+abbrev pub needed_fault : ℕ → InputFault → (needed : Bool) → Option (Result (Vec ℕ) LoadFault) → Option InputFault
+needed_fault bytes f needed None = if needed then Some f else None
+needed_fault bytes f needed (Some answer) = length_fault bytes f (Some answer)
 
--- the secrets file hasn't 4,096 bytes
+-- the key file has 64 bytes
+abbrev pub keys_fault : (needed : Bool) → Option (Result (Vec ℕ) LoadFault) → Option InputFault
+keys_fault needed answer = needed_fault 64 fault.Keys needed answer
+
+-- the secrets file has 4,096
 abbrev pub secrets_fault : Option (Result (Vec ℕ) LoadFault) → Option InputFault
 secrets_fault answer = length_fault 4096 fault.Secrets answer
+
+-- and the report key file 48
+abbrev pub report_key_fault : (needed : Bool) → Option (Result (Vec ℕ) LoadFault) → Option InputFault
+report_key_fault needed answer = needed_fault 48 fault.ReportKey needed answer
 
 abbrev pub first : Option InputFault → Option InputFault → Option InputFault
 first None next = next
 first (Some f) next = Some f
 
--- an input that was named can't be read: the container, else the key file, else the secrets file
-abbrev pub unread_fault : (bundles keys secrets : Option (Result (Vec ℕ) LoadFault)) → Option InputFault
-unread_fault bundles keys secrets = first (load_fault input.Bundles bundles) (first (load_fault input.Keys keys) (load_fault input.Secrets secrets))
+-- an input that was named can't be read: the container, else the key file, else the secrets file, else the report key file
+abbrev pub unread_fault : (bundles keys secrets report_key : Option (Result (Vec ℕ) LoadFault)) → Option InputFault
+unread_fault bundles keys secrets report_key =
+    first (load_fault input.Bundles bundles) (first (load_fault input.Keys keys) (first (load_fault input.Secrets secrets) (load_fault input.ReportKey report_key)))
 
 -- one that was read hasn't its form, in the same order
-abbrev pub form_fault : (needed : Bool) (bundles keys secrets : Option (Result (Vec ℕ) LoadFault)) → Option InputFault
-form_fault needed bundles keys secrets = first (container_fault bundles) (first (keys_fault needed keys) (secrets_fault secrets))
+abbrev pub form_fault : Needs → (bundles keys secrets report_key : Option (Result (Vec ℕ) LoadFault)) → Option InputFault
+form_fault needs bundles keys secrets report_key =
+    first (container_fault bundles) (first (keys_fault needs.keys keys) (first (secrets_fault secrets) (report_key_fault needs.report_key report_key)))
 
 -- the fault that is due by what was loaded: all are read, and then the form of each is tested
-abbrev pub due : (needed : Bool) (bundles keys secrets : Option (Result (Vec ℕ) LoadFault)) → Option InputFault
-due needed bundles keys secrets = first (unread_fault bundles keys secrets) (form_fault needed bundles keys secrets)
+abbrev pub due : Needs → (bundles keys secrets report_key : Option (Result (Vec ℕ) LoadFault)) → Option InputFault
+due needs bundles keys secrets report_key = first (unread_fault bundles keys secrets report_key) (form_fault needs bundles keys secrets report_key)
 
 -- ---- what is handed out
 
@@ -119,11 +130,17 @@ keys_in None = None
 keys_in (Some (Ok given)) = Some (keys_of given.items)
 keys_in (Some (Err f)) = None
 
--- there are keys where they are needed
-abbrev pub HasKeys : (needed : Bool) → Option KeyBytes → Type 0
-HasKeys true None = ⊥
-HasKeys true (Some keys) = Unit {0}
-HasKeys false keys = Unit {0}
+-- the report key
+abbrev pub report_key_in : Option (Result (Vec ℕ) LoadFault) → Option (List ℕ)
+report_key_in None = None
+report_key_in (Some (Ok given)) = Some given.items
+report_key_in (Some (Err f)) = None
+
+-- there is one where it is needed
+abbrev pub IsThere : {X : Type 0} → (needed : Bool) → Option X → Type 0
+IsThere true None = ⊥
+IsThere true (Some x) = Unit {0}
+IsThere false given = Unit {0}
 
 -- the secret word of number i is the little-endian number in bytes 8i to 8i + 7 of what was handed out; without a file each is 0
 abbrev pub secret_word : Option (Result (Vec ℕ) LoadFault) → ℕ → ℕ
@@ -143,6 +160,7 @@ IsDue d (Err (fault.Unread i)) = d ≡ Some (fault.Unread i)
 IsDue d (Err (fault.Container place)) = d ≡ Some (fault.Container place)
 IsDue d (Err fault.Keys) = d ≡ Some fault.Keys
 IsDue d (Err fault.Secrets) = d ≡ Some fault.Secrets
+IsDue d (Err fault.ReportKey) = d ≡ Some fault.ReportKey
 IsDue d (Err fault.OutOfMemory) = Unit {0}
 
 -- ---- all inputs
@@ -152,18 +170,23 @@ abbrev pub LoadsNext : Option (List ℕ → Option (List ℕ)) → Option InputF
 LoadsNext contents None name old answer new = LoadsNamed contents (2 ^ 16) name old answer new
 LoadsNext contents (Some f) name old answer new = (answer ≡ None) × (new ≡ old)
 
--- Each named input is loaded once, the container first, then the key file and then the secrets file, and nothing else; the
--- answer is the fault that is due by these loads, and where there is none it is the bundles, the keys and the secret words.
-pub record TakesInputs (contents : Option (List ℕ → Option (List ℕ))) (needed : Bool) (c : NamedSeen) (old new : Reads) (result : Result Inputs InputFault) : Type 0 where
+-- Each named input is loaded once, the container first, then the key file, the secrets file and the report key file, and nothing
+-- else; the answer is the fault that is due by these loads, and where there is none it is the bundles, the keys, the secret words
+-- and the report key.
+pub record TakesInputs (contents : Option (List ℕ → Option (List ℕ))) (needs : Needs) (c : NamedSeen) (old new : Reads) (result : Result Inputs InputFault) : Type 0 where
   pub bundles : Option (Result (Vec ℕ) LoadFault)
   pub keys : Option (Result (Vec ℕ) LoadFault)
   pub secrets : Option (Result (Vec ℕ) LoadFault)
+  pub report_key : Option (Result (Vec ℕ) LoadFault)
   pub behind_bundles : Reads
   pub behind_keys : Reads
+  pub behind_secrets : Reads
   pub bundles_loaded : LoadsNamed contents (2 ^ 29) c.bundles old bundles behind_bundles
   pub keys_loaded : LoadsNext contents (load_fault input.Bundles bundles) c.keys behind_bundles keys behind_keys
-  pub secrets_loaded : LoadsNext contents (first (load_fault input.Bundles bundles) (load_fault input.Keys keys)) c.secrets behind_keys secrets new
-  pub is_due : IsDue (due needed bundles keys secrets) result
+  pub secrets_loaded : LoadsNext contents (first (load_fault input.Bundles bundles) (load_fault input.Keys keys)) c.secrets behind_keys secrets behind_secrets
+  pub report_key_loaded : LoadsNext contents (first (load_fault input.Bundles bundles) (first (load_fault input.Keys keys) (load_fault input.Secrets secrets))) c.report_key behind_secrets report_key new
+  pub is_due : IsDue (due needs bundles keys secrets report_key) result
   pub bundle_list : IfOk result (λ inputs. inputs.bundles.items ≡ bundles_in bundles)
   pub key_bytes : IfOk result (λ inputs. inputs.keys ≡ keys_in keys)
   pub words : IfOk result (λ inputs. AreSecrets secrets inputs.secrets.items)
+  pub report_key_bytes : IfOk result (λ inputs. inputs.report_key ≡ report_key_in report_key)

@@ -4,7 +4,7 @@ use Rattle.command_files.specs.Commands.{AskedSeen, OfScript, Soak, Verify, Name
 
 -- a script alone, and with a key file
 abbrev pub script : List ℕ → NamedSeen
-script name = record { script = name; bundles = None; keys = None; secrets = None; out_bundles = None; guest_out = None }
+script name = record { script = name; bundles = None; keys = None; secrets = None; out_bundles = None; guest_out = None; report_key = None }
 
 abbrev pub with_keys : List ℕ → List ℕ → NamedSeen
 with_keys name keys = record (script name) { keys = Some keys }
@@ -38,6 +38,8 @@ worked_lines =
     ∷ (codes "replay" ∷ codes "s" ∷ codes "-k" ∷ [], None)
     ∷ (codes "replay" ∷ codes "s" ∷ codes "--help" ∷ [], None)
     ∷ (codes "check" ∷ codes "s" ∷ codes "--keys" ∷ codes "k" ∷ [], None)
+    ∷ (codes "run" ∷ codes "s" ∷ codes "--report-key" ∷ codes "r" ∷ [], Some (OfScript (Run (record (script (codes "s")) { report_key = Some (codes "r") }))))
+    ∷ (codes "check" ∷ codes "s" ∷ codes "--report-key" ∷ codes "r" ∷ [], None)
     -- a value that is a word of its own doesn't begin with a dash, but may be one
     ∷ (codes "replay" ∷ codes "s" ∷ codes "--keys" ∷ codes "-k" ∷ [], None)
     ∷ (codes "replay" ∷ codes "s" ∷ codes "--keys" ∷ codes "-1" ∷ [], None)

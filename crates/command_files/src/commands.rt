@@ -20,6 +20,7 @@ pub struct Named<'a> {
     pub secrets: Option<&'a str>,
     pub out_bundles: Option<&'a str>,
     pub guest_out: Option<&'a str>,
+    pub report_key: Option<&'a str>,
 }
 
 /// What the words ask for of a script: it is replayed under its schedule, or run in threads, with these
@@ -67,6 +68,7 @@ fn named_in<'a>(found: &ArgMatches<'a>) -> Option<Named<'a>>
             secrets: value_of(found, "secrets"),
             out_bundles: value_of(found, "out-bundles"),
             guest_out: value_of(found, "guest-out"),
+            report_key: value_of(found, "report-key"),
         }),
         None => None,
     }

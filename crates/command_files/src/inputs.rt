@@ -3,9 +3,9 @@
 ghost use Rattle.std.specs.Prelude.{◌≡◌, ◌≤◌, length, replicate, None, option_map, IfOk, OnOk};
 ghost use Rattle.byteorder.specs.Endian.{little_number, IsRead};
 ghost use Rattle.bundle_store.specs.Containers.{container_in, AreInOrder};
-ghost use Rattle.command_files.specs.declared.inputs.Input.TheVariants.{Bundles, Keys};
+ghost use Rattle.command_files.specs.declared.inputs.Input.TheVariants.{Bundles, Keys, ReportKey};
 ghost use Rattle.command_files.specs.Commands.{named_seen};
-ghost use Rattle.command_files.specs.Inputs.{LoadsNamed, load_fault, place_fault, container_fault, length_fault, keys_fault, secrets_fault, form_fault, bundles_read, bundles_in, keys_of, keys_in, HasKeys, AreSecrets, IsDue, TakesInputs};
+ghost use Rattle.command_files.specs.Inputs.{LoadsNamed, load_fault, place_fault, container_fault, length_fault, needed_fault, keys_fault, secrets_fault, report_key_fault, form_fault, bundles_read, bundles_in, keys_of, keys_in, report_key_in, IsThere, AreSecrets, IsDue, TakesInputs};
 
 use crate::commands::Named;
 use bundle_store::{ContainerFault, Files, LoadFault, read_container};
@@ -19,6 +19,7 @@ pub enum Input {
     Bundles,
     Keys,
     Secrets,
+    ReportKey,
 }
 
 /// Why a command isn't run: an input can't be read, or hasn't its form.
@@ -31,7 +32,16 @@ pub enum InputFault {
     Keys,
     /// The secrets file hasn't 4,096 bytes.
     Secrets,
+    /// The report key file hasn't 48 bytes, or none is named where a guest reports.
+    ReportKey,
     OutOfMemory,
+}
+
+/// Which inputs have to be named: the key file, and the report key file.
+#[derive(Clone, Copy)]
+pub struct Needs {
+    pub keys: bool,
+    pub report_key: bool,
 }
 
 /// The two keys of a key file: from source to destination, and back.
@@ -42,12 +52,13 @@ pub struct KeyBytes {
 }
 
 /// What the inputs hand out: the bundles of the container, in the order of their slots and sealed; the
-/// keys, where a key file is named; and the 512 secret words.
+/// keys, where a key file is named; the 512 secret words; and the report key, where its file is named.
 #[derive(Drop)]
 pub struct Inputs {
     pub bundles: Vec<SlotBundle>,
     pub keys: Option<KeyBytes>,
     pub secrets: Vec<u64>,
+    pub report_key: Option<[u8; 48]>,
 }
 
 const MOST_CONTAINER: u64 = 1 << 29;
@@ -56,7 +67,11 @@ const MOST_KEYS: u64 = 1 << 16;
 
 const MOST_SECRETS: u64 = 1 << 16;
 
+const MOST_REPORT_KEY: u64 = 1 << 16;
+
 const KEY_BYTES: usize = 64;
+
+const REPORT_KEY_BYTES: usize = 48;
 
 const SECRET_WORDS: usize = 512;
 
@@ -140,13 +155,18 @@ fn length_fault(
     }
 }
 
-// The key file hasn't its length, or is wanting.
-fn keys_fault(needed: bool, answer: &Option<Result<Vec<u8>, LoadFault>>) -> Option<InputFault>
-    ensures { result ≡ keys_fault needed answer.now }
+// The same, or the file is wanting.
+fn needed_fault(
+    bytes: usize,
+    fault: InputFault,
+    needed: bool,
+    answer: &Option<Result<Vec<u8>, LoadFault>>,
+) -> Option<InputFault>
+    ensures { result ≡ needed_fault bytes fault needed answer.now }
 {
     match answer {
-        None => { if needed { Some(InputFault::Keys) } else { None } }
-        Some(_) => length_fault(KEY_BYTES, InputFault::Keys, answer),
+        None => { if needed { Some(fault) } else { None } }
+        Some(_) => length_fault(bytes, fault, answer),
     }
 }
 
@@ -178,6 +198,27 @@ fn keys_in(needed: bool, answer: &Option<Result<Vec<u8>, LoadFault>>) -> Option<
 {
     match answer {
         Some(Ok(bytes)) => Some(keys_of(bytes)),
+        _ => None,
+    }
+}
+
+// A report key.
+fn report_key_of(bytes: &[u8]) -> [u8; 48]
+    requires { length bytes.now ≡ 48 }
+    ensures { result ≡ bytes.now }
+{
+    let mut key = [0; 48];
+    key.copy_from_slice(bytes);
+    key
+}
+
+// The report key, where its file is right if one was loaded.
+fn report_key_in(needed: bool, answer: &Option<Result<Vec<u8>, LoadFault>>) -> Option<[u8; 48]>
+    requires { report_key_fault needed answer.now ≡ None }
+    ensures { result ≡ report_key_in answer.now }
+{
+    match answer {
+        Some(Ok(bytes)) => Some(report_key_of(bytes)),
         _ => None,
     }
 }
@@ -221,52 +262,68 @@ fn secret_words(
 }
 
 // The first fault of the forms, or what the inputs hand out.
-#[tactic(auto, using(crate::proofs::Taken::keyed))]
+#[tactic(auto, using(crate::proofs::Taken::keyed, crate::proofs::Taken::report_keyed))]
 fn inputs_of(
     alloc: Global,
-    needed: bool,
+    needs: Needs,
     bundles: &Option<Result<Vec<u8>, LoadFault>>,
     keys: &Option<Result<Vec<u8>, LoadFault>>,
     secrets: &Option<Result<Vec<u8>, LoadFault>>,
+    report_key: &Option<Result<Vec<u8>, LoadFault>>,
 ) -> Result<Inputs, InputFault>
-    requires { load_fault Keys keys.now ≡ None }
-    ensures due { IsDue (form_fault needed bundles.now keys.now secrets.now) result }
+    requires keys { load_fault Keys keys.now ≡ None }
+    requires report_key { load_fault ReportKey report_key.now ≡ None }
+    ensures due { IsDue (form_fault needs bundles.now keys.now secrets.now report_key.now) result }
     ensures listed { IfOk result (λ inputs. inputs.bundles.items ≡ bundles_in bundles.now) }
     ensures order { IfOk result (λ inputs. AreInOrder 0 inputs.bundles.items) }
     ensures key_bytes { IfOk result (λ inputs. inputs.keys ≡ keys_in keys.now) }
-    ensures keyed { IfOk result (λ inputs. HasKeys needed inputs.keys) }
+    ensures keyed { IfOk result (λ inputs. IsThere needs.keys inputs.keys) }
     ensures words { IfOk result (λ inputs. AreSecrets secrets.now inputs.secrets.items) }
+    ensures report_key_bytes { IfOk result (λ inputs. inputs.report_key ≡ report_key_in report_key.now) }
+    ensures report_keyed { IfOk result (λ inputs. IsThere needs.report_key inputs.report_key) }
 {
     let bundles = bundles_in(alloc, bundles)?;
-    if let Some(fault) = keys_fault(needed, keys) {
+    if let Some(fault) = needed_fault(KEY_BYTES, InputFault::Keys, needs.keys, keys) {
         return Err(fault);
     }
     if let Some(fault) = length_fault(8 * SECRET_WORDS, InputFault::Secrets, secrets) {
         return Err(fault);
     }
-    let keys = keys_in(needed, keys);
+    if let Some(fault) = needed_fault(
+        REPORT_KEY_BYTES,
+        InputFault::ReportKey,
+        needs.report_key,
+        report_key,
+    ) {
+        return Err(fault);
+    }
+    let keys = keys_in(needs.keys, keys);
+    let report_key = report_key_in(needs.report_key, report_key);
     match secret_words(alloc, secrets) {
         Ok(secrets) => Ok(Inputs {
             bundles,
             keys,
             secrets,
+            report_key,
         }),
         Err(_) => Err(InputFault::OutOfMemory),
     }
 }
 
-/// Loads the container, the key file and the secrets file, where they are named, and then tests their
-/// forms. A key file that is `needed` and isn't named is a fault in the place of its own.
+/// Loads the container, the key file, the secrets file and the report key file, where they are named, and
+/// then tests their forms. One of the two key files that is needed and isn't named is a fault in the place
+/// of its own.
 pub fn take_inputs<F: Files>(
     alloc: Global,
     named: &Named<'_>,
-    needed: bool,
+    needs: Needs,
     files: &mut F,
 ) -> Result<Inputs, InputFault>
-    ensures takes { TakesInputs (F.contents files.old) needed (named_seen named.now) (record { loads = F.loads files.old; faults = F.read_faults files.old; bytes = F.bytes_read files.old }) (record { loads = F.loads files.new; faults = F.read_faults files.new; bytes = F.bytes_read files.new }) result }
+    ensures takes { TakesInputs (F.contents files.old) needs (named_seen named.now) (record { loads = F.loads files.old; faults = F.read_faults files.old; bytes = F.bytes_read files.old }) (record { loads = F.loads files.new; faults = F.read_faults files.new; bytes = F.bytes_read files.new }) result }
     ensures order { IfOk result (λ inputs. AreInOrder 0 inputs.bundles.items) }
-    ensures keyed { IfOk result (λ inputs. HasKeys needed inputs.keys) }
+    ensures keyed { IfOk result (λ inputs. IsThere needs.keys inputs.keys) }
     ensures secrets { IfOk result (λ inputs. length inputs.secrets.items ≡ 512) }
+    ensures report_keyed { IfOk result (λ inputs. IsThere needs.report_key inputs.report_key) }
     ensures same { F.contents files.new ≡ F.contents files.old }
     ensures saves { F.saves files.new ≡ F.saves files.old }
     ensures writes { F.write_faults files.new ≡ F.write_faults files.old }
@@ -286,5 +343,9 @@ pub fn take_inputs<F: Files>(
     if let Some(fault) = load_fault(Input::Secrets, &secrets) {
         return Err(fault);
     }
-    inputs_of(alloc, needed, &bundles, &keys, &secrets)
+    let report_key = load_named(alloc, named.report_key, MOST_REPORT_KEY, files);
+    if let Some(fault) = load_fault(Input::ReportKey, &report_key) {
+        return Err(fault);
+    }
+    inputs_of(alloc, needs, &bundles, &keys, &secrets, &report_key)
 }

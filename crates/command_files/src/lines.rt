@@ -56,7 +56,8 @@ pub fn files_line<'a>(alloc: Global) -> Result<Command<'a>, OutOfMemory>
     let line = with_option(alloc, line, "keys")?;
     let line = with_option(alloc, line, "secrets")?;
     let line = with_option(alloc, line, "out-bundles")?;
-    with_option(alloc, line, "guest-out")
+    let line = with_option(alloc, line, "guest-out")?;
+    with_option(alloc, line, "report-key")
 }
 
 /// The rest of `check`.

@@ -13,6 +13,7 @@ fn named_text(alloc: Global, verb: &str, named: &Named<'_>) -> Result<String, Fa
         ("secrets", named.secrets),
         ("out-bundles", named.out_bundles),
         ("guest-out", named.guest_out),
+        ("report-key", named.report_key),
     ] {
         if let Some(file) = file {
             text.push_str(&format!(in alloc; " {option} {file}")?)?;
@@ -56,6 +57,8 @@ const ROWS: &[&str] = &[
     "replay s keys k| replay s --keys k| replay --keys k s| replay --keys=k s| replay s --keys=k",
     "run s keys k| run s --keys k| run --keys k s| run --keys=k s| run --keys k -- s",
     "run s bundles b keys k secrets c out-bundles o guest-out g| run s --bundles b --keys k --secrets c --out-bundles o --guest-out g| run --guest-out=g --out-bundles=o s --secrets=c --keys=k --bundles=b",
+    "replay s keys k report-key r| replay s --keys k --report-key r| replay --report-key=r s --keys=k",
+    "run s guest-out g report-key r| run s --report-key r --guest-out g",
     "replay s keys | replay --keys= s| replay s --keys ",
     "replay s keys -k| replay --keys=-k s",
     "replay s keys =k| replay --keys==k s",
@@ -67,6 +70,7 @@ const ROWS: &[&str] = &[
     "usage| replay s -k| replay s -k k| replay s --key k| replay s --Keys k| replay s --=k",
     "usage| replay s --help| replay s -h| replay s --version| replay s -V| run --help| soak --help",
     "usage| check s --keys k| check --keys=k s| soak 1 --keys k",
+    "usage| check s --report-key r| soak 1 --report-key r| run s --report-key r --report-key r| run s --report-key",
     // a word that begins with a dash is no value
     "usage| replay s --keys -k| replay s --keys -1| replay s --keys --k| replay -s| replay --s",
     // behind `--` no word is an option

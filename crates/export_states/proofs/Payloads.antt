@@ -1,39 +1,17 @@
--- The words of a payload, told one after another, and the decision of an export: where it stops, and where all is told.
-use Rattle.std.proofs.Common.{◌≡◌, ℕ, zero, suc, ◌+◌, ◌<◌, ◌≤◌, List, [], ◌∷◌, length, take, drop, Ok, Err, Result, refl, ap, sym, ◌∙◌, subst, arith}
+-- The decision of an export: where it stops, and where all is told.
+use Rattle.std.proofs.Common.{◌≡◌, ℕ, ◌+◌, ◌<◌, ◌≤◌, List, length, take, Ok, Err, refl, ap, sym, ◌∙◌, subst, arith}
 use Rattle.td_words.specs.declared.replies.Value.TheVariants as value
 use Rattle.td_words.specs.declared.replies.Reply.TheVariants.{Done}
 use Rattle.td_words.specs.Place.{WordPlace, address}
 use Rattle.leaf_engine.specs.declared.plans.Stop.{Stop}
 use Rattle.leaf_engine.specs.declared.plans.Stop.TheVariants as stop
 use Rattle.leaf_engine.specs.Changes.{Change}
-use Rattle.leaf_engine.specs.Decides.{Decides, Ending}
+use Rattle.leaf_engine.specs.Decides.{Decides}
 use Rattle.leaf_engine.specs.Trees.{Tree, feed, changes_of}
 use Rattle.leaf_parts.specs.Parts.{Goes, Feeds}
-use Rattle.access_core.specs.RtmrTrees.{with_words}
+use Rattle.access_core.proofs.WordsTold.{words-stop, words-go, words-fed}
 use Rattle.export_states.specs.declared.states.Stated.{Stated}
 use Rattle.export_states.specs.StateTrees.{state_end, payload_tree}
-
--- the next word is asked for
-words-stop : (n : ℕ) (at : ℕ → WordPlace) (from left : ℕ) (f : List ℕ → Tree) (xs : List ℕ) → length xs < left → Decides n (with_words at from left f) xs (Err (stop.Load (address n (at (from + length xs)))))
-words-stop n at from zero f xs b = absurd (omega (arith, b))
-words-stop n at from (suc left) f [] b =
-    let here : from + 0 ≡ from = omega arith in
-    subst (λ (i : ℕ). Decides n (with_words at from (suc left) f) [] (Err (stop.Load (address n (at i))))) (sym here) refl
-words-stop n at from (suc left) f (x ∷ xs) b =
-    let there : from + 1 + length xs ≡ from + suc (length xs) = omega arith in
-    subst (λ (i : ℕ). Decides n (with_words at (from + 1) left (λ ws. f (x ∷ ws))) xs (Err (stop.Load (address n (at i))))) there
-    (words-stop n at (from + 1) left (λ ws. f (x ∷ ws)) xs (omega (arith, b)))
-
--- all are told
-words-go : (n : ℕ) (at : ℕ → WordPlace) (from left : ℕ) (f : List ℕ → Tree) (xs : List ℕ) (r : Result Ending Stop) → left ≤ length xs → Decides n (f (take left xs)) (drop left xs) r → Decides n (with_words at from left f) xs r
-words-go n at from zero f xs r b d = d
-words-go n at from (suc left) f [] r b d = absurd (omega (arith, b))
-words-go n at from (suc left) f (x ∷ xs) r b d = words-go n at (from + 1) left (λ ws. f (x ∷ ws)) xs r (omega (arith, b)) d
-
-words-fed : (at : ℕ → WordPlace) (from left : ℕ) (f : List ℕ → Tree) (xs : List ℕ) → left ≤ length xs → feed (with_words at from left f) xs ≡ feed (f (take left xs)) (drop left xs)
-words-fed at from zero f xs b = refl
-words-fed at from (suc left) f [] b = absurd (omega (arith, b))
-words-fed at from (suc left) f (x ∷ xs) b = words-fed at (from + 1) left (λ ws. f (x ∷ ws)) xs (omega (arith, b))
 
 -- behind the conditions of an export
 module _ (n : ℕ) (asked : (Stated → Tree) → Tree) (slot kind : ℕ) (changes : Stated → List Change) (at : Stated → ℕ → WordPlace) (count : ℕ) (xs ys : List ℕ) where

@@ -1,21 +1,17 @@
 -- The export of a TD's state as a decision over the words that it is told, and its changes.
-use Rattle.std.specs.Prelude.{ℕ, ◌+◌, ◌<◌, ◌==◌, nat_lt, List, [], ◌∷◌, Result, Ok, Err}
+use Rattle.std.specs.Prelude.{ℕ, ◌+◌, ◌==◌, nat_lt, List, [], ◌∷◌, Result}
 use Rattle.td_words.specs.declared.names.Mode.TheVariants.{Exclusive}
 use Rattle.td_words.specs.declared.machines.Machine.{Machine}
 use Rattle.td_words.specs.declared.places.TheConstants.{TDCS_TD_EXPORTED, TDCS_RTMRS, STREAM_COUNTER}
 use Rattle.td_words.specs.declared.refusals.Status.TheVariants.{OperandInvalid, AlreadyExported}
-use Rattle.td_words.specs.declared.replies.Value.TheVariants as value
-use Rattle.td_words.specs.declared.replies.Reply.TheVariants.{Done}
 use Rattle.td_words.specs.Place.{WordPlace}
 use Rattle.td_words.specs.Place as place
 use Rattle.flat_core.specs.BundleRows.{paused_ops, export_td}
 use Rattle.word_rules.specs.Rules.{Whole}
 use Rattle.leaf_engine.specs.declared.needs.Place.{Place}
 use Rattle.leaf_engine.specs.declared.plans.Stop.{Stop}
-use Rattle.leaf_engine.specs.declared.plans.Stop.TheVariants as stop
 use Rattle.leaf_engine.specs.Changes.{Change, Put}
-use Rattle.leaf_engine.specs.Decides.{Decides}
-use Rattle.leaf_engine.specs.Trees.{Tree, Load, needs, feed, changes_of}
+use Rattle.leaf_engine.specs.Trees.{Tree, Load, needs}
 use Rattle.leaf_engine.specs.Means.{Task, OfCall}
 use Rattle.leaf_parts.specs.Heads.{td_head_tree}
 use Rattle.stream_parts.specs.Rooms.{room_tree, session_tree, mig_epoch_tree}
@@ -58,14 +54,3 @@ td_state_task p tdr slot = record { place = p; tree = td_tree p.machine tdr slot
 
 abbrev pub TdComes : Place → (tdr slot : ℕ) → (told : List ℕ) → Result Exported Stop → Type 0
 TdComes p tdr slot told r = ComesTo p.machine.pages (td_tree p.machine tdr slot) (state_end slot 1 td_changes) told r
-
--- all is told, or what comes next
-abbrev pub DecidesAs : (pages : ℕ) → Tree → (told : List ℕ) → Result (Unit {0}) Stop → Type 0
-DecidesAs n tree told (Ok u) = Decides n tree told (Ok (record { reply = Done value.Nothing; changes = changes_of (feed tree told) }))
-DecidesAs n tree told (Err e) = Decides n tree told (Err e)
-
--- where a decision wants a lock it was told less than so many words, and where it wants a word less than so many
-abbrev pub TriesEarly : (tries most told : ℕ) → Stop → Type 0
-TriesEarly tries most told (stop.Load at) = told < most
-TriesEarly tries most told (stop.Lock name at mode) = told < tries
-TriesEarly tries most told (stop.Refused reply) = Unit {0}

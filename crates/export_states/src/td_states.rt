@@ -2,9 +2,9 @@
 
 ghost use Rattle.std.specs.Prelude.{◌≡◌, ℕ, ◌+◌, ◌<◌, ◌≤◌, true, false, length, MatchOption, MatchResult, Err};
 ghost use Rattle.leaf_engine.specs.Decides.{HandsAt, need_for, told_then};
-ghost use Rattle.leaf_engine.specs.Inside.{StopIn, is_load};
+ghost use Rattle.leaf_engine.specs.Inside.{StopIn, TriesEarly, is_load};
 ghost use Rattle.leaf_parts.specs.Parts.{Goes, Feeds, Uses};
-ghost use Rattle.export_states.specs.TdStateTrees.{td_state_tree, td_asked, td_changes, TdComes, TriesEarly};
+ghost use Rattle.export_states.specs.TdStateTrees.{td_state_tree, td_asked, td_changes, TdComes};
 
 use crate::states::{Exported, Stated, payload_of};
 use arrayvec::ArrayVec;
@@ -43,7 +43,8 @@ impl StateTd {
     ghost use Rattle.std.specs.Prelude.{[]};
     ghost use Rattle.leaf_engine.specs.Trees.{feed, answer_of, changes_of};
     ghost use Rattle.bundles.specs.Made.{made_in};
-    ghost use Rattle.export_states.specs.TdStateTrees.{td_state_task, td_tree, DecidesAs};
+    ghost use Rattle.leaf_engine.specs.Decides.{DecidesAs};
+    ghost use Rattle.export_states.specs.TdStateTrees.{td_state_task, td_tree};
 
     /// The leaf of a call at a place.
     pub fn leaf(place: Place, tdr: u64, slot: u16) -> StateTd

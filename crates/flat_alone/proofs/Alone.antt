@@ -13,7 +13,7 @@ use Rattle.td_words.specs.declared.refusals.Status.TheVariants.{EptWalkFailed}
 use Rattle.td_words.specs.declared.names.EntryState.TheVariants as entry
 use Rattle.flat_core.specs.Tree.{number_at, entry_at, empty_below, is_passed, levels_above}
 use Rattle.flat_core.specs.Tracking.{tracked_page}
-use Rattle.flat_core.specs.MemRows.{open_states, blocked_states, removed_states}
+use Rattle.flat_core.specs.MemRows.{open_states, blocked_states, removed_states, another_page}
 use Rattle.flat_core.specs.ExportRows.{live_ops, restoring_ops, write_blocked_states, restored_states}
 use Rattle.flat_core.specs.Lawful.{Lawful}
 use Rattle.flat_core.specs.World.{World, first_world, put}
@@ -27,6 +27,7 @@ use Rattle.flat_core.specs.Event.{State, Event, OfCall, start, lines_left, calls
 use Rattle.flat_core.specs.Run.{play, events_in, to_the_end}
 use Rattle.report_text.specs.Lines.{reply_lines}
 use Rattle.flat_core.specs.HostText.{lines_from, text_of, host_text}
+use Rattle.flat_core.specs.Conditions.{page_exclusive, host_page}
 use Rattle.flat_core.proofs.Tests.{put_here}
 use Rattle.flat_core.proofs.Ranges.{block_restates, unblock_restates, page_removed, sept_removed}
 use Rattle.flat_core.proofs.Keeps.{row-keeps, first-lawful}
@@ -115,6 +116,12 @@ free_row o p (call.MemSeptRemove tdr gpa level) w la =
     λ a b d e. free_named o.machine w la tdr gpa level (entry.NlBlocked ∷ []) (λ s h. (sept_removed s h).used) (empty_below w tdr gpa level ∷ tracked_page w tdr (entry_at w tdr level gpa).page ∷ []) (λ x y. tt)
 free_row o p (call.MemPageRemove tdr gpa) w la =
     λ a b d. free_named o.machine w la tdr gpa 0 removed_states (λ s h. (page_removed s h).used) (tracked_page w tdr (entry_at w tdr 0 gpa).page ∷ []) (λ x. tt)
+free_row o p (call.MemPageRelocate tdr gpa page) w la =
+    λ a b d apart e. free_named o.machine w la tdr gpa 0 removed_states (λ s h. (page_removed s h).used) (another_page w tdr gpa page ∷ page_exclusive page ∷ host_page w page ∷ tracked_page w tdr (entry_at w tdr 0 gpa).page ∷ [])
+    (λ other.
+    let u : (tdr == page) ≡ false = other_page page tdr apart in
+    let v : ((entry_at w tdr 0 gpa).page == page) ≡ false = other_page page (entry_at w tdr 0 gpa).page other in
+    (rw v refl, rw u refl, λ host tracked. tt))
 free_row o p (call.MemRangeBlock tdr gpa level) w la =
     λ a b d e. free_named o.machine w la tdr gpa level open_states (λ s h. (block_restates s h).used) [] tt
 free_row o p (call.MemRangeUnblock tdr gpa level) w la =

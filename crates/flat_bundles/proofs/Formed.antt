@@ -43,14 +43,13 @@ use Rattle.flat_core.specs.Lawful.{IsAlive, Lawful}
 use Rattle.flat_core.specs.Event.{State, Event, start, next_event, operation_due, nothing_more, world_after, after_event, event}
 use Rattle.flat_core.specs.Inside.{AreTimely}
 use Rattle.flat_core.specs.Laws.{with_bundles}
-use Rattle.flat_core.proofs.Tests.{by_test, same_self, tdr_kind}
+use Rattle.flat_core.proofs.Tests.{by_test, same_self}
 use Rattle.flat_core.proofs.Acts.{by_call, by_operation, by_release}
 use Rattle.flat_core.proofs.Due.{Due, calls, frees, leaves, stops, fills, operates, walks, reaches, undoes, gives_back, due_event_is}
 use Rattle.flat_core.proofs.Ends.{timeliness_kept}
 use Rattle.flat_core.proofs.ImportKeeps.{input_form}
 use Rattle.flat_core.proofs.Induction.{in_runs}
 use Rattle.flat_core.proofs.Operations.{operation_row, accepted}
-use Rattle.flat_core.proofs.Ranges.{living}
 use Rattle.flat_core.proofs.Passed.{TdPassed, td_alive}
 use Rattle.flat_bundles.proofs.Fills.{fill_either}
 use Rattle.flat_bundles.specs.Formed.{tagged, IsFormed, AreCodesShort, EveryBundleIsFormed, has_session, FormsHold, FormsAreKept}
@@ -371,6 +370,7 @@ operation_forms o t v line op row w is few h = operation_row o t v line (λ x. F
     (λ y. record { formed = h.formed; position = (passed_forms w (tell_words [] (pass_operation v w)) v few refl refl refl h).position; session = h.session })
     (λ y. passed_forms w _ v few refl refl refl h))
     (λ i. passed_forms w _ v few refl refl refl h)
+    (passed_forms w _ v few refl refl refl h)
     (λ r. passed_forms w _ v few refl refl refl h) op row is
 
 reach_forms : (t v : ℕ) (access : Access) (r gpa page : ℕ) (w : World) → w.vps.positions v < 256 → FormsHold w → FormsHold (reach t v access r gpa page w)

@@ -53,6 +53,7 @@ operation-adds o t v line op row w e =
     (λ r gpa. refl)
     (λ gpa. accepted (λ x. x.outgoing.bundles ≡ w.outgoing.bundles) (is_pending_at w t gpa) t gpa w (λ y. refl) (λ y. refl))
     (λ i. refl)
+    refl
     (λ r. refl)
     op row e
 
@@ -66,6 +67,7 @@ operation-streams o t v line op row w e =
     (λ r gpa. refl)
     (λ gpa. accepted (λ x. x.streams ≡ w.streams) (is_pending_at w t gpa) t gpa w (λ y. refl) (λ y. refl))
     (λ i. refl)
+    refl
     (λ r. refl)
     op row e
 

@@ -63,6 +63,7 @@ module _ (o : Opening) (calls : List (List Call)) (bundles : ℕ → Option Inco
     operation-same line (op.Store r gpa) = refl
     operation-same line (op.Accept gpa) = refl
     operation-same line (op.Rtmr i) = refl
+    operation-same line op.Report = refl
     operation-same line (op.Vmcall r) = refl
 
     max-same : (x : GuestOp) (full : Bool) → max_event q w lp g x full ≡ max_event o w lp g x full

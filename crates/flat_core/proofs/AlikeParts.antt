@@ -1,5 +1,5 @@
 -- What the words that acts are written in keep of two worlds that differ in private words alone.
-use Rattle.std.proofs.Common.{◌≡◌, refl, ◌∙◌, subst, ap, ℕ, List, [], ◌∷◌, ◌++◌, length, true, not, ◌==◌, ◌||◌}
+use Rattle.std.proofs.Common.{◌≡◌, refl, sym, ◌∙◌, subst, ap, ℕ, List, [], ◌∷◌, ◌++◌, length, true, false, not, ◌==◌, ◌||◌}
 use Rattle.std.specs.Prelude.{Some, None}
 use Rattle.std.proofs.lemmas.Bool.{eqb-true}
 use Rattle.td_words.specs.declared.names.PageKind.{PageKind}
@@ -8,9 +8,9 @@ use Rattle.td_words.specs.declared.names.EntryState.{EntryState}
 use Rattle.td_words.specs.declared.names.OpState.{OpState}
 use Rattle.td_words.specs.declared.names.VcpuState.TheVariants as vcpu
 use Rattle.td_words.specs.Packing.{Key}
-use Rattle.flat_core.specs.World.{World, Pages, Tds, Vps, KeyTable, Hidden, put}
+use Rattle.flat_core.specs.World.{World, Pages, Tds, Vps, KeyTable, Hidden, put, free_entry}
 use Rattle.flat_core.specs.Conditions.{same_kind, is_host_in}
-use Rattle.flat_core.specs.Effects.{put_in, take_node, map_page, set_page, measure, clear_page, give_back, set_key, set_op, add_vp}
+use Rattle.flat_core.specs.Effects.{put_in, take_node, map_page, set_page, measure, clear_page, give_back, set_entry, unmap_page, set_key, set_op, add_vp}
 use Rattle.flat_core.specs.Alike.{Alike, is_public, is_being_built}
 use Rattle.flat_core.proofs.Tests.{by_test, host_kind}
 
@@ -122,6 +122,30 @@ filled_alike v w p f g same a = record {
   size = a.size;
   pages = a.pages;
   words = λ q i known. by_test (q == p) (λ y. rw y (same i)) (λ n. rw n (a.words q i known));
+  tds = a.tds;
+  vps = a.vps;
+  streams = a.streams;
+  key_table = a.key_table;
+  told = a.told;
+  bundles = a.bundles;
+}
+
+-- a page that leaves the map
+pub unmapped_alike : (v w : World) (t level n : ℕ) → Alike v w → Alike (unmap_page t level n v) (unmap_page t level n w)
+unmapped_alike v w t level n a =
+    let v1 : World = set_entry t level n free_entry v in
+    let w1 : World = set_entry t level n free_entry w in
+    let a1 : Alike v1 w1 = tds_alike v w a (λ x. record x { entries = put x.entries t (put_in (x.entries t) level n free_entry) }) (λ x. refl) in
+    subst (λ (p : ℕ). Alike (unmap_page t level n v) (give_back p w1)) (ap (λ (x : Tds). (x.entries t level n).page) a.tds) (left_alike v1 w1 a1 (v.tds.entries t level n).page)
+
+-- one that is private may be filled with any words
+pub hidden_filled_alike : (v w : World) (p : ℕ) (f g : ℕ → ℕ) → is_public v.pages v.tds p ≡ false → Alike v w → Alike (set_page p f v) (set_page p g w)
+hidden_filled_alike v w p f g hidden a = record {
+  size = a.size;
+  pages = a.pages;
+  words = λ q i known. by_test (q == p)
+      (λ y. absurd (let no : true ≡ false = sym known ∙ (ap (is_public v.pages v.tds) (eqb-true q p y) ∙ hidden) in cc))
+      (λ n. rw n (a.words q i known));
   tds = a.tds;
   vps = a.vps;
   streams = a.streams;

@@ -123,7 +123,7 @@ module _ (o : Opening) (s : State) (p : ℕ) (lawful : Lawful o.machine s.world)
       let ops = ap (λ (z : Tds). z.ops) f.1 in
       let epochs = ap (λ (z : Tds). z.epochs) f.1 in
       let entries = ap (λ (z : Tds). z.entries) f.1 in (
-        quiet-epochs o w lawful holds.epochs w' (ap (λ (z : Pages). z.kinds) f.0) (ap (λ (z : Pages). z.owners) f.0) lives ops epochs f.2 f.3 f.4,
+        quiet-epochs o.machine w lawful holds.epochs w' (ap (λ (z : Pages). z.kinds) f.0) (ap (λ (z : Pages). z.owners) f.0) lives ops epochs f.2 f.3 f.4,
         λ q. quiet-act o.machine w lawful holds.epochs q (s.lps q).cached (s.lps q).guest (λ x i. occ q x i) (holds.each q) w' f.0 lives ops epochs entries f.2 f.3 f.4,
       )
 
@@ -132,7 +132,7 @@ module _ (o : Opening) (s : State) (p : ℕ) (lawful : Lawful o.machine s.world)
   accept-world t v gpa = accepted (λ x. StillHold (tell_words [] (pass_operation v x))) (is_pending_at w t gpa) t gpa w
       (λ y. let w' : World = tell_words [] (pass_operation v (accept_page true t gpa w)) in
       let new : Entry = record { state = entry.Mapped; page = (entry_at w t 0 gpa).page; mark = 0 } in (
-        quiet-epochs o w lawful holds.epochs w' refl refl refl refl refl refl refl refl,
+        quiet-epochs o.machine w lawful holds.epochs w' refl refl refl refl refl refl refl refl,
         λ q. accept-access o.machine w lawful holds.epochs q (s.lps q).cached (s.lps q).guest (λ x i. occ q x i) (holds.each q) w' t (number_at 0 gpa) new (pending_state (entry_at w t 0 gpa).state y) refl refl refl refl refl,
       ))
       (λ y. quiet-world (tell_words [] (pass_operation v w)) (refl, refl, refl, refl, refl))
@@ -242,6 +242,7 @@ module _ (o : Opening) (s : State) (p : ℕ) (lawful : Lawful o.machine s.world)
       (λ r gpa. quiet-world _ (refl, refl, refl, refl, refl))
       (λ gpa. accept-world t v gpa)
       (λ i. quiet-world _ (refl, refl, refl, refl, refl))
+      (quiet-world _ (refl, refl, refl, refl, refl))
       (λ r. quiet-world _ (refl, refl, refl, refl, refl)) op row e
   operation-holds t v line op row (Attempts l m) e = unchanged
   operation-holds t v line op row (Undoes l) e = unchanged

@@ -20,17 +20,17 @@ use Rattle.td_words.specs.declared.calls.Call.TheVariants as call
 use Rattle.td_words.specs.declared.replies.Value.TheVariants as value
 use Rattle.td_words.specs.NameNumber.{op_number, life_number}
 use Rattle.td_words.specs.Packing.{Entry, Unassigned, AssignedTo, FlushedOf, is_exported}
-use Rattle.flat_core.specs.World.{World, Pages, Tds, Vps, Streams, KeyTable, put, free_entry}
+use Rattle.flat_core.specs.World.{World, Pages, Tds, Vps, Streams, KeyTable, put}
 use Rattle.flat_core.specs.Opening.{Opening, Incoming, Agree}
 use Rattle.flat_core.specs.Row.{Row}
 use Rattle.flat_core.specs.Digests.{digest_word}
-use Rattle.flat_core.specs.Conditions.{same_kind, is_host_in}
-use Rattle.flat_core.specs.Effects.{put_in, new_td, take_page, map_page, set_page, begin_memory, clear_page, give_back, block_page, set_state, set_entry, unmap_page, end_memory, enter_guest, end_association, end_memory_in, set_life, set_op, set_vp_state, set_register, end_measurement, set_epoch, written_back, restate}
+use Rattle.flat_core.specs.Conditions.{same_kind, is_host_in, blocking_ops}
+use Rattle.flat_core.specs.Effects.{put_in, new_td, take_page, map_page, set_page, begin_memory, clear_page, block_page, set_state, unmap_page, end_memory, enter_guest, end_association, end_memory_in, set_life, set_op, set_vp_state, set_register, end_measurement, set_epoch, written_back, restate}
 use Rattle.flat_core.specs.HostRows.{host_read, host_write, read_metadata}
 use Rattle.flat_core.specs.TdRows.{create, configure_key, add_tdcx, initialize, read_conditions, field_value, read_td, finalize}
 use Rattle.flat_core.specs.KeyRows.{write_caches_back, reclaim_conditions, reclaim_page, end_flush, free_hkid}
 use Rattle.flat_core.specs.VpRows.{create_vp, initialize_vp, enter_vp, flush_vp}
-use Rattle.flat_core.specs.MemRows.{add_sept, read_sept, add_page, augment_page, remove_page, remove_sept, blocked_state, unblocked_state, block_range, unblock_range, advance_epoch, chunk_bytes, extend}
+use Rattle.flat_core.specs.MemRows.{add_sept, read_sept, add_page, augment_page, remove_page, relocate_page, remove_sept, blocked_state, unblocked_state, block_range, unblock_range, advance_epoch, chunk_bytes, extend}
 use Rattle.flat_core.specs.ExportRows.{add_stream, create_stream, write_blocked, block_write, write_unblocked, is_first_dirt, unblock_write, note_pause, pause, abort_export, one_less, restore}
 use Rattle.flat_core.specs.BundleRows.{export_immutable, export_page, export_token, export_td, export_vp}
 use Rattle.flat_core.specs.ImportRows.{import_immutable, import_page, import_token, import_td, import_vp, commit_import, end_import, abort_import, abort_by_token}
@@ -39,9 +39,9 @@ use Rattle.flat_core.specs.Tree.{page_of_gpa, number_at, entry_at, same_state}
 use Rattle.flat_core.specs.Table.{row_of}
 use Rattle.flat_core.specs.Lawful.{IsAlive, LawfulPages, Lawful, is_free}
 use Rattle.flat_core.specs.Alike.{Alike, AreBlind, is_public, is_being_built}
-use Rattle.flat_core.proofs.Tests.{by_test, host_kind}
-use Rattle.flat_core.proofs.Passed.{TdPassed, td_alive, sept_passed}
-use Rattle.flat_core.proofs.AlikeParts.{host_public, tds_alike, op_alike, keys_alike, key_alike, vps_alike, hidden_alike, taken_alike, cleared_alike, left_alike, filled_alike, mapped_alike, measured_alike, with_entered, added_alike}
+use Rattle.flat_core.proofs.Tests.{by_test, host_kind, same_self}
+use Rattle.flat_core.proofs.Passed.{TdPassed, td_alive, sept_passed, relocate_passed}
+use Rattle.flat_core.proofs.AlikeParts.{host_public, tds_alike, op_alike, keys_alike, key_alike, vps_alike, hidden_alike, taken_alike, cleared_alike, left_alike, filled_alike, mapped_alike, unmapped_alike, hidden_filled_alike, measured_alike, with_entered, added_alike}
 use Rattle.flat_core.proofs.BundleBlind.{export_immutable-blind, export_page-blind, export_token-blind, export_td-blind, export_vp-blind}
 use Rattle.flat_core.proofs.ImportBlind.{AlikeIn, inputs_agree, import_immutable-blind, import_page-blind, import_token-blind, import_td-blind, import_vp-blind, commit_import-blind, end_import-blind, abort_import-blind, abort_by_token-blind}
 
@@ -383,14 +383,6 @@ advance_epoch-blind m t = record {
   act = λ v w lv lw a ps. tds_alike v w a (λ x. record x { epochs = put x.epochs t (x.epochs t + 1) }) (λ x. refl);
 }
 
--- a page that leaves the map
-unmapped_alike : (v w : World) (t level n : ℕ) → Alike v w → Alike (unmap_page t level n v) (unmap_page t level n w)
-unmapped_alike v w t level n a =
-    let v1 : World = set_entry t level n free_entry v in
-    let w1 : World = set_entry t level n free_entry w in
-    let a1 : Alike v1 w1 = tds_alike v w a (λ x. record x { entries = put x.entries t (put_in (x.entries t) level n free_entry) }) (λ x. refl) in
-    subst (λ (p : ℕ). Alike (unmap_page t level n v) (give_back p w1)) (ap (λ (x : Tds). (x.entries t level n).page) a.tds) (left_alike v1 w1 a1 (v.tds.entries t level n).page)
-
 pub remove_page-blind : (m : Machine) (t gpa : ℕ) → AreBlind m (remove_page m t gpa) (remove_page m t gpa)
 remove_page-blind m t gpa = record {
   enters = refl;
@@ -401,6 +393,33 @@ remove_page-blind m t gpa = record {
       let v1 : World = end_memory t (page_of_gpa gpa) v in
       let w1 : World = end_memory t (page_of_gpa gpa) w in
       unmapped_alike v1 w1 t 0 (number_at 0 gpa) (hidden_alike v w a v1.hidden w1.hidden);
+}
+
+-- the words that move are private before and after
+built_public : (s : OpState) → list_any (λ b. op_number b == op_number s) blocking_ops ≡ true → is_being_built s ≡ false
+built_public op.Runnable h = refl
+built_public _ h = cc
+
+pub relocate_page-blind : (m : Machine) (t gpa page : ℕ) → AreBlind m (relocate_page m t gpa page) (relocate_page m t gpa page)
+relocate_page-blind m t gpa page = record {
+  enters = refl;
+  items = λ v w a. rw (a.pages, a.tds, a.vps) refl;
+  value = λ v w a. refl;
+  cached = λ v w ts a. refl;
+  act = λ v w lv lw a ps.
+      let q = relocate_passed m v t gpa page ps in
+      let n : ℕ = number_at 0 gpa in
+      let old : ℕ = (entry_at v t 0 gpa).page in
+      let sv : EntryState = unblocked_state (entry_at v t 0 gpa).state in
+      let v1 : World = unmap_page t 0 n v in
+      let w1 : World = unmap_page t 0 n w in
+      let v2 : World = map_page page kind.Reg sv t 0 n v1 in
+      let host : v1.pages.kinds page ≡ kind.Nda = by_test (page == old) (λ y. rw y refl) (λ y. rw y (host_kind _ q.host)) in
+      let a2 : Alike v2 (map_page page kind.Reg sv t 0 n w1) = mapped_alike v1 w1 page kind.Reg sv t 0 n host (unmapped_alike v w t 0 n a) in
+      let same : sv ≡ unblocked_state (entry_at w t 0 gpa).state = ap (λ (x : Tds). unblocked_state (x.entries t 0 n).state) a.tds in
+      let private : is_public v2.pages v2.tds page ≡ false = (let s = same_self page in rw s (built_public (v.tds.ops t) q.named.op)) in
+      hidden_filled_alike v2 (map_page page kind.Reg (unblocked_state (entry_at w t 0 gpa).state) t 0 n w1) page (v.words old) (w.words (entry_at w t 0 gpa).page) private
+      (subst (λ (s : EntryState). Alike v2 (map_page page kind.Reg s t 0 n w1)) same a2);
 }
 
 pub remove_sept-blind : (m : Machine) (t gpa level : ℕ) → AreBlind m (remove_sept m t gpa level) (remove_sept m t gpa level)
@@ -578,6 +597,7 @@ row-blind o q a me (call.MemSeptRd t gpa level) = blind_at o q a.machine (λ m. 
 row-blind o q a me (call.MemSeptRemove t gpa level) = blind_at o q a.machine (λ m. remove_sept m t gpa level) (remove_sept-blind o.machine t gpa level)
 row-blind o q a me (call.MemPageAdd t gpa p source) = blind_at o q a.machine (λ m. add_page m t gpa p source) (add_page-blind o.machine t gpa p source)
 row-blind o q a me (call.MemPageAug t gpa p) = blind_at o q a.machine (λ m. augment_page m t gpa p) (augment_page-blind o.machine t gpa p)
+row-blind o q a me (call.MemPageRelocate t gpa page) = blind_at o q a.machine (λ m. relocate_page m t gpa page) (relocate_page-blind o.machine t gpa page)
 row-blind o q a me (call.MemPageRemove t gpa) = blind_at o q a.machine (λ m. remove_page m t gpa) (remove_page-blind o.machine t gpa)
 row-blind o q a me (call.MemRangeBlock t gpa level) = blind_at o q a.machine (λ m. block_range m t gpa level) (block_range-blind o.machine t gpa level)
 row-blind o q a me (call.MemRangeUnblock t gpa level) = blind_at o q a.machine (λ m. unblock_range m t gpa level) (unblock_range-blind o.machine t gpa level)

@@ -207,4 +207,5 @@ operations_are_blind o q a t v line (op.Store r gpa) =
     either_blind (is_private gpa) (Private Write r gpa) _ _ refl (acts_at o q a.machine (λ m. shared_store m v r gpa) (shared_store-blind o.machine v r gpa))
 operations_are_blind o q a t v line (op.Accept gpa) = accept-blind t v gpa
 operations_are_blind o q a t v line (op.Rtmr i) = own_blind v _ _ _ _ _ _ (λ v w b. refl)
+operations_are_blind o q a t v line op.Report = own_blind v _ _ _ _ _ _ (λ v w b. refl)
 operations_are_blind o q a t v line (op.Vmcall r) = call_host-blind v r

@@ -116,6 +116,7 @@ row_ordered o me (call.MemPageAdd t gpa page source) w = (refl, (refl, (refl, (r
 row_ordered o me (call.MemPageAug t gpa page) w = (refl, (refl, (refl, (refl, (refl, (tt, (tt, (tt, (tt, (tt, (tt, (tt, (tt, (tt, tt))))))))))))))
 row_ordered o me (call.VpFlush t vp) w = (refl, (refl, (refl, (tt, (tt, (tt, (tt, (tt, tt))))))))
 row_ordered o me (call.MemSeptRemove t gpa level) w = (refl, (refl, (refl, (refl, (tt, (tt, (tt, (tt, walk_ordered 4 (is_passed w t gpa) (levels_above level) (state_in w t gpa level (entry.NlBlocked ∷ []) ∷ named_page w t gpa level Exclusive ∷ empty_below w t gpa level ∷ tracked_page w t (entry_at w t level gpa).page ∷ []) (tt, (tt, (tt, tt)))))))))))
+row_ordered o me (call.MemPageRelocate t gpa page) w = (refl, (refl, (refl, (refl, (refl, (tt, (tt, (tt, (tt, (tt, (tt, (tt, (tt, (tt, (tt, (tt, tt))))))))))))))))
 row_ordered o me (call.MemPageRemove t gpa) w = (refl, (refl, (refl, (tt, (tt, (tt, (tt, (tt, (tt, (tt, (tt, (tt, tt))))))))))))
 row_ordered o me (call.MemRangeBlock t gpa level) w = (refl, (refl, (refl, (refl, (tt, (tt, (tt, (tt, walk_ordered 4 (is_passed w t gpa) (levels_above level) (state_in w t gpa level open_states ∷ named_page w t gpa level Exclusive ∷ []) (tt, tt)))))))))
 row_ordered o me (call.MemRangeUnblock t gpa level) w = (refl, (refl, (refl, (refl, (tt, (tt, (tt, (tt, walk_ordered 4 (is_passed w t gpa) (levels_above level) (state_in w t gpa level blocked_states ∷ named_page w t gpa level Exclusive ∷ tracked_page w t (entry_at w t level gpa).page ∷ []) (tt, (tt, tt))))))))))

@@ -80,7 +80,7 @@ abbrev IsInTime : Opening → World → ℕ → Lp → Type 0
 IsInTime o w p lp = IsTimely o w p (calls_of o.calls p) lp
 
 -- with nothing done of the first line
-fresh_left : (o : Opening) (w : World) (cs : List Call) (lp : Lp) → lp.guest ≡ None → left_of o w cs (record lp { call = nothing_yet }) ≡ events_in cs
+pub fresh_left : (o : Opening) (w : World) (cs : List Call) (lp : Lp) → lp.guest ≡ None → left_of o w cs (record lp { call = nothing_yet }) ≡ events_in cs
 fresh_left o w [] lp g = refl
 fresh_left o w (c ∷ cs) lp g = rw g (omega arith)
 
@@ -123,7 +123,7 @@ module _ (o : Opening) (p : ℕ) (c : Call) (cs : List Call) where
 few_tries : (o : Opening) (t v line : ℕ) (op : GuestOp) (row : OperationRow) (w : World) → operation_of o t v line op ≡ ByRow row → tries_in (row.items w) ≤ 2
 few_tries o t v line op row w e =
     operation_row o t v line (λ x. tries_in (x.items w) ≤ 2)
-    (λ r x. omega arith) (λ r s. omega arith) (λ r gpa. omega arith) (λ r gpa. omega arith) (λ gpa. omega arith) (λ i. omega arith) (λ r. omega arith) op row e
+    (λ r x. omega arith) (λ r s. omega arith) (λ r gpa. omega arith) (λ r gpa. omega arith) (λ gpa. omega arith) (λ i. omega arith) (omega arith) (λ r. omega arith) op row e
 
 most_after : (most completed : ℕ) → nat_le most completed ≡ false → completed < most
 most_after most completed e = grind (arith, nat_tests)
@@ -133,7 +133,7 @@ fresh_due : (o : Opening) (lp : Lp) (g : Guest) (x : Option GuestOp) → g.opera
 fresh_due o lp g None e k = rw e refl
 fresh_due o lp g (Some op) e k =
     each_operation o g.tdr g.vp (length lp.replies + 1) (OperationAt g)
-    (λ r x. none) (λ r s. none) (λ r gpa. none) (λ r gpa. none) (λ gpa. none) (λ i. none) (λ r. none)
+    (λ r x. none) (λ r s. none) (λ r gpa. none) (λ r gpa. none) (λ gpa. none) (λ i. none) none (λ r. none)
     (λ access r gpa. rw (e, k) (refl, omega arith, tt)) op
   where
     none : (length g.operation.held ≤ 2) × (1 ≤ length g.operation.held → g.completed < g.most)
@@ -229,7 +229,7 @@ operation_occupied o t v line op row w p u q e x =
     operation_row o t v line (λ y. IsOccupied (tell_words (y.tells w) (y.act w)) p u q)
     (λ r n. same _ refl refl refl refl refl refl refl) (λ r s. same _ refl refl refl refl refl refl refl) (λ r gpa. same _ refl refl refl refl refl refl refl) (λ r gpa. same _ refl refl refl refl refl refl refl)
     (λ gpa. accepted (λ z. IsOccupied (tell_words [] (pass_operation v z)) p u q) (is_pending_at w t gpa) t gpa w (λ pends. same _ refl refl refl refl refl refl refl) (λ stays. same _ refl refl refl refl refl refl refl))
-    (λ i. same _ refl refl refl refl refl refl refl) (λ r. same _ refl refl refl refl refl refl refl) op row e
+    (λ i. same _ refl refl refl refl refl refl refl) (same _ refl refl refl refl refl refl refl) (λ r. same _ refl refl refl refl refl refl refl) op row e
   where
     same : (z : World) → z.pages ≡ w.pages → z.tds.lives ≡ w.tds.lives → z.tds.ops ≡ w.tds.ops → z.vps.states ≡ w.vps.states → z.vps.associated ≡ w.vps.associated → z.vps.lasts ≡ w.vps.lasts → z.vps.entered ≡ w.vps.entered → IsOccupied z p u q
     same z a b c d f g h = still_occupied w z p u q a b c d f g h x
@@ -633,7 +633,7 @@ module _ (o : Opening) (w : World) (lawful : Lawful o.machine w) (p : ℕ) (lp :
         operation_row o g.tdr g.vp line (λ y. Left (tell_words (y.tells w) (y.act w)))
         (λ r n. moved _ refl refl refl refl (λ k. let d = off in rw d refl)) (λ r s. moved _ refl refl refl refl (λ k. let d = off in rw d refl)) (λ r gpa. moved _ refl refl refl refl (λ k. let d = off in rw d refl)) (λ r gpa. moved _ refl refl refl refl (λ k. refl))
         (λ gpa. accepted (λ z. Left (tell_words [] (pass_operation g.vp z))) (is_pending_at w g.tdr gpa) g.tdr gpa w (λ pends. moved _ refl refl refl refl (λ k. refl)) (λ stays. moved _ refl refl refl refl (λ k. refl)))
-        (λ i. moved _ refl refl refl refl (λ k. refl)) (λ r. moved _ refl refl refl refl (λ k. refl)) op row is
+        (λ i. moved _ refl refl refl refl (λ k. refl)) (moved _ refl refl refl refl (λ k. refl)) (λ r. moved _ refl refl refl refl (λ k. refl)) op row is
 
     of_operation : (line : ℕ) (op : GuestOp) (row : OperationRow) (mv : Move (Option Outcome)) → operation_of o g.tdr g.vp line op ≡ ByRow row → Left (operation_world row mv w)
     of_operation line op r Succeeds is = of_operation_act line op r is
@@ -829,7 +829,7 @@ pub runs_out : EventsRunOut
 runs_out o ws ls p e is = event_lowers o (play o ls (start o ws)) p e (always_timely o ws ls) is
 
 -- over a schedule
-one_item : (o : Opening) (s : State) (p q : ℕ) → AreTimely o s → events_left o (event o s q) p ≤ events_left o s p - one_if (q == p)
+pub one_item : (o : Opening) (s : State) (p q : ℕ) → AreTimely o s → events_left o (event o s q) p ≤ events_left o s p - one_if (q == p)
 one_item o s p q h = by_test (q == p)
     (λ y. (let here : q ≡ p = eqb-true q p y in
     rw y (subst (λ (x : ℕ). events_left o (event o s x) p ≤ events_left o s p - 1) (sym here) (mine (next_event o s p) refl))))
@@ -860,16 +860,16 @@ schedule_lowers o p (q ∷ qs) s h =
     let one = one_item o s p q h in
     omega arith
 
-items_append : (p : ℕ) (xs ys : List ℕ) → own_items p (xs ++ ys) ≡ own_items p xs + own_items p ys
+pub items_append : (p : ℕ) (xs ys : List ℕ) → own_items p (xs ++ ys) ≡ own_items p xs + own_items p ys
 items_append p [] ys = omega arith
 items_append p (x ∷ xs) ys = omega (arith, items_append p xs ys)
 
-items_replicate : (p n : ℕ) → own_items p (replicate n p) ≡ n
+pub items_replicate : (p n : ℕ) → own_items p (replicate n p) ≡ n
 items_replicate p zero = refl
 items_replicate p (suc n) = let e : (p == p) ≡ true = eq-eqb p p refl in rw e (omega (arith, items_replicate p n))
 
 -- the end of a run has as many items for each processor as its lines can need
-items_end : (css : List (List Call)) (k p q : ℕ) → q ≡ k + p → events_in (calls_of css p) ≤ own_items q (to_the_end k css)
+pub items_end : (css : List (List Call)) (k p q : ℕ) → q ≡ k + p → events_in (calls_of css p) ≤ own_items q (to_the_end k css)
 items_end [] k p q e = omega arith
 items_end (cs ∷ css) k zero q e =
     let here : q ≡ k = omega arith in

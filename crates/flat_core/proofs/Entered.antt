@@ -73,7 +73,7 @@ operation_alike o t v line op row Succeeds w is =
     operation_row o t v line (λ y. EnteredAlike w (tell_words (y.tells w) (y.act w)))
     (λ r x. (refl, refl)) (λ r s. (refl, refl)) (λ r gpa. (refl, refl)) (λ r gpa. (refl, refl))
     (λ gpa. accepted (λ z. EnteredAlike w (tell_words [] (pass_operation v z))) (is_pending_at w t gpa) t gpa w (λ pends. (refl, refl)) (λ stays. (refl, refl)))
-    (λ i. (refl, refl)) (λ r. (refl, refl)) op row is
+    (λ i. (refl, refl)) (refl, refl) (λ r. (refl, refl)) op row is
 operation_alike o t v line op row (Attempts l m) w is = (refl, refl)
 operation_alike o t v line op row (Undoes l) w is = (refl, refl)
 operation_alike o t v line op row (Refuses r) w is = (refl, refl)

@@ -8,6 +8,7 @@ use Rattle.td_words.specs.declared.names.LifeState.{LifeState}
 use Rattle.td_words.specs.declared.names.LifeState.TheVariants as life
 use Rattle.td_words.specs.declared.names.OpState.{OpState}
 use Rattle.td_words.specs.declared.names.OpState.TheVariants as op
+use Rattle.td_words.specs.declared.machines.Machine.{Machine}
 use Rattle.td_words.specs.declared.calls.Call.{Call}
 use Rattle.td_words.specs.NameNumber.{life_number}
 use Rattle.td_words.specs.Packing.{AssignedTo}
@@ -21,7 +22,7 @@ use Rattle.flat_core.specs.Lawful.{Lawful, IsAlive, IsPageOf}
 use Rattle.flat_core.specs.Access.{LawfulEpochs, has_not_run}
 use Rattle.flat_core.proofs.Tests.{by_test, host_kind}
 use Rattle.flat_core.proofs.Trackings.{none_at}
-use Rattle.flat_core.proofs.Shapes.{Aspect, aspect_of, OpGoes, unrun, runs, restored, EpochGoes, stay, begin, Begins, ChangesLife, ChangesOp, Enters, Advances, Shape, notes, fills, takes, reclaims, unmaps, begins, changes_life, changes_op, changes_vp, enters, flushes, changes_entry, advances}
+use Rattle.flat_core.proofs.Shapes.{Aspect, aspect_of, OpGoes, unrun, runs, restored, EpochGoes, stay, begin, Begins, ChangesLife, ChangesOp, Takes, Enters, Advances, Shape, notes, fills, takes, reclaims, unmaps, begins, changes_life, changes_op, changes_vp, enters, flushes, changes_entry, advances, ActShape, one, moves, unmaps_kept}
 use Rattle.flat_core.proofs.ShapeOf.{shape_of}
 use Rattle.flat_core.proofs.Sparing.{idle_off}
 
@@ -57,7 +58,7 @@ module _ (w w' : World) (le : LawfulEpochs w) (each : (t v : ℕ) → w'.pages.k
     early = early;
   }
 
-module _ (o : Opening) (w : World) (la : Lawful o.machine w) (le : LawfulEpochs w) where
+module _ (m : Machine) (w : World) (la : Lawful m w) (le : LawfulEpochs w) where
   pub quiet-epochs : (w' : World) → w'.pages.kinds ≡ w.pages.kinds → w'.pages.owners ≡ w.pages.owners → w'.tds.lives ≡ w.tds.lives → w'.tds.ops ≡ w.tds.ops → w'.tds.epochs ≡ w.tds.epochs
       → w'.vps.associated ≡ w.vps.associated → w'.vps.lasts ≡ w.vps.lasts → w'.vps.entered ≡ w.vps.entered → LawfulEpochs w'
   quiet-epochs w' kd ow lv os ep assoc ls et =
@@ -100,14 +101,14 @@ module _ (o : Opening) (w : World) (la : Lawful o.machine w) (le : LawfulEpochs 
         (λ t e u. ap (λ (z : ℕ → ℕ). z t) ep ∙ le.early t (sym (kind-at t (off t e)) ∙ e) (ap (λ (z : ℕ → OpState). z t) (sym os) ∙ u))
 
 -- the act of any shape
-module _ (me : ℕ) (c : Call) (o : Opening) (w w' : World) (la : Lawful o.machine w) (le : LawfulEpochs w) where
+module _ (me : ℕ) (c : Call) (m : Machine) (w w' : World) (la : Lawful m w) (le : LawfulEpochs w) where
   by-world : (u : World) → w' ≡ u → LawfulEpochs u → LawfulEpochs w'
   by-world u e h = subst (λ (z : World). LawfulEpochs z) (sym e) h
 
   by-aspect : (a : Aspect) → aspect_of w' ≡ a → a.pages.kinds ≡ w.pages.kinds → a.pages.owners ≡ w.pages.owners → a.lives ≡ w.tds.lives → a.ops ≡ w.tds.ops → a.epochs ≡ w.tds.epochs
       → a.vps.associated ≡ w.vps.associated → a.vps.lasts ≡ w.vps.lasts → a.vps.entered ≡ w.vps.entered → LawfulEpochs w'
   by-aspect a e kd ow lv os ep assoc ls et =
-      quiet-epochs o w la le w' (ap (λ (z : Aspect). z.pages.kinds) e ∙ kd) (ap (λ (z : Aspect). z.pages.owners) e ∙ ow) (ap (λ (z : Aspect). z.lives) e ∙ lv) (ap (λ (z : Aspect). z.ops) e ∙ os)
+      quiet-epochs m w la le w' (ap (λ (z : Aspect). z.pages.kinds) e ∙ kd) (ap (λ (z : Aspect). z.pages.owners) e ∙ ow) (ap (λ (z : Aspect). z.lives) e ∙ lv) (ap (λ (z : Aspect). z.ops) e ∙ os)
       (ap (λ (z : Aspect). z.epochs) e ∙ ep) (ap (λ (z : Aspect). z.vps.associated) e ∙ assoc) (ap (λ (z : Aspect). z.vps.lasts) e ∙ ls) (ap (λ (z : Aspect). z.vps.entered) e ∙ et)
 
   -- a TD begins at a page that no virtual processor's TD has
@@ -117,12 +118,12 @@ module _ (me : ℕ) (c : Call) (o : Opening) (w w' : World) (la : Lawful o.machi
       let v : World = set_key x.hkid (AssignedTo u) (new_td u x.hkid (clear_page u (take_page u kind.Tdr u w))) in
       let host = host_kind _ x.host in
       by-world v x.is (le-frame w v le
-      (λ t z k pa. let b = page-off o w la le u kind.Tdr u 0 0 v refl z t pa (λ e. cc) in
-      let was = page-was o w la le u kind.Tdr u 0 0 v refl t z b pa in
+      (λ t z k pa. let b = page-off m w la le u kind.Tdr u 0 0 v refl z t pa (λ e. cc) in
+      let was = page-was m w la le u kind.Tdr u 0 0 v refl t z b pa in
       let tdr : w.pages.kinds t ≡ kind.Tdr = subst (λ (q : ℕ). w.pages.kinds q ≡ kind.Tdr) was.owner (la.pages.owner z (ap (λ (q : PageKind). same_kind q kind.Nda) was.kind)) in
-      let a = no-host o w la le u t z host tdr in
+      let a = no-host m w la le u t z host tdr in
       old tdr was refl refl refl (inl (rw a refl)) (λ p n l b. (rw a l, rw a b)))
-      (λ t k e. by_test (t == u) (λ y. rw y refl) (λ y. rw y (le.early t (sym (kind-at o w la le u kind.Tdr u 0 0 v refl t y) ∙ k) (rw y at e)))))
+      (λ t k e. by_test (t == u) (λ y. rw y refl) (λ y. rw y (le.early t (sym (kind-at m w la le u kind.Tdr u 0 0 v refl t y) ∙ k) (rw y at e)))))
 
   life-epochs : ChangesLife c w w' → LawfulEpochs w'
   life-epochs x =
@@ -131,7 +132,7 @@ module _ (me : ℕ) (c : Call) (o : Opening) (w w' : World) (la : Lawful o.machi
       (λ t v k pa. let k' = ap (λ (z : Aspect). z.pages.kinds t) (sym e) ∙ k in
       let page : IsPageOf w.pages t v kind.Tdvpr = record { kind = ap (λ (z : Aspect). z.pages.kinds v) (sym e) ∙ pa.kind; owner = ap (λ (z : Aspect). z.pages.owners v) (sym e) ∙ pa.owner } in
       old k' page (ap (λ (z : Aspect). z.vps.lasts v) e) (ap (λ (z : Aspect). z.vps.entered v) e) (ap (λ (z : Aspect). z.vps.associated v) e) (inl (ap (λ (z : Aspect). z.epochs t) e))
-      (λ p n l b. let off = idle_off o.machine c w w' la x p t v (record { tdr = k'; life = l; page = record { kind = page.kind; owner = page.owner }; associated = n }) in
+      (λ p n l b. let off = idle_off m c w w' la x p t v (record { tdr = k'; life = l; page = record { kind = page.kind; owner = page.owner }; associated = n }) in
       (ap (λ (z : Aspect). z.lives t) e ∙ rw off l, ap (λ (z : Aspect). has_not_run (z.ops t)) e ∙ b)))
       (λ t k u. ap (λ (z : Aspect). z.epochs t) e ∙ le.early t (ap (λ (z : Aspect). z.pages.kinds t) (sym e) ∙ k) (ap (λ (z : Aspect). z.ops t) (sym e) ∙ u))
 
@@ -219,14 +220,17 @@ module _ (me : ℕ) (c : Call) (o : Opening) (w w' : World) (la : Lawful o.machi
             (λ n. rw n (le.early t k e));
       }
 
-  pub shape-epochs : Shape me c w w' → LawfulEpochs w'
+  takes-epochs : Takes w w' → LawfulEpochs w'
+  takes-epochs x =
+      taken-epochs m w la le x.page x.becomes x.tdr x.level x.number w' (ap (λ (z : Aspect). z.pages) x.rest) x.no_tdr (ap (λ (z : Aspect). z.lives) x.rest) (ap (λ (z : Aspect). z.ops) x.rest)
+      (ap (λ (z : Aspect). z.epochs) x.rest) (λ v n. (x.vps v n).last) (λ v n. (x.vps v n).entered) (λ v n. (x.vps v n).associated) x.begun
+
+  shape-epochs : Shape me c w w' → LawfulEpochs w'
   shape-epochs (notes x) = by-aspect _ x.rest refl refl refl refl refl refl refl refl
   shape-epochs (fills x) = by-aspect _ x.rest refl refl refl refl refl refl refl refl
-  shape-epochs (takes x) =
-      taken-epochs o w la le x.page x.becomes x.tdr x.level x.number w' (ap (λ (z : Aspect). z.pages) x.rest) x.no_tdr (ap (λ (z : Aspect). z.lives) x.rest) (ap (λ (z : Aspect). z.ops) x.rest)
-      (ap (λ (z : Aspect). z.epochs) x.rest) (λ v n. (x.vps v n).last) (λ v n. (x.vps v n).entered) (λ v n. (x.vps v n).associated) x.begun
-  shape-epochs (reclaims x) = by-world _ x.is (taken-epochs o w la le x.page kind.Nda 0 0 0 _ refl (λ e. cc) refl refl refl (λ v n. refl) (λ v n. refl) (λ v n. refl) (λ e. cc))
-  shape-epochs (unmaps x) = by-world _ x.is (taken-epochs o w la le (w.tds.entries x.tdr x.level x.number).page kind.Nda 0 0 0 _ refl (λ e. cc) refl refl refl (λ v n. refl) (λ v n. refl) (λ v n. refl) (λ e. cc))
+  shape-epochs (takes x held) = takes-epochs x
+  shape-epochs (reclaims x) = by-world _ x.is (taken-epochs m w la le x.page kind.Nda 0 0 0 _ refl (λ e. cc) refl refl refl (λ v n. refl) (λ v n. refl) (λ v n. refl) (λ e. cc))
+  shape-epochs (unmaps x) = by-world _ x.is (taken-epochs m w la le (w.tds.entries x.tdr x.level x.number).page kind.Nda 0 0 0 _ refl (λ e. cc) refl refl refl (λ v n. refl) (λ v n. refl) (λ v n. refl) (λ e. cc))
   shape-epochs (begins x) = begun-epochs x
   shape-epochs (changes_life x) = life-epochs x
   shape-epochs (changes_op x) = op-epochs x
@@ -236,9 +240,13 @@ module _ (me : ℕ) (c : Call) (o : Opening) (w w' : World) (la : Lawful o.machi
   shape-epochs (changes_entry x) = by-aspect _ x.rest refl refl refl refl refl refl refl refl
   shape-epochs (advances x) = by-world _ x.is (advanced-epochs x)
 
+pub act-epochs : (me : ℕ) (c : Call) (m : Machine) (w w' : World) → Lawful m w → LawfulEpochs w → ActShape me c w w' → LawfulEpochs w'
+act-epochs me c m w w' la le (one x) = shape-epochs me c m w w' la le x
+act-epochs me c m w w' la le (moves v x y held) = takes-epochs me c m v w' (unmaps_kept m c w v la x) (shape-epochs me c m w v la le (unmaps x)) y
+
 module _ (o : Opening) (w : World) (la : Lawful o.machine w) (le : LawfulEpochs w) where
   pub row-epochs : (me : ℕ) (c : Call) → Passes ((row_of o me c).items w) → LawfulEpochs ((row_of o me c).act w)
-  row-epochs me c ps = shape-epochs me c o w ((row_of o me c).act w) la le (shape_of o me c w ps)
+  row-epochs me c ps = act-epochs me c o.machine w ((row_of o me c).act w) la le (shape_of o me c w ps)
 
   pub leave-epochs : (v : ℕ) → LawfulEpochs (leave_guest v w)
   leave-epochs v = record {

@@ -50,6 +50,7 @@ operations_try_lists o t v line (op.Store r gpa) w = by (is_private gpa)
     by false = refl
 operations_try_lists o t v line (op.Accept gpa) w = refl
 operations_try_lists o t v line (op.Rtmr i) w = refl
+operations_try_lists o t v line op.Report w = refl
 operations_try_lists o t v line (op.Vmcall r) w = refl
 
 -- the same in every world, but for the page
@@ -61,6 +62,7 @@ tries_same t (op.Load r gpa) v w = refl
 tries_same t (op.Store r gpa) v w = refl
 tries_same t (op.Accept gpa) v w = refl
 tries_same t (op.Rtmr i) v w = refl
+tries_same t op.Report v w = refl
 tries_same t (op.Vmcall r) v w = refl
 
 -- one more of them
@@ -102,7 +104,7 @@ refused_violates (Try l m ∷ items) (suc n) out all e = refused_violates items 
 rows_violate : (o : Opening) (t v line : ℕ) (op : GuestOp) (row : OperationRow) (w : World) → operation_of o t v line op ≡ ByRow row → AreViolations (row.items w)
 rows_violate o t v line op row w is =
     operation_row o t v line (λ y. AreViolations (y.items w)) (λ r n. tt) (λ r s. tt)
-    (λ r gpa. ((gpa, Read, refl), ((gpa, Read, refl), tt))) (λ r gpa. ((gpa, Write, refl), ((gpa, Write, refl), tt))) (λ gpa. ((gpa, Write, refl), ((gpa, Write, refl), tt))) (λ i. tt) (λ r. tt) op row is
+    (λ r gpa. ((gpa, Read, refl), ((gpa, Read, refl), tt))) (λ r gpa. ((gpa, Write, refl), ((gpa, Write, refl), tt))) (λ gpa. ((gpa, Write, refl), ((gpa, Write, refl), tt))) (λ i. tt) tt (λ r. tt) op row is
 
 -- an operation that was completed stands before the position
 module _ (code : ℕ → List GuestOp) (v : ℕ) (w : World) where
@@ -124,7 +126,7 @@ module _ (code : ℕ → List GuestOp) (v : ℕ) (w : World) where
   rows_answer o t line op row is =
       operation_row o t v line IsAnswered (λ r n. before_is) (λ r s. before_is) (λ r gpa. before_is) (λ r gpa. before_is)
       (λ gpa. accepted (λ z. IsBefore (tell_words [] (pass_operation v z)).vps) (is_pending_at w t gpa) t gpa w (λ pends. before_is) (λ stays. before_is))
-      (λ i. before_is) (λ r. before_is) op row is
+      (λ i. before_is) before_is (λ r. before_is) op row is
 
   reach_answers : (t : ℕ) (access : Access) (r gpa page : ℕ) → IsBefore (reach t v access r gpa page w).vps
   reach_answers t Read r gpa page = before_is

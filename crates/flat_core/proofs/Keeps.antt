@@ -31,7 +31,7 @@ use Rattle.flat_core.specs.HostRows.{host_read, host_write, read_metadata}
 use Rattle.flat_core.specs.TdRows.{create, configure_key, add_tdcx, initialize, read_td, finalize}
 use Rattle.flat_core.specs.KeyRows.{write_caches_back, reclaim_conditions, reclaim_page, end_flush, free_hkid}
 use Rattle.flat_core.specs.VpRows.{create_vp, initialize_vp, enter_vp, flush_vp}
-use Rattle.flat_core.specs.MemRows.{add_sept, read_sept, add_page, augment_page, remove_page, remove_sept, removed_states, open_states, blocked_state, unblocked_state, block_range, unblock_range, advance_epoch, chunk_bytes, extend}
+use Rattle.flat_core.specs.MemRows.{add_sept, read_sept, add_page, augment_page, remove_page, relocate_page, remove_sept, removed_states, open_states, blocked_state, unblocked_state, block_range, unblock_range, advance_epoch, chunk_bytes, extend}
 use Rattle.flat_core.specs.ExportRows.{stream_ops, live_ops, abortable_ops, create_stream, writable_states, write_blocked, block_write, write_blocked_states, write_unblocked, is_first_dirt, unblock_write, note_pause, pause, abort_export, restoring_ops, restored_states, one_less, restore}
 use Rattle.flat_core.specs.Exports.{is_dirty}
 use Rattle.flat_core.specs.Table.{row_of}
@@ -41,8 +41,8 @@ use Rattle.flat_core.proofs.Pages.{taken, other, taken_node, taken_controls, tak
 use Rattle.flat_core.proofs.Exports.{counts_of, new_counted, counted_still, taken_where}
 use Rattle.flat_core.proofs.Maps.{kind_named, named_owned, node_named, is_upper, map_kept}
 use Rattle.flat_core.proofs.EntryStates.{entry_kept, restated, remarked, state_kept, counts_moved, block_kept}
-use Rattle.flat_core.proofs.Ranges.{begun_of, live_exporting, EntryPassed, living, named_alive, write_passed, entry_alive, block_restates, unblock_restates, write_remarks, write_dirt, unwrite_remarks, unwrite_dirt, restored, page_removed, sept_removed}
-use Rattle.flat_core.proofs.Passed.{TdPassed, td_alive, sept_passed, page_passed, augment_passed, block_passed, unblock_passed, remove_passed, sept_remove_passed}
+use Rattle.flat_core.proofs.Ranges.{begun_of, live_exporting, EntryPassed, living, named_alive, write_passed, entry_alive, block_restates, unblock_restates, write_remarks, write_dirt, unwrite_remarks, unwrite_dirt, restored, page_removed, removed_blocked, sept_removed}
+use Rattle.flat_core.proofs.Passed.{TdPassed, td_alive, sept_passed, page_passed, augment_passed, relocate_passed, block_passed, unblock_passed, remove_passed, sept_remove_passed}
 use Rattle.flat_core.proofs.Removals.{empty_at, unmapped_kept}
 use Rattle.flat_core.proofs.Streams.{stream_kept}
 use Rattle.flat_core.proofs.BundleKeeps.{export_immutable-keeps, export_page-keeps, export_token-keeps, export_td-keeps, export_vp-keeps}
@@ -483,6 +483,29 @@ remove_page-keeps m t gpa = record {
   to_tell = λ w. refl;
 }
 
+-- MEM.PAGE.RELOCATE: one page leaves as by MEM.PAGE.REMOVE, and another comes as by MEM.PAGE.AUG
+pub relocate_page-keeps : (m : Machine) (t gpa page : ℕ) → RowKeeps m (relocate_page m t gpa page)
+relocate_page-keeps m t gpa page = record {
+  act = λ w l ps.
+      let q = relocate_passed m w t gpa page ps in
+      let n : ℕ = number_at 0 gpa in
+      let e : Entry = entry_at w t 0 gpa in
+      let gone : World = unmap_page t 0 n w in
+      let r = page_removed e.state q.named.state in
+      let behind = removed_blocked e.state q.named.state in
+      let again = unblock_restates e.state behind.0 in
+      let alive = named_alive w t gpa 0 removed_states _ q.named in
+      let node = node_named m w l t 0 n alive r.used in
+      let root : (t == e.page) ≡ false = by_test (t == e.page) (λ y. absurd (let no : kind.Tdr ≡ kind.Reg = sym alive.kind ∙ (ap w.pages.kinds (eqb-true t e.page y) ∙ node.page.kind) in cc)) (λ y. y) in
+      let here = same_self t in
+      let there = same_self n in
+      untouched m (map_page page kind.Reg (unblocked_state e.state) t 0 n gone) _ refl
+      (map_kept m gone page t 0 n (unblocked_state e.state) (by_test (page == e.page) (λ y. rw y refl) (λ y. rw y (host_kind _ q.host))) (ltb-true page m.pages q.page_fits)
+      (unmapped_kept m w t 0 n l alive r.used r.unmarked (λ j i e. cc)) (rw root (alive.kind)) q.named.built (rw (here, there) refl) (λ few. rw here (q.above few))
+      again.still_used behind.1 again.still_unmarked (lit≤ tt) (within gpa 0 q.gpa_fits));
+  to_tell = λ w. refl;
+}
+
 pub remove_sept-keeps : (m : Machine) (t gpa level : ℕ) → RowKeeps m (remove_sept m t gpa level)
 remove_sept-keeps m t gpa level = record {
   act = λ w l ps.
@@ -631,6 +654,7 @@ row-keeps o me (call.MemSeptRd t gpa level) = read_sept-keeps o.machine t gpa le
 row-keeps o me (call.MemSeptRemove t gpa level) = remove_sept-keeps o.machine t gpa level
 row-keeps o me (call.MemPageAdd t gpa page source) = add_page-keeps o.machine t gpa page source
 row-keeps o me (call.MemPageAug t gpa page) = augment_page-keeps o.machine t gpa page
+row-keeps o me (call.MemPageRelocate t gpa page) = relocate_page-keeps o.machine t gpa page
 row-keeps o me (call.MemPageRemove t gpa) = remove_page-keeps o.machine t gpa
 row-keeps o me (call.MemRangeBlock t gpa level) = block_range-keeps o.machine t gpa level
 row-keeps o me (call.MemRangeUnblock t gpa level) = unblock_range-keeps o.machine t gpa level

@@ -92,6 +92,7 @@ operation_lawful o t v line op row w e runs l =
     (λ r gpa. untouched o.machine w _ refl l)
     (λ gpa. untouched o.machine (accept_page (is_pending_at w t gpa) t gpa w) _ refl (accept_lawful o.machine t gpa w l))
     (λ i. untouched o.machine (set_rtmr t i (extended_rtmr w t v i) w) _ refl (extended_lawful o.machine t i (extended_rtmr w t v i) w runs l))
+    (untouched o.machine w _ refl l)
     (λ r. untouched o.machine w _ refl l)
     op row e
 
@@ -167,5 +168,6 @@ no_words_to_tell o s p h =
         (λ r gpa. rw h refl)
         (λ gpa. accepted (λ x. option_map (drop 0) x.outgoing.to_tell ≡ None) (is_pending_at s.world t gpa) t gpa s.world (λ y. rw h refl) (λ y. rw h refl))
         (λ i. rw h refl)
+        (rw h refl)
         (λ r. rw h refl)
         op row e

@@ -20,7 +20,7 @@ use Rattle.flat_core.proofs.Tests.{by_test, host_kind, same_self}
 use Rattle.flat_core.proofs.EntryStates.{entry_set}
 use Rattle.flat_core.proofs.Removals.{other_entry}
 use Rattle.flat_core.proofs.Parts.{IsLive}
-use Rattle.flat_core.proofs.Shapes.{Aspect, aspect_of, IsHeld, Notes, Takes, Shape, notes, fills, takes, reclaims, unmaps, begins, changes_life, changes_op, changes_vp, enters, flushes, changes_entry, advances, owner_reclaimed}
+use Rattle.flat_core.proofs.Shapes.{Aspect, aspect_of, IsHeld, Notes, Takes, Shape, notes, fills, takes, reclaims, unmaps, begins, changes_life, changes_op, changes_vp, enters, flushes, changes_entry, advances, ActShape, one, moves, unmaps_kept, owner_reclaimed}
 
 -- an entry whose page holds memory isn't FREE
 taken : (s : EntryState) → holds_memory s ≡ true → is_free s ≡ false
@@ -189,10 +189,14 @@ module _ (me : ℕ) (c : Call) (m : Machine) (w w' : World) (l : Lawful m w) (h 
   held_known x t n alive (inr (same, inr waits)) =
       same ∙ (h t n (record { kind = alive.kind; life = alive.life }) ∙ (no_memory (w.tds.entries t 0 n) w.words waits.0 ∙ (let none = waits.1 in rw none refl)))
 
-  pub shape_known : Shape me c w w' → ArePagesKnown w'
+  takes_known : (x : Takes w w') → ((t n : ℕ) → IsHeld w w' t n) → ArePagesKnown w'
+  takes_known x held =
+      by_aspect _ x.rest (λ t n k a. held_known x t n (alive_before m w l h x.page x.becomes x.tdr x.level x.number x.no_tdr w.tds refl t (record { kind = k; life = a })) (held t n))
+
+  shape_known : Shape me c w w' → ArePagesKnown w'
   shape_known (notes x) = notes_known x
   shape_known (fills x) = by_aspect _ x.rest (λ t n k a. refilled_known m w l h x.tdr x.number x.words x.alive x.mapped t n (record { kind = k; life = a }))
-  shape_known (takes x) = by_aspect _ x.rest (λ t n k a. held_known x t n (alive_before m w l h x.page x.becomes x.tdr x.level x.number x.no_tdr w.tds refl t (record { kind = k; life = a })) (x.held t n))
+  shape_known (takes x held) = takes_known x held
   shape_known (reclaims x) = by_world _ x.is (reclaim_known m w l h x.tdr x.page x.dead (owner_reclaimed m c w w' l x))
   shape_known (unmaps x) = by_world _ x.is (λ t n a.
       unmapped_known m w l h x.tdr x.level x.number (unmap_page x.tdr x.level x.number (record w { hidden = record (w.hidden) { memories = x.memories } })) x.alive x.removed.used x.removed.unmarked x.empty refl refl x.ended x.others t n
@@ -205,3 +209,7 @@ module _ (me : ℕ) (c : Call) (m : Machine) (w w' : World) (l : Lawful m w) (h 
   shape_known (flushes x) = by_world _ x.is (λ t n a. h t n (record { kind = a.kind; life = a.life }))
   shape_known (changes_entry x) = by_aspect _ x.rest (λ t n k a. restated_known m w l h x.tdr x.level x.number x.then_in x.mark x.same_memory t n (record { kind = k; life = a }))
   shape_known (advances x) = by_world _ x.is (λ t n a. h t n (record { kind = a.kind; life = a.life }))
+
+pub act_known : (me : ℕ) (c : Call) (m : Machine) (w w' : World) → Lawful m w → ArePagesKnown w → ActShape me c w w' → ArePagesKnown w'
+act_known me c m w w' l h (one x) = shape_known me c m w w' l h x
+act_known me c m w w' l h (moves v x y held) = takes_known me c m v w' (unmaps_kept m c w v l x) (shape_known me c m w v l h (unmaps x)) y (held h)

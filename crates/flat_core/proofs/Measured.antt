@@ -21,7 +21,7 @@ use Rattle.flat_core.specs.Laws.{with_bundles, AreMrtdsTrue, MrtdsAreKept, Every
 use Rattle.flat_core.proofs.Tests.{by_test}
 use Rattle.flat_core.proofs.Mrtd.{records_are_measured}
 use Rattle.flat_core.proofs.Shapes as shape
-use Rattle.flat_core.proofs.Shapes.{Measurement, mrtd_of, IsTrue, Aspect, aspect_of, IsOneOf, ChangesOp, Shape}
+use Rattle.flat_core.proofs.Shapes.{Measurement, mrtd_of, IsTrue, Aspect, aspect_of, IsOneOf, Takes, ChangesOp, Shape, ActShape, one, moves}
 use Rattle.flat_core.proofs.ShapeOf.{shape_of}
 use Rattle.flat_core.proofs.Operations.{operation_row, accepted}
 use Rattle.flat_core.proofs.Due.{Due, calls, frees, leaves, stops, fills, operates, walks, reaches, undoes, gives_back, due_event_is}
@@ -44,10 +44,13 @@ module _ (me : ℕ) (c : Call) (m : Machine) (w w' : World) (h : AreMrtdsTrue m 
     | inr new ↦ new
   ]
 
+  takes_true : Takes w w' → AreMrtdsTrue m w'
+  takes_true x = by_aspect _ x.rest (λ t r. stays t (x.mrtds t r) r)
+
   shape_true : Shape me c w w' → AreMrtdsTrue m w'
   shape_true (shape.notes x) = by_aspect _ x.rest (λ t r. stays t (x.mrtds t r) r)
   shape_true (shape.fills x) = by_aspect _ x.rest h
-  shape_true (shape.takes x) = by_aspect _ x.rest (λ t r. stays t (x.mrtds t r) r)
+  shape_true (shape.takes x held) = takes_true x
   shape_true (shape.reclaims x) = by_world _ x.is h
   shape_true (shape.unmaps x) = by_world _ x.is h
   shape_true (shape.begins x) = by_world _ x.is (λ t r. by_test (t == x.tdr) (λ y. absurd (let no : false ≡ true = rw y at r in cc)) (λ n. rw n (h t (rw n at r))))
@@ -61,8 +64,12 @@ module _ (me : ℕ) (c : Call) (m : Machine) (w w' : World) (h : AreMrtdsTrue m 
   shape_true (shape.changes_entry x) = by_aspect _ x.rest h
   shape_true (shape.advances x) = by_world _ x.is h
 
+act_true : (me : ℕ) (c : Call) (m : Machine) (w w' : World) → AreMrtdsTrue m w → ActShape me c w w' → AreMrtdsTrue m w'
+act_true me c m w w' h (one x) = shape_true me c m w w' h x
+act_true me c m w w' h (moves v x y held) = takes_true me c m v w' (shape_true me c m w v h (shape.unmaps x)) y
+
 row_true : (o : Opening) (me : ℕ) (c : Call) (w : World) → AreMrtdsTrue o.machine w → Passes ((row_of o me c).items w) → AreMrtdsTrue o.machine ((row_of o me c).act w)
-row_true o me c w h ps = shape_true me c o.machine w ((row_of o me c).act w) h (shape_of o me c w ps)
+row_true o me c w h ps = act_true me c o.machine w ((row_of o me c).act w) h (shape_of o me c w ps)
 
 reach_true : (m : Machine) (t v : ℕ) (access : Access) (r gpa page : ℕ) (w : World) → AreMrtdsTrue m w → AreMrtdsTrue m (reach t v access r gpa page w)
 reach_true m t v Read r gpa page w h = h
@@ -78,6 +85,7 @@ operation_true o t v line op row w e h ps =
     (λ r gpa. h)
     (λ gpa. accepted (AreMrtdsTrue o.machine) (is_pending_at w t gpa) t gpa w (λ y. h) (λ y. h))
     (λ i. h)
+    h
     (λ r. h)
     op row e
 
@@ -116,6 +124,7 @@ module _ (o : Opening) (w : World) (p : ℕ) (lp : Lp) (t : ℕ) where
       (λ r gpa. refl)
       (λ gpa. accepted (λ x. x.tds.measured t ≡ w.tds.measured t) (is_pending_at w u gpa) u gpa w (λ y. refl) (λ y. refl))
       (λ i. refl)
+      refl
       (λ r. refl)
       op row e
 

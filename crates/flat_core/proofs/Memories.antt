@@ -28,7 +28,7 @@ use Rattle.flat_core.proofs.Due.{Due, calls, frees, leaves, stops, fills, operat
 use Rattle.flat_core.proofs.Acts.{event_world}
 use Rattle.flat_core.proofs.Owned.{are_owned}
 use Rattle.flat_core.proofs.Always.{occ-of, occupied-alive, access_kept, reaches_own}
-use Rattle.flat_core.proofs.Known.{words_stay, still_known, known_beside, same_entry, shape_known}
+use Rattle.flat_core.proofs.Known.{words_stay, still_known, known_beside, same_entry, act_known}
 use Rattle.flat_core.proofs.ShapeOf.{shape_of}
 
 -- what a store puts into one page changes, of what guests know, that page's word alone
@@ -95,6 +95,7 @@ module _ (o : Opening) (w : World) (l : Lawful o.machine w) (h : ArePagesKnown w
       (λ y. accept_known v gpa (pending_used (entry_at w t 0 gpa).state y))
       (λ y x n a. h x n (record { kind = a.kind; life = a.life })))
       (λ i ps x n a. h x n (record { kind = a.kind; life = a.life }))
+      (λ ps x n a. h x n (record { kind = a.kind; life = a.life }))
       (λ r ps x n a. h x n (record { kind = a.kind; life = a.life })) op row is
 
 known_after : (o : Opening) (bundles : ℕ → Option Incoming) (s : State) (p : ℕ) → IsGuarded o s → ArePagesKnown s.world → ArePagesKnown (event (with_bundles o bundles) s p).world
@@ -103,7 +104,7 @@ known_after o bundles s p all h =
     let l : Lawful q.machine s.world = all.timely.lawful in
     let alive : (g : Guest) → (s.lps p).guest ≡ Some g → IsAlive s.world.pages s.world.tds g.tdr = λ g e. occupied-alive s.world p g.tdr g.vp (occ-of o s all.timely p g e) in
     event_world q s p ArePagesKnown h
-    (λ c cs line none ps. shape_known p c q.machine s.world ((row_of q p c).act s.world) l h (shape_of q p c s.world ps))
+    (λ c cs line none ps. act_known p c q.machine s.world ((row_of q p c).act s.world) l h (shape_of q p c s.world ps))
     (λ c cs g op row i is ps. operation_known q s.world l h g.tdr (alive g i.guest) g.vp (length (s.lps p).replies + 1) op row is ps)
     (λ c cs g op access r gpa page i is found. reach_known q s.world l h g.tdr (alive g i.guest) g.vp access r gpa page (reaches_own o s all p (page_of_gpa gpa) page access g i.guest found).0.named)
     (λ c cs g i x n a. h x n (record { kind = a.kind; life = a.life }))
@@ -186,8 +187,11 @@ module _ (o : Opening) (s : State) (p : ℕ) (all : IsGuarded o s) (h : ArePages
   own_access e (undoes c cs g l i st x) next = tt
   own_access e (gives_back c cs g out i st x) next = tt
 
+  pub access_is_own : (t v : ℕ) (access : Access) (r gpa page : ℕ) → next_event o s p ≡ Some (Reaches t v access r gpa page) → IsOwnAccess o s p t v access r gpa page
+  access_is_own t v access r gpa page is = own_access (Reaches t v access r gpa page) (due_event_is o s p (Reaches t v access r gpa page) is) is
+
 pub accesses_are_own : AccessesAreOwn
 accesses_are_own o ws schedule p t v access r gpa page is =
     let s = reached o ws schedule in
     let k = always_known o ws schedule in
-    own_access o s p k.0 k.1 (Reaches t v access r gpa page) (due_event_is o s p (Reaches t v access r gpa page) is) is
+    access_is_own o s p k.0 k.1 t v access r gpa page is

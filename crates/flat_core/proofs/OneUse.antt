@@ -12,7 +12,7 @@ use Rattle.flat_core.specs.World.{World, Pages}
 use Rattle.flat_core.specs.Processor.{Phase, Trying, Undoing, Answered, Held, Lp}
 use Rattle.flat_core.specs.Opening.{Opening}
 use Rattle.flat_core.specs.Row.{OperationRow, Move, Attempts, Undoes, Refuses, Succeeds, Releases, Rests, Passes, next, next_in}
-use Rattle.flat_core.specs.Conditions.{is_host_in}
+use Rattle.flat_core.specs.Conditions.{same_kind, is_host_in}
 use Rattle.flat_core.specs.Effects.{tell_words, take_node}
 use Rattle.flat_core.specs.Guest.{ByRow, operation_of, is_pending_at, reach}
 use Rattle.flat_core.specs.Table.{row_of}
@@ -24,7 +24,7 @@ use Rattle.flat_core.proofs.Enter.{all_pass}
 use Rattle.flat_core.proofs.Due.{Due, calls, frees, leaves, stops, fills, operates, walks, reaches, undoes, gives_back, due_event_is}
 use Rattle.flat_core.proofs.Tests.{host_apart}
 use Rattle.flat_core.proofs.Shapes as shape
-use Rattle.flat_core.proofs.Shapes.{Aspect, aspect_of, Shape}
+use Rattle.flat_core.proofs.Shapes.{Aspect, aspect_of, Takes, Shape, ActShape, one, moves}
 use Rattle.flat_core.proofs.ShapeOf.{shape_of}
 
 abbrev same_use : (pages : Pages) (p : ℕ) → IsUsedAsBefore pages pages p
@@ -37,6 +37,10 @@ other_taken w q k t level number p n = record { kind = rw n refl; owner = rw n r
 -- a host page does
 host_taken : (w : World) (q : ℕ) (k : PageKind) (t level number p : ℕ) → is_host_in w.pages q ≡ true → is_host_in w.pages p ≡ false → IsUsedAsBefore w.pages (take_node q k t level number w).pages p
 host_taken w q k t level number p host owned = other_taken w q k t level number p (host_apart w q p host owned)
+
+takes_uses : (w w' : World) (p : ℕ) → is_host_in w.pages p ≡ false → Takes w w' → IsUsedAsBefore w.pages w'.pages p
+takes_uses w w' p owned x =
+    subst (λ (z : Pages). IsUsedAsBefore w.pages z p) (sym (ap (λ (z : Aspect). z.pages) x.rest)) (host_taken w x.page x.becomes x.tdr x.level x.number p x.host owned)
 
 -- the act of any shape leaves a page in use to its use, but the one that it gives back
 module _ (me : ℕ) (c : Call) (w w' : World) (p : ℕ) (owned : is_host_in w.pages p ≡ false) (stays : is_given_back c w p ≡ false) where
@@ -52,7 +56,7 @@ module _ (me : ℕ) (c : Call) (w w' : World) (p : ℕ) (owned : is_host_in w.pa
   shape_uses : Shape me c w w' → IsUsedAsBefore w.pages w'.pages p
   shape_uses (shape.notes x) = by_aspect _ x.rest (same_use w.pages p)
   shape_uses (shape.fills x) = by_aspect _ x.rest (same_use w.pages p)
-  shape_uses (shape.takes x) = by_aspect _ x.rest (host_taken w x.page x.becomes x.tdr x.level x.number p x.host owned)
+  shape_uses (shape.takes x held) = takes_uses w w' p owned x
   shape_uses (shape.reclaims x) = by_world _ x.is (other_taken w x.page kind.Nda 0 0 0 p (sym (x.given p) ∙ stays))
   shape_uses (shape.unmaps x) = by_world _ x.is (other_taken w (w.tds.entries x.tdr x.level x.number).page kind.Nda 0 0 0 p (sym (x.given p) ∙ stays))
   shape_uses (shape.begins x) = by_world _ x.is (host_taken w x.tdr kind.Tdr x.tdr 0 0 p x.host owned)
@@ -64,8 +68,15 @@ module _ (me : ℕ) (c : Call) (w w' : World) (p : ℕ) (owned : is_host_in w.pa
   shape_uses (shape.changes_entry x) = by_aspect _ x.rest (record { kind = refl; owner = refl; level = refl; number = refl })
   shape_uses (shape.advances x) = by_world _ x.is (same_use w.pages p)
 
+act_uses : (me : ℕ) (c : Call) (w w' : World) (p : ℕ) → is_host_in w.pages p ≡ false → is_given_back c w p ≡ false → ActShape me c w w' → IsUsedAsBefore w.pages w'.pages p
+act_uses me c w w' p owned stays (one x) = shape_uses me c w w' p owned stays x
+act_uses me c w w' p owned stays (moves v x y held) =
+    let a = shape_uses me c w v p owned stays (shape.unmaps x) in
+    let b = takes_uses v w' p (ap (λ (k : PageKind). same_kind k kind.Nda) a.kind ∙ owned) y in
+    record { kind = b.kind ∙ a.kind; owner = b.owner ∙ a.owner; level = b.level ∙ a.level; number = b.number ∙ a.number }
+
 pub one_use : PagesHaveOneUse
-one_use o me c w p ps owned stays = shape_uses me c w ((row_of o me c).act w) p owned stays (shape_of o me c w ps)
+one_use o me c w p ps owned stays = act_uses me c w ((row_of o me c).act w) p owned stays (shape_of o me c w ps)
 
 -- through events
 
@@ -78,6 +89,7 @@ operation_uses o t v line op row w q e =
     (λ r gpa. same_use w.pages q)
     (λ gpa. accepted (λ x. IsUsedAsBefore w.pages x.pages q) (is_pending_at w t gpa) t gpa w (λ y. same_use w.pages q) (λ y. same_use w.pages q))
     (λ i. same_use w.pages q)
+    (same_use w.pages q)
     (λ r. same_use w.pages q)
     op row e
 

@@ -7,7 +7,7 @@ use Rattle.td_words.specs.declared.calls.GuestOp.TheVariants as op
 use Rattle.flat_core.specs.World.{World}
 use Rattle.flat_core.specs.Opening.{Opening}
 use Rattle.flat_core.specs.Row.{OperationRow}
-use Rattle.flat_core.specs.Guest.{Operation, ByRow, Private, operation_of, is_private, set_value, add_registers, shared_load, shared_store, accept, accept_page, extend_rtmr, call_host}
+use Rattle.flat_core.specs.Guest.{Operation, ByRow, Private, operation_of, is_private, set_value, add_registers, shared_load, shared_store, accept, accept_page, extend_rtmr, report_facts, call_host}
 
 module _ (o : Opening) (t v line : ℕ) (C : Operation → Type 0)
     (sets : (r x : ℕ) → C (ByRow (set_value v r x)))
@@ -16,6 +16,7 @@ module _ (o : Opening) (t v line : ℕ) (C : Operation → Type 0)
     (stores : (r gpa : ℕ) → C (ByRow (shared_store o.machine v r gpa)))
     (accepts : (gpa : ℕ) → C (ByRow (accept t v gpa)))
     (extends : (i : ℕ) → C (ByRow (extend_rtmr t v line i)))
+    (reports : C (ByRow (report_facts t v line)))
     (vmcalls : (r : ℕ) → C (ByRow (call_host v r)))
     (privates : (access : Access) (r gpa : ℕ) → C (Private access r gpa)) where
   either : (b : Bool) (x y : Operation) → C x → C y → C (if b then x else y)
@@ -30,6 +31,7 @@ module _ (o : Opening) (t v line : ℕ) (C : Operation → Type 0)
   each_operation (op.Store r gpa) = either (is_private gpa) _ _ (privates Write r gpa) (stores r gpa)
   each_operation (op.Accept gpa) = accepts gpa
   each_operation (op.Rtmr i) = extends i
+  each_operation op.Report = reports
   each_operation (op.Vmcall r) = vmcalls r
 
 -- of rows alone
@@ -40,6 +42,7 @@ module _ (o : Opening) (t v line : ℕ) (C : OperationRow → Type 0)
     (stores : (r gpa : ℕ) → C (shared_store o.machine v r gpa))
     (accepts : (gpa : ℕ) → C (accept t v gpa))
     (extends : (i : ℕ) → C (extend_rtmr t v line i))
+    (reports : C (report_facts t v line))
     (vmcalls : (r : ℕ) → C (call_host v r)) where
   given : (row known : OperationRow) → C known → ByRow known ≡ ByRow row → C row
   given row known c e = let same : known ≡ row = cc in subst C same c
@@ -53,6 +56,7 @@ module _ (o : Opening) (t v line : ℕ) (C : OperationRow → Type 0)
       (λ r gpa e. given row (shared_store o.machine v r gpa) (stores r gpa) e)
       (λ gpa e. given row (accept t v gpa) (accepts gpa) e)
       (λ i e. given row (extend_rtmr t v line i) (extends i) e)
+      (λ e. given row (report_facts t v line) reports e)
       (λ r e. given row (call_host v r) (vmcalls r) e)
       (λ access r gpa e. cc) op
 

@@ -1,7 +1,7 @@
 -- What the conditions of a row say that have passed, by name: a record for what many rows ask, and for what stands behind a walk.
 -- `search` finds a record's fields, or one condition, among those of the row, wherever they stand there; so a condition that is
 -- added to a row shifts no proof.
-use Rattle.std.proofs.Common.{◌≡◌, refl, subst, ℕ, suc, ◌/◌, ◌^◌, ◌<◌, List, [], ◌∷◌, length, true, false, ◌==◌, nat_lt, arith}
+use Rattle.std.proofs.Common.{◌≡◌, refl, subst, ℕ, suc, ◌/◌, ◌^◌, ◌<◌, List, [], ◌∷◌, length, true, false, not, ◌==◌, nat_lt, arith}
 use Rattle.std.specs.List.{list_any}
 use Rattle.std.proofs.lemmas.Bool.{eqb-true, and_parts}
 use Rattle.td_words.specs.declared.names.PageKind.{PageKind}
@@ -11,13 +11,14 @@ use Rattle.td_words.specs.declared.names.OpState.{OpState}
 use Rattle.td_words.specs.declared.names.OpState.TheVariants as op
 use Rattle.td_words.specs.declared.names.EntryState.TheVariants as entry
 use Rattle.td_words.specs.declared.machines.Machine.{Machine}
+use Rattle.td_words.specs.declared.replies.Reply.{Reply}
 use Rattle.td_words.specs.NameNumber.{life_number, op_number}
 use Rattle.flat_core.specs.World.{World}
-use Rattle.flat_core.specs.Row.{Passes}
+use Rattle.flat_core.specs.Row.{Item, Passes}
 use Rattle.flat_core.specs.Conditions.{same_kind, is_host, is_page_of, host_page, page_exclusive, growing_ops, augmented_ops}
-use Rattle.flat_core.specs.Tracking.{tracked_page}
+use Rattle.flat_core.specs.Tracking.{tracked_page, is_tracked}
 use Rattle.flat_core.specs.Tree.{number_at, entry_at, same_state, is_passed, state_in, empty_below}
-use Rattle.flat_core.specs.MemRows.{open_states, blocked_states, removed_states, block_range, unblock_range, remove_page, remove_sept, add_sept, add_page, augment_page}
+use Rattle.flat_core.specs.MemRows.{open_states, blocked_states, removed_states, block_range, unblock_range, remove_page, another_page, relocate_page, remove_sept, add_sept, add_page, augment_page}
 use Rattle.flat_core.specs.Lawful.{IsAlive, IsPageOf, is_free}
 use Rattle.flat_core.proofs.Tests.{tdr_kind, range_of}
 use Rattle.flat_core.proofs.Maps.{not_free, walk_passed}
@@ -66,6 +67,30 @@ page_passed m w t gpa p source ps = record { td = search; gpa_fits = search; pag
 
 pub augment_passed : (m : Machine) (w : World) (t gpa p : ℕ) → Passes ((augment_page m t gpa p).items w) → MapPassed m w t gpa 0 p augmented_ops
 augment_passed m w t gpa p ps = record { td = search; gpa_fits = search; page_fits = search; free = search; host = search; above = lowest_above w t gpa (search) }
+
+-- the row that moves what an entry names to a host page
+abbrev pub moving : World → (t gpa p : ℕ) → List (Item Reply)
+moving w t gpa p = another_page w t gpa p ∷ page_exclusive p ∷ host_page w p ∷ tracked_page w t (entry_at w t 0 gpa).page ∷ []
+
+pub record MovePassed (m : Machine) (w : World) (t gpa p : ℕ) : Type 0 where
+  pub named : NamedPassed w t gpa 0 removed_states (moving w t gpa p)
+  pub gpa_fits : nat_lt gpa (2 ^ 47) ≡ true
+  pub page_fits : nat_lt p m.pages ≡ true
+  pub other : not (p == (entry_at w t 0 gpa).page) ≡ true
+  pub host : is_host w p ≡ true
+  pub tracked : is_tracked w t (entry_at w t 0 gpa).page ≡ true
+  pub above : 0 < 3 → is_free (w.tds.entries t 1 (number_at 0 gpa / 512)).state ≡ false
+
+pub relocate_passed : (m : Machine) (w : World) (t gpa p : ℕ) → Passes ((relocate_page m t gpa p).items w) → MovePassed m w t gpa p
+relocate_passed m w t gpa p ps = record {
+  named = named_passed w t gpa 0 removed_states (moving w t gpa p) (search);
+  gpa_fits = search;
+  page_fits = search;
+  other = search;
+  host = search;
+  tracked = search;
+  above = lowest_above w t gpa (search);
+}
 
 -- rows that block, unblock and remove what an entry names
 pub block_passed : (m : Machine) (w : World) (t gpa level : ℕ) → Passes ((block_range m t gpa level).items w) → NamedPassed w t gpa level open_states []

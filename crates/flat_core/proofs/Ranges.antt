@@ -19,7 +19,7 @@ use Rattle.flat_core.specs.Row.{Item, Passes}
 use Rattle.flat_core.specs.Locks.{one_if}
 use Rattle.flat_core.specs.Conditions.{same_kind, blocking_ops, running_ops}
 use Rattle.flat_core.specs.Tree.{same_state, entry_at, state_in, named_page}
-use Rattle.flat_core.specs.ExportRows.{live_ops, abortable_ops, writable_states, write_blocked, block_write, opened_row, write_blocked_states, write_unblocked, is_first_dirt, restored_states}
+use Rattle.flat_core.specs.ExportRows.{live_ops, abortable_ops, writable_states, write_blocked, block_write, write_blocked_states, write_unblocked, is_first_dirt, restored_states}
 use Rattle.flat_core.specs.BundleRows.{paused_ops, exportable, export_page}
 use Rattle.flat_core.specs.Exports.{is_dirty}
 use Rattle.flat_core.specs.MemRows.{named_row, open_states, blocked_states, removed_states, blocked_state, unblocked_state}
@@ -235,3 +235,9 @@ page_removed _ h = cc
 pub sept_removed : (s : EntryState) → list_any (λ a. same_state a s) (entry.NlBlocked ∷ []) ≡ true → IsRemoved s
 sept_removed entry.NlBlocked h = record { used = refl; unmarked = refl; less = λ writes. refl; stops = refl }
 sept_removed _ h = cc
+
+-- what can be removed is blocked, and maps no further entries
+pub removed_blocked : (s : EntryState) → list_any (λ a. same_state a s) removed_states ≡ true → (list_any (λ a. same_state a s) blocked_states ≡ true) × (is_node (unblocked_state s) ≡ false)
+removed_blocked entry.Blocked h = (refl, refl)
+removed_blocked entry.PendingBlocked h = (refl, refl)
+removed_blocked _ h = cc

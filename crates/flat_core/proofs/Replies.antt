@@ -46,7 +46,7 @@ some_left zero (x ∷ xs) c cs e = omega arith
 some_left (suc k) [] c cs e = cc
 some_left (suc k) (x ∷ xs) c cs e = let i = some_left k xs c cs e in omega arith
 
-none_left : (k : ℕ) (calls : List Call) → drop k calls ≡ [] → length calls ≤ k
+pub none_left : (k : ℕ) (calls : List Call) → drop k calls ≡ [] → length calls ≤ k
 none_left k [] e = omega arith
 none_left zero (x ∷ xs) e = cc
 none_left (suc k) (x ∷ xs) e = let i = none_left k xs e in omega arith

@@ -21,7 +21,8 @@ use Rattle.flat_core.specs.Digests.{digest_bytes, six_words}
 use Rattle.flat_core.specs.Effects.{set_rtmr, tell_words}
 use Rattle.flat_core.specs.Guest.{Operation, ByRow, operation_of, is_pending_at, is_private, shared_load, shared_store, extended_rtmr, reach}
 use Rattle.flat_core.specs.Event.{Event, OfCall, OfOperation, lines_left, next_event, operation_due, nothing_more, world_after, after_event}
-use Rattle.flat_core.specs.Rtmrs.{rtmr_bytes, extension_bytes, rtmr_after_call, rtmr_after_operation, rtmr_after_event, EventsExtend}
+use Rattle.flat_core.specs.Reports.{rtmr_bytes}
+use Rattle.flat_core.specs.Rtmrs.{extension_bytes, rtmr_after_call, rtmr_after_operation, rtmr_after_event, EventsExtend}
 use Rattle.flat_core.proofs.Tests.{by_test}
 use Rattle.flat_core.proofs.Operations.{accepted}
 use Rattle.flat_core.proofs.Mrtd.{digest_read}
@@ -120,6 +121,7 @@ module _ (o : Opening) (w : World) (t i : ℕ) where
     operation_extends (op.Store r gpa) = either (op.Store r gpa) (is_private gpa) _ _ (λ row e. cc) (by_row (op.Store r gpa) (shared_store o.machine g.vp r gpa) refl)
     operation_extends (op.Accept gpa) = by_row (op.Accept gpa) _ (accepted (Becomes (rtmr_bytes w t i)) (is_pending_at w g.tdr gpa) g.tdr gpa w (λ y. refl) (λ y. refl))
     operation_extends (op.Rtmr n) = by_row (op.Rtmr n) _ (extended g.tdr g.vp n)
+    operation_extends op.Report = by_row op.Report _ refl
     operation_extends (op.Vmcall r) = by_row (op.Vmcall r) _ refl
 
 module _ (o : Opening) (w : World) (p : ℕ) (lp : Lp) (t i : ℕ) where

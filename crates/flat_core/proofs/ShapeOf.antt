@@ -1,7 +1,7 @@
 -- The shape of each call's act, from "its conditions passed".
-use Rattle.std.proofs.Common.{◌≡◌, ◌≢◌, ◌⊎◌, inl, inr, refl, sym, ◌∙◌, subst, ap, ℕ, zero, suc, List, [], ◌∷◌, ◌++◌, Option, None, Bool, true, false, not, ◌==◌, arith}
+use Rattle.std.proofs.Common.{◌≡◌, ◌≢◌, ◌⊎◌, inl, inr, refl, sym, ◌∙◌, subst, ap, ℕ, zero, suc, List, [], ◌∷◌, ◌++◌, Option, Some, None, Bool, true, false, not, ◌==◌, if◌then◌else◌, arith}
 use Rattle.std.specs.List.{list_any}
-use Rattle.std.proofs.lemmas.Bool.{eqb-true, and_parts}
+use Rattle.std.proofs.lemmas.Bool.{eqb-true, eqb-false, and_parts}
 use Rattle.mrtd_measure.specs.Records.{page_record}
 use Rattle.td_words.specs.declared.names.PageKind.TheVariants as kind
 use Rattle.td_words.specs.declared.names.PageKind.{PageKind}
@@ -10,6 +10,7 @@ use Rattle.td_words.specs.declared.names.OpState.{OpState}
 use Rattle.td_words.specs.declared.names.OpState.TheVariants as op
 use Rattle.td_words.specs.declared.names.EntryState.{EntryState}
 use Rattle.td_words.specs.declared.names.EntryState.TheVariants as entry
+use Rattle.td_words.specs.declared.machines.Machine.{Machine}
 use Rattle.td_words.specs.declared.calls.Call.{Call}
 use Rattle.td_words.specs.declared.calls.Call.TheVariants as call
 use Rattle.td_words.specs.declared.replies.Reply.{Reply}
@@ -20,7 +21,9 @@ use Rattle.flat_core.specs.World.{World, put}
 use Rattle.flat_core.specs.Opening.{Opening}
 use Rattle.flat_core.specs.Row.{Item, Passes}
 use Rattle.flat_core.specs.Conditions.{is_host, is_host_in, same_kind, running_ops, later_ops, augmented_ops}
-use Rattle.flat_core.specs.Effects.{take_node, set_page, map_page, set_entry, end_memory, begin_memory, measure}
+use Rattle.flat_core.specs.Effects.{take_node, set_page, map_page, set_entry, unmap_page, end_memory, begin_memory, measure}
+use Rattle.flat_core.specs.MemRows.{removed_states, move_page}
+use Rattle.flat_core.specs.Tracking.{is_tracked}
 use Rattle.flat_core.specs.Tree.{page_of_gpa, number_at, entry_at, state_in, same_state}
 use Rattle.flat_core.specs.KeyRows.{reclaim_conditions}
 use Rattle.flat_core.specs.ExportRows.{live_ops, abortable_ops, writable_states, write_blocked, write_blocked_states, write_unblocked, restoring_ops, restored_states}
@@ -32,20 +35,20 @@ use Rattle.flat_core.specs.Table.{row_of}
 use Rattle.flat_core.specs.Lawful.{IsAlive, is_free}
 use Rattle.flat_core.specs.Guests.{IsOccupied}
 use Rattle.flat_core.specs.Access.{is_pending, has_not_run}
-use Rattle.flat_core.specs.Laws.{given_or_measured, holds_memory}
+use Rattle.flat_core.specs.Laws.{given_or_measured, gives_back, holds_memory, memory_of, ArePagesKnown}
 use Rattle.flat_core.proofs.Tests.{host_apart, by_test, tdr_kind, range_of, same_self, put_here}
 use Rattle.flat_core.proofs.Mrtd.{mrtd_is_the_digest}
 use Rattle.flat_core.proofs.Maps.{behind_walk}
-use Rattle.flat_core.proofs.Ranges.{EntryPassed, configured, has_run, begun_of, named_alive, write_passed, export_passed, entry_alive, block_restates, unblock_restates, write_remarks, unwrite_remarks, restored as can_restore, can_export, page_removed, sept_removed, blocked_less, blocked_stops, unblocked_allows, mapped_allows, export_allows}
-use Rattle.flat_core.proofs.Passed.{TdPassed, td_alive, vp_of, sept_passed, page_passed, augment_passed, block_passed, unblock_passed, remove_passed, sept_remove_passed}
+use Rattle.flat_core.proofs.Ranges.{NamedPassed, EntryPassed, configured, has_run, begun_of, named_alive, write_passed, export_passed, entry_alive, block_restates, unblock_restates, write_remarks, unwrite_remarks, restored as can_restore, can_export, page_removed, removed_blocked, sept_removed, blocked_less, blocked_stops, unblocked_allows, mapped_allows, export_allows}
+use Rattle.flat_core.proofs.Passed.{TdPassed, td_alive, vp_of, sept_passed, page_passed, augment_passed, MovePassed, relocate_passed, block_passed, unblock_passed, remove_passed, sept_remove_passed}
 use Rattle.flat_core.proofs.Removals.{empty_at}
 use Rattle.flat_core.proofs.Keeps.{live_of, ended_of}
 use Rattle.flat_core.proofs.Known.{words_stay, entry_stays}
-use Rattle.flat_core.proofs.AccessActs.{is_begun, free_of, unexempt, entry-kept}
+use Rattle.flat_core.proofs.AccessActs.{is_begun, free_of, unexempt, entry-apart, entry-kept}
 use Rattle.flat_core.proofs.ImportStates.{first_only, token_not_run, token_later, td_state_not_run, commit_not_run, given_up_not_run}
 use Rattle.flat_core.proofs.Sparing.{not_configured, ready_only, paused_runs}
 use Rattle.flat_core.proofs.Shapes as shape
-use Rattle.flat_core.proofs.Shapes.{Shape, IsTrue, same_vp, mrtd_of, IsOneOf, aspect_of, Aspect, IsHeld, OpGoes, unrun, runs, restored, EpochGoes, stay, begin, BlockGoes, noted, open_on}
+use Rattle.flat_core.proofs.Shapes.{ActShape, one, moves, Takes, Unmaps, IsTrue, same_vp, mrtd_of, IsOneOf, aspect_of, Aspect, IsHeld, OpGoes, unrun, runs, restored, EpochGoes, stay, begin, BlockGoes, noted, open_on}
 
 -- what conditions say of states
 
@@ -104,19 +107,19 @@ module _ (w : World) (t g page : ℕ) where
 -- shapes of several calls
 
 module _ (me : ℕ) (c : Call) (w w' : World) where
-  nothing : aspect_of w' ≡ aspect_of w → Shape me c w w'
-  nothing e = shape.notes (record {
+  nothing : aspect_of w' ≡ aspect_of w → ActShape me c w w'
+  nothing e = one (shape.notes (record {
     rest = ap (λ (z : Aspect). record z { words = w'.words; mrtds = mrtd_of w' }) e;
     words = λ p h. ap (λ (z : Aspect). z.words p) e;
     mrtds = λ t h. ap (λ (z : Aspect). z.mrtds t) e;
-  })
+  }))
 
   -- a page is taken, but no virtual processor begins
   takes : (page : ℕ) (k : PageKind) (t level number : ℕ) → is_host_in w.pages page ≡ true → k ≢ kind.Tdr → k ≢ kind.Tdvpr
       → aspect_of w' ≡ record (aspect_of w) { pages = (take_node page k t level number w).pages; words = w'.words; entries = w'.tds.entries; mrtds = mrtd_of w'; memories = w'.hidden.memories }
       → ((p : ℕ) → (p == page) ≡ false → w'.words p ≡ w.words p) → ((u l n : ℕ) → is_free (w.tds.entries u l n).state ≡ false → w'.tds.entries u l n ≡ w.tds.entries u l n)
-      → ((u n : ℕ) → IsHeld w w' u n) → ((u : ℕ) → IsOneOf later_ops (w.tds.ops u) → mrtd_of w' u ≡ mrtd_of w u) → Shape me c w w'
-  takes page k t level number host no_tdr no_vp e words entries held mrtds = shape.takes (record {
+      → ((u n : ℕ) → IsHeld w w' u n) → ((u : ℕ) → IsOneOf later_ops (w.tds.ops u) → mrtd_of w' u ≡ mrtd_of w u) → ActShape me c w w'
+  takes page k t level number host no_tdr no_vp e words entries held mrtds = one (shape.takes (record {
     page = page;
     becomes = k;
     tdr = t;
@@ -127,33 +130,32 @@ module _ (me : ℕ) (c : Call) (w w' : World) where
     rest = ap (λ (z : Aspect). record z { vps = w'.vps; registers = w'.hidden.registers }) e;
     words = words;
     entries = entries;
-    held = held;
     mrtds = mrtds;
     vps = λ v n. same_vp w w' v (ap (λ (z : Aspect). z.vps) e) (ap (λ (z : Aspect). z.registers) e);
     begun = λ k. absurd (no_vp k);
-  })
+  }) held)
 
   -- an operation state changes; with it TD_EPOCH and MRTD may, or nothing else does
   op_goes : (t : ℕ) (s : OpState) → OpGoes w t s → s ≢ op.Uninitialized → (c ≡ call.ExportPause t) ⊎ (IsOneOf running_ops (w.tds.ops t) → IsOneOf running_ops s)
       → aspect_of w' ≡ record (aspect_of w) { ops = put w.tds.ops t s; epochs = w'.tds.epochs; mrtds = mrtd_of w' } → EpochGoes w w' t → ((u : ℕ) → (u == t) ≡ false → mrtd_of w' u ≡ mrtd_of w u)
-      → (IsOneOf later_ops s → (IsOneOf later_ops (w.tds.ops t) × (mrtd_of w' t ≡ mrtd_of w t)) ⊎ IsTrue (mrtd_of w' t)) → Shape me c w w'
+      → (IsOneOf later_ops s → (IsOneOf later_ops (w.tds.ops t) × (mrtd_of w' t ≡ mrtd_of w t)) ⊎ IsTrue (mrtd_of w' t)) → ActShape me c w w'
   op_goes t s way later running e epochs mrtds mrtd =
-      shape.changes_op (record { tdr = t; then_in = s; goes = way; later = later; running = running; rest = e; epochs = epochs; mrtds = mrtds; mrtd = mrtd })
+      one (shape.changes_op (record { tdr = t; then_in = s; goes = way; later = later; running = running; rest = e; epochs = epochs; mrtds = mrtds; mrtd = mrtd }))
 
   goes : (t : ℕ) (s : OpState) → OpGoes w t s → s ≢ op.Uninitialized → (c ≡ call.ExportPause t) ⊎ (IsOneOf running_ops (w.tds.ops t) → IsOneOf running_ops s) → IsOneOf later_ops (w.tds.ops t)
-      → aspect_of w' ≡ record (aspect_of w) { ops = put w.tds.ops t s } → Shape me c w w'
+      → aspect_of w' ≡ record (aspect_of w) { ops = put w.tds.ops t s } → ActShape me c w w'
   goes t s way later running has e =
       op_goes t s way later running (ap (λ (z : Aspect). record z { epochs = w'.tds.epochs; mrtds = mrtd_of w' }) e) (stay (ap (λ (z : Aspect). z.epochs) e))
       (λ u n. ap (λ (z : Aspect). z.mrtds u) e) (λ h. inl (has, ap (λ (z : Aspect). z.mrtds t) e))
 
   -- so before a guest of the TD has run here
-  goes_unrun : (t : ℕ) (s : OpState) → has_not_run (w.tds.ops t) ≡ true → s ≢ op.Uninitialized → IsOneOf later_ops (w.tds.ops t) → aspect_of w' ≡ record (aspect_of w) { ops = put w.tds.ops t s } → Shape me c w w'
+  goes_unrun : (t : ℕ) (s : OpState) → has_not_run (w.tds.ops t) ≡ true → s ≢ op.Uninitialized → IsOneOf later_ops (w.tds.ops t) → aspect_of w' ≡ record (aspect_of w) { ops = put w.tds.ops t s } → ActShape me c w w'
   goes_unrun t s n later has e = goes t s (unrun n) later (inr (λ r. absurd (not_running (w.tds.ops t) n r))) has e
 
   -- and from MNG.CREATE on, as TD_EPOCH begins
   goes_first : (t : ℕ) (s : OpState) → same_kind (w.pages.kinds t) kind.Tdr ≡ true → IsOneOf first_ops (w.tds.ops t) → s ≢ op.Uninitialized
       → aspect_of w' ≡ record (aspect_of w) { ops = put w.tds.ops t s; epochs = put w.tds.epochs t 1; mrtds = mrtd_of w' } → ((u : ℕ) → (u == t) ≡ false → mrtd_of w' u ≡ mrtd_of w u)
-      → (IsOneOf later_ops s → IsTrue (mrtd_of w' t)) → Shape me c w w'
+      → (IsOneOf later_ops s → IsTrue (mrtd_of w' t)) → ActShape me c w w'
   goes_first t s root among later e mrtds mrtd =
       let new = first_only (w.tds.ops t) among in
       let n : has_not_run (w.tds.ops t) ≡ true = ap has_not_run new in
@@ -161,8 +163,8 @@ module _ (me : ℕ) (c : Call) (w w' : World) where
       (begin (tdr_kind _ root) new (ap (λ (z : Aspect). z.epochs) e)) mrtds (λ h. inr (mrtd h))
 
   restates : (t level number : ℕ) (s : EntryState) (mark : ℕ) (blocked : ℕ → ℕ) → (let e = w.tds.entries t level number in is_free e.state ≡ false → is_free s ≡ false → is_pending s ≡ is_pending e.state → holds_memory s ≡ holds_memory e.state
-      → BlockGoes w t e s blocked → aspect_of w' ≡ record (aspect_of w) { pages = record (w.pages) { blocked = blocked }; entries = (set_entry t level number (record { state = s; page = e.page; mark = mark }) w).tds.entries } → Shape me c w w')
-  restates t level number s mark blocked used still pending memory block e = shape.changes_entry (record {
+      → BlockGoes w t e s blocked → aspect_of w' ≡ record (aspect_of w) { pages = record (w.pages) { blocked = blocked }; entries = (set_entry t level number (record { state = s; page = e.page; mark = mark }) w).tds.entries } → ActShape me c w w')
+  restates t level number s mark blocked used still pending memory block e = one (shape.changes_entry (record {
     tdr = t;
     level = level;
     number = number;
@@ -175,30 +177,89 @@ module _ (me : ℕ) (c : Call) (w w' : World) where
     same_memory = memory;
     block = block;
     rest = e;
-  })
+  }))
 
 -- a page that comes in: at an entry that was FREE, or for the page that the entry names
 module _ (me : ℕ) (c : Call) (w : World) (t gpa page stream : ℕ) (ws : ℕ → ℕ) (rest : List (Item Reply)) (alive : IsAlive w.pages w.tds t) where
   comes_in : (s : EntryState) → (entry_at w t 0 gpa).state ≡ s → list_any (λ b. same_state b s) importable ≡ true → Passes (page_to_fill w t gpa page s ++ rest)
-      → Shape me c w (count_bundle t stream (begin_memory t (page_of_gpa gpa) ws (fill_page t gpa page ws s w)))
+      → ActShape me c w (count_bundle t stream (begin_memory t (page_of_gpa gpa) ws (fill_page t gpa page ws s w)))
   comes_in entry.Free is among ps =
       takes me c w _ page kind.Reg t 0 (number_at 0 gpa) ps.0 (λ e. cc) (λ e. cc) refl (λ p e. rw e refl) (λ u l n f. entry-kept w t 0 (number_at 0 gpa) _ u l n (ap is_free is) f) (added_held w t (page_of_gpa gpa) page ws) (λ u h. refl)
-  comes_in entry.Mapped is among ps = shape.fills (record { tdr = t; number = page_of_gpa gpa; words = ws; alive = alive; mapped = is; rest = refl })
+  comes_in entry.Mapped is among ps = one (shape.fills (record { tdr = t; number = page_of_gpa gpa; words = ws; alive = alive; mapped = is; rest = refl }))
   comes_in _ is among ps = cc
 
-pub shape_of : (o : Opening) (me : ℕ) (c : Call) (w : World) → Passes ((row_of o me c).items w) → Shape me c w ((row_of o me c).act w)
+-- the private page that an entry names leaves
+page_leaves : (c : Call) (w : World) (t gpa : ℕ) (rest : List (Item Reply)) → NamedPassed w t gpa 0 removed_states rest → is_tracked w t (entry_at w t 0 gpa).page ≡ true
+    → ((p : ℕ) → gives_back c w p ≡ (p == (entry_at w t 0 gpa).page)) → Unmaps c w (unmap_page t 0 (number_at 0 gpa) (end_memory t (page_of_gpa gpa) w))
+page_leaves c w t gpa rest q tracked given = record {
+  tdr = t;
+  level = 0;
+  number = number_at 0 gpa;
+  memories = (end_memory t (page_of_gpa gpa) w).hidden.memories;
+  alive = named_alive w t gpa 0 _ _ q;
+  removed = page_removed (entry_at w t 0 gpa).state q.state;
+  empty = λ j i e. cc;
+  tracked = tracked;
+  ended = λ e. let a = same_self t in let b = same_self (page_of_gpa gpa) in rw (a, b) refl;
+  others = λ x n off. by_test (x == t)
+      (λ y. by_test (n == page_of_gpa gpa) (λ z. absurd (off (eqb-true x t y) refl (eqb-true n _ z))) (λ z. rw (y, z) refl))
+      (λ y. rw y refl);
+  is = refl;
+  given = given;
+}
+
+-- and where another one comes behind it, with its words, the guest's memory of it is as before
+module _ (m : Machine) (w : World) (t gpa page : ℕ) (q : MovePassed m w t gpa page) where
+  abbrev g : ℕ
+  g = number_at 0 gpa
+
+  abbrev left : World
+  left = unmap_page t 0 g (end_memory t g w)
+
+  free_there : is_free (left.tds.entries t 0 g).state ≡ true
+  free_there = let a = same_self t in let b = same_self g in rw (a, b) refl
+
+  page_comes : Takes left (move_page t g page w)
+  page_comes = record {
+    page = page;
+    becomes = kind.Reg;
+    tdr = t;
+    level = 0;
+    number = g;
+    host = by_test (page == (entry_at w t 0 gpa).page) (λ y. rw y refl) (λ y. rw y (q.host));
+    no_tdr = λ e. cc;
+    rest = refl;
+    words = λ p e. rw e refl;
+    entries = λ u l i f. entry-kept left t 0 g _ u l i free_there f;
+    mrtds = λ u h. refl;
+    vps = λ v n. same_vp left (move_page t g page w) v refl refl;
+    begun = λ e. cc;
+  }
+
+  page_stays : ArePagesKnown w → (x n : ℕ) → IsHeld left (move_page t g page w) x n
+  page_stays known x n = by_test (x == t)
+      (λ y. by_test (n == g)
+      (λ z. inl (let here = same_self page in
+      let at : w.tds.entries x 0 n ≡ w.tds.entries t 0 g = ap (λ (u : ℕ). w.tds.entries u 0 n) (eqb-true x t y) ∙ ap (λ (i : ℕ). w.tds.entries t 0 i) (eqb-true n g z) in
+      let alive : IsAlive w.pages w.tds x = subst (λ (u : ℕ). IsAlive w.pages w.tds u) (sym (eqb-true x t y)) (named_alive w t gpa 0 _ _ q.named) in
+      let same = (unblock_restates (entry_at w t 0 gpa).state (removed_blocked (entry_at w t 0 gpa).state q.named.state).0).same_memory in
+      rw (y, z, here) (known x n alive ∙ (ap (λ (e : Entry). memory_of e w.words) at ∙ ap (λ (b : Bool). if b then Some (w.words (entry_at w t 0 gpa).page) else None) (sym same)))))
+      (λ z. inr (rw (y, z) refl, inl (entry-apart left t 0 g _ x 0 n (λ a b c. eqb-false n g z c)))))
+      (λ y. inr (rw y refl, inl (rw y refl)))
+
+pub shape_of : (o : Opening) (me : ℕ) (c : Call) (w : World) → Passes ((row_of o me c).items w) → ActShape me c w ((row_of o me c).act w)
 shape_of o me (call.HostRead page i) w ps = nothing me _ w _ refl
-shape_of o me (call.HostWrite page i v) w ps = shape.notes (record { rest = refl; words = λ p h. words_stay w.words page i v p (host_apart w page p (search) h); mrtds = λ t h. refl })
+shape_of o me (call.HostWrite page i v) w ps = one (shape.notes (record { rest = refl; words = λ p h. words_stay w.words page i v p (host_apart w page p (search) h); mrtds = λ t h. refl }))
 shape_of o me (call.PhymemPageRdmd page) w ps = nothing me _ w _ refl
 shape_of o me call.PhymemCacheWb w ps = nothing me _ w _ refl
 shape_of o me (call.PhymemPageReclaim t page) w ps =
     let dead = ended_of (w.tds.lives t) (search) in
-    shape.reclaims (record { call = refl; tdr = t; page = page; root = tdr_kind _ (search); dead = dead; own = λ n. reclaimed w t page (page == t) n (search); is = refl; given = λ p. refl })
-shape_of o me (call.MngCreate t h) w ps = shape.begins (record { tdr = t; hkid = h; call = refl; host = search; is = refl })
+    one (shape.reclaims (record { call = refl; tdr = t; page = page; root = tdr_kind _ (search); dead = dead; own = λ n. reclaimed w t page (page == t) n (search); is = refl; given = λ p. refl }))
+shape_of o me (call.MngCreate t h) w ps = one (shape.begins (record { tdr = t; hkid = h; call = refl; host = search; is = refl }))
 shape_of o me (call.MngKeyConfig t) w ps =
     let first = life.HkidAssigned ∷ [] in
     let live = live_of first (w.tds.lives t) refl (search) in
-    shape.changes_life (record { call = refl; tdr = t; then_in = life.KeysConfigured; live = live; idle = λ e. absurd (not_configured first (w.tds.lives t) refl (search) e); rest = refl })
+    one (shape.changes_life (record { call = refl; tdr = t; then_in = life.KeysConfigured; live = live; idle = λ e. absurd (not_configured first (w.tds.lives t) refl (search) e); rest = refl }))
 shape_of o me (call.MngAddcx t page) w ps =
     takes me _ w _ page kind.Tdcx t 0 0 (search) (λ e. cc) (λ e. cc) refl (λ p e. rw e refl) (λ u l n f. refl) (λ u n. inr (refl, inl refl)) (λ u h. refl)
 shape_of o me (call.MngInit t) w ps =
@@ -206,16 +267,16 @@ shape_of o me (call.MngInit t) w ps =
 shape_of o me (call.MngRd t field) w ps = nothing me _ w _ refl
 shape_of o me (call.MngVpflushdone t) w ps =
     let live = live_of (life.HkidAssigned ∷ life.KeysConfigured ∷ []) (w.tds.lives t) refl (search) in
-    shape.changes_life (record { call = refl; tdr = t; then_in = life.Blocked; live = live; idle = λ e. search; rest = refl })
+    one (shape.changes_life (record { call = refl; tdr = t; then_in = life.Blocked; live = live; idle = λ e. search; rest = refl }))
 shape_of o me (call.MngKeyFreeid t) w ps =
     let blocked = life.Blocked ∷ [] in
     let live = live_of blocked (w.tds.lives t) refl (search) in
-    shape.changes_life (record { call = refl; tdr = t; then_in = life.Teardown; live = live; idle = λ e. absurd (not_configured blocked (w.tds.lives t) refl (search) e); rest = refl })
-shape_of o me (call.MrExtend t gpa) w ps = shape.notes (record { rest = refl; words = λ p h. refl; mrtds = measured_alone w t _ (search) })
+    one (shape.changes_life (record { call = refl; tdr = t; then_in = life.Teardown; live = live; idle = λ e. absurd (not_configured blocked (w.tds.lives t) refl (search) e); rest = refl }))
+shape_of o me (call.MrExtend t gpa) w ps = one (shape.notes (record { rest = refl; words = λ p h. refl; mrtds = measured_alone w t _ (search) }))
 shape_of o me (call.MrFinalize t) w ps =
     op_goes me _ w _ t op.Runnable (unrun (is_begun (w.tds.ops t) (search))) (λ e. cc) (inr (λ r. refl)) refl (stay refl) (λ u n. rw n refl)
     (λ h. inr (mrtd_is_the_digest o.machine w t ∙ ap (λ (given : Option (ℕ → ℕ)). Digest (given_or_measured given (w.tds.measured t))) (sym (put_here w.tds.mrtds_given t None))))
-shape_of o me (call.VpCreate t page) w ps = shape.takes (record {
+shape_of o me (call.VpCreate t page) w ps = one (shape.takes (record {
   page = page;
   becomes = kind.Tdvpr;
   tdr = t;
@@ -226,18 +287,17 @@ shape_of o me (call.VpCreate t page) w ps = shape.takes (record {
   rest = refl;
   words = λ p e. rw e refl;
   entries = λ u l n f. refl;
-  held = λ u n. inr (refl, inl refl);
   mrtds = λ u h. refl;
   vps = λ v n. record { index = rw n refl; state = rw n refl; associated = rw n refl; last = rw n refl; position = rw n refl; exported = rw n refl; entered = rw n refl; registers = λ r. rw n refl };
   begun = λ e. let same = same_self page in (rw same refl, rw same refl, rw same refl);
-})
+}) (λ u n. inr (refl, inl refl)))
 shape_of o me (call.VpInit t v value) w ps =
-    shape.changes_vp (record { vp = v; idle = λ p u x. ready_only (w.vps.states v) x.ready (search); rest = refl; others = λ q n. (rw n refl, refl, refl, λ r. rw n refl) })
+    one (shape.changes_vp (record { vp = v; idle = λ p u x. ready_only (w.vps.states v) x.ready (search); rest = refl; others = λ q n. (rw n refl, refl, refl, λ r. rw n refl) }))
 shape_of o me (call.VpEnter t v most) w ps =
     let alive = configured (w.tds.lives t) (search) in
     let runs = has_run (w.tds.ops t) (search) in
-    shape.enters (record { tdr = t; vp = v; most = most; call = refl; owner = (vp_of w t v (search)).owner; life = alive; running = runs; here = search; is = refl })
-shape_of o me (call.VpFlush t v) w ps = shape.flushes (record { tdr = t; vp = v; call = refl; here = search; is = refl })
+    one (shape.enters (record { tdr = t; vp = v; most = most; call = refl; owner = (vp_of w t v (search)).owner; life = alive; running = runs; here = search; is = refl }))
+shape_of o me (call.VpFlush t v) w ps = one (shape.flushes (record { tdr = t; vp = v; call = refl; here = search; is = refl }))
 shape_of o me (call.MemSeptAdd t gpa level page) w ps =
     let q = sept_passed o.machine w t gpa level page ps in
     let n = number_at level gpa in
@@ -247,7 +307,7 @@ shape_of o me (call.MemSeptRd t gpa level) w ps = nothing me _ w _ refl
 shape_of o me (call.MemSeptRemove t gpa level) w ps =
     let q = sept_remove_passed o.machine w t gpa level ps in
     let upper = (range_of level 3 (search)).0 in
-    shape.unmaps (record {
+    one (shape.unmaps (record {
       tdr = t;
       level = level;
       number = number_at level gpa;
@@ -260,7 +320,7 @@ shape_of o me (call.MemSeptRemove t gpa level) w ps =
       others = λ x n off. refl;
       is = refl;
       given = λ p. refl;
-    })
+    }))
 shape_of o me (call.MemPageAdd t gpa page source) w ps =
     let q = page_passed o.machine w t gpa page source ps in
     takes me _ w _ page kind.Reg t 0 (number_at 0 gpa) q.host (λ e. cc) (λ e. cc) refl (λ p e. rw e refl) (λ u l i f. entry-kept w t 0 (number_at 0 gpa) _ u l i (free_of (entry_at w t 0 gpa).state q.free) f)
@@ -272,22 +332,10 @@ shape_of o me (call.MemPageAug t gpa page) w ps =
     (awaited w t (page_of_gpa gpa) page free) (λ u h. refl)
 shape_of o me (call.MemPageRemove t gpa) w ps =
     let q = remove_passed o.machine w t gpa ps in
-    shape.unmaps (record {
-      tdr = t;
-      level = 0;
-      number = number_at 0 gpa;
-      memories = (end_memory t (page_of_gpa gpa) w).hidden.memories;
-      alive = named_alive w t gpa 0 _ _ q;
-      removed = page_removed (entry_at w t 0 gpa).state q.state;
-      empty = λ j i e. cc;
-      tracked = q.rest_holds.0;
-      ended = λ e. let a = same_self t in let b = same_self (page_of_gpa gpa) in rw (a, b) refl;
-      others = λ x n off. by_test (x == t)
-          (λ y. by_test (n == page_of_gpa gpa) (λ z. absurd (off (eqb-true x t y) refl (eqb-true n _ z))) (λ z. rw (y, z) refl))
-          (λ y. rw y refl);
-      is = refl;
-      given = λ p. refl;
-    })
+    one (shape.unmaps (page_leaves _ w t gpa _ q q.rest_holds.0 (λ p. refl)))
+shape_of o me (call.MemPageRelocate t gpa page) w ps =
+    let q = relocate_passed o.machine w t gpa page ps in
+    moves _ (page_leaves _ w t gpa _ q.named q.tracked (λ p. refl)) (page_comes o.machine w t gpa page q) (page_stays o.machine w t gpa page q)
 shape_of o me (call.MemRangeBlock t gpa level) w ps =
     let q = block_passed o.machine w t gpa level ps in
     let r = block_restates (entry_at w t level gpa).state q.state in
@@ -300,7 +348,7 @@ shape_of o me (call.MemRangeUnblock t gpa level) w ps =
     (open_on refl (blocked_stops s q.state) (λ writes less. inl (blocked_less writes s q.state, unexempt s r.unmarked))) refl
 shape_of o me (call.MemTrack t) w ps =
     let alive = configured (w.tds.lives t) (search) in
-    shape.advances (record { tdr = t; life = alive; begun = begun_of augmented_ops (w.tds.ops t) refl (search); left = search; is = refl })
+    one (shape.advances (record { tdr = t; life = alive; begun = begun_of augmented_ops (w.tds.ops t) refl (search); left = search; is = refl }))
 shape_of o me (call.MigStreamCreate t page) w ps =
     takes me _ w _ page kind.Migsc t 0 0 (search) (λ e. cc) (λ e. cc) refl (λ p e. rw e refl) (λ u l n f. refl) (λ u n. inr (refl, inl refl)) (λ u h. refl)
 shape_of o me (call.ExportBlockw t gpa) w ps =
@@ -341,7 +389,7 @@ shape_of o me (call.ExportStateTd t slot) w ps = nothing me _ w _ refl
 shape_of o me (call.ExportStateVp t v slot) w ps =
     let mine = (vp_of w t v (search)).owner in
     let idle : (p u : ℕ) → IsOccupied w p u v → ⊥ = λ p u x. paused_runs (w.tds.ops t) (search) (subst (λ (z : ℕ). IsOneOf running_ops (w.tds.ops z)) (sym x.page.owner ∙ mine) x.running) in
-    shape.changes_vp (record { vp = v; idle = idle; rest = refl; others = λ q n. (refl, refl, rw n refl, λ r. refl) })
+    one (shape.changes_vp (record { vp = v; idle = idle; rest = refl; others = λ q n. (refl, refl, rw n refl, λ r. refl) }))
 shape_of o me (call.ExportAbortByToken t slot) w ps = goes me _ w _ t op.Runnable (runs refl refl) (λ e. cc) (inr (λ r. refl)) (has_mrtd sent_ops (w.tds.ops t) refl refl (search)) refl
 shape_of o me (call.ImportStateImmutable t slot) w ps =
     goes_first me _ w _ t op.MemoryImport (search) (search) (λ e. cc) refl (λ u n. rw n refl) (λ h. let here = same_self t in rw here refl)
@@ -359,7 +407,7 @@ shape_of o me (call.ImportTrack t slot) w ps =
 shape_of o me (call.ImportStateTd t slot) w ps =
     goes_unrun me _ w _ t op.StateImport (td_state_not_run (w.tds.ops t) (search)) (λ e. cc) (has_mrtd td_state_ops (w.tds.ops t) refl refl (search)) refl
 shape_of o me (call.ImportStateVp t v slot) w ps =
-    shape.changes_vp (record { vp = v; idle = λ p u x. ready_only (w.vps.states v) x.ready (search); rest = refl; others = λ q n. (rw n refl, rw n refl, refl, λ r. rw n refl) })
+    one (shape.changes_vp (record { vp = v; idle = λ p u x. ready_only (w.vps.states v) x.ready (search); rest = refl; others = λ q n. (rw n refl, rw n refl, refl, λ r. rw n refl) }))
 shape_of o me (call.ImportCommit t) w ps =
     goes me _ w _ t op.LiveImport (unrun (commit_not_run (w.tds.ops t) (search))) (λ e. cc) (inr (λ r. refl)) (has_mrtd commit_ops (w.tds.ops t) refl refl (search)) refl
 shape_of o me (call.ImportEnd t) w ps = goes me _ w _ t op.Runnable (runs refl refl) (λ e. cc) (inr (λ r. refl)) (has_mrtd late_ops (w.tds.ops t) refl refl (search)) refl
@@ -368,4 +416,4 @@ shape_of o me (call.ImportAbort t slot) w ps =
 
 pub row_alive : (o : Opening) (me : ℕ) (c : Call) (w : World) → Passes ((row_of o me c).items w) → ((t h : ℕ) → c ≢ call.MngCreate t h)
     → (x : ℕ) → IsAlive ((row_of o me c).act w).pages ((row_of o me c).act w).tds x → IsAlive w.pages w.tds x
-row_alive o me c w ps never = shape.shape_alive me c w ((row_of o me c).act w) never (shape_of o me c w ps)
+row_alive o me c w ps never = shape.act_alive me c w ((row_of o me c).act w) never (shape_of o me c w ps)

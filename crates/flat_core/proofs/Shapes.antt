@@ -28,10 +28,11 @@ use Rattle.flat_core.specs.Digests.{digest_bytes, six_words}
 use Rattle.flat_core.specs.Lawful.{Lawful, IsAlive, is_free}
 use Rattle.flat_core.specs.Guests.{IsOccupied, SameVp}
 use Rattle.flat_core.specs.Access.{allows_less, is_pending, may_be_exempt, has_not_run}
-use Rattle.flat_core.specs.Laws.{gives_back, given_or_measured, holds_memory, memory_of}
+use Rattle.flat_core.specs.Laws.{gives_back, given_or_measured, holds_memory, memory_of, ArePagesKnown}
 use Rattle.flat_core.proofs.Tests.{by_test}
 use Rattle.flat_core.proofs.Ranges.{IsRemoved}
-use Rattle.flat_core.proofs.Parts.{IsLive}
+use Rattle.flat_core.proofs.Removals.{unmapped_kept}
+use Rattle.flat_core.proofs.Parts.{IsLive, untouched}
 
 -- MRTD of a TD, and what it is to be the digest of
 pub record Measurement : Type 0 where
@@ -119,7 +120,6 @@ pub record Takes (w w' : World) : Type 0 where
   }
   pub words : (p : ℕ) → (p == page) ≡ false → w'.words p ≡ w.words p
   pub entries : (t l n : ℕ) → is_free (w.tds.entries t l n).state ≡ false → w'.tds.entries t l n ≡ w.tds.entries t l n
-  pub held : (t n : ℕ) → IsHeld w w' t n
   pub mrtds : (t : ℕ) → IsOneOf later_ops (w.tds.ops t) → mrtd_of w' t ≡ mrtd_of w t
   pub vps : (v : ℕ) → (v == page) ≡ false → SameVp w w' v
   pub begun : becomes ≡ kind.Tdvpr → (w'.vps.lasts page ≡ 0) × (w'.vps.entered page ≡ None) × (w'.vps.associated page ≡ None)
@@ -266,7 +266,7 @@ pub record Advances (w w' : World) : Type 0 where
 pub data Shape (me : ℕ) (c : Call) (w w' : World) : Type 0 where
   notes : Notes w w' → Shape me c w w'
   fills : Fills w w' → Shape me c w w'
-  takes : Takes w w' → Shape me c w w'
+  takes : Takes w w' → ((t n : ℕ) → IsHeld w w' t n) → Shape me c w w'
   reclaims : Reclaims c w w' → Shape me c w w'
   unmaps : Unmaps c w w' → Shape me c w w'
   begins : Begins c w w' → Shape me c w w'
@@ -277,6 +277,18 @@ pub data Shape (me : ℕ) (c : Call) (w w' : World) : Type 0 where
   flushes : Flushes me c w w' → Shape me c w w'
   changes_entry : ChangesEntry w w' → Shape me c w w'
   advances : Advances w w' → Shape me c w w'
+
+-- An act has one of these shapes; or the page that an entry names leaves, and a page of the host is taken behind that. What both
+-- keep, it keeps.
+pub data ActShape (me : ℕ) (c : Call) (w w' : World) : Type 0 where
+  one : Shape me c w w' → ActShape me c w w'
+  moves : (v : World) → Unmaps c w v → Takes v w' → (ArePagesKnown w → (t n : ℕ) → IsHeld v w' t n) → ActShape me c w w'
+
+-- a page that leaves the map leaves a lawful world
+pub unmaps_kept : (m : Machine) (c : Call) (w v : World) → Lawful m w → Unmaps c w v → Lawful m v
+unmaps_kept m c w v l x =
+    let kept = unmapped_kept m w x.tdr x.level x.number l x.alive x.removed.used x.removed.unmarked x.empty in
+    subst (λ (z : World). Lawful m z) (sym x.is) (untouched m (unmap_page x.tdr x.level x.number w) _ refl kept)
 
 -- a page of a TD in TD_TEARDOWN that is given back is its own, also where it is its TDR page
 pub owner_reclaimed : (m : Machine) (c : Call) (w w' : World) → Lawful m w → (x : Reclaims c w w') → w.pages.owners x.page ≡ x.tdr
@@ -308,10 +320,13 @@ module _ (me : ℕ) (c : Call) (w w' : World) (never : (t h : ℕ) → c ≢ cal
   not_taken : (q x : ℕ) (k : PageKind) → k ≢ kind.Tdr → put w.pages.kinds q k x ≡ kind.Tdr → w.pages.kinds x ≡ kind.Tdr
   not_taken q x k other e = by_test (x == q) (λ y. absurd (other (rw y at e))) (λ y. rw y at e)
 
+  takes_alive : Takes w w' → (x : ℕ) → IsAlive w'.pages w'.tds x → IsAlive w.pages w.tds x
+  takes_alive y = by_aspect _ y.rest (λ x k. not_taken y.page x y.becomes y.no_tdr k) (λ x h. h)
+
   pub shape_alive : Shape me c w w' → (x : ℕ) → IsAlive w'.pages w'.tds x → IsAlive w.pages w.tds x
   shape_alive (notes y) = by_aspect _ y.rest (λ x k. k) (λ x h. h)
   shape_alive (fills y) = by_aspect _ y.rest (λ x k. k) (λ x h. h)
-  shape_alive (takes y) = by_aspect _ y.rest (λ x k. not_taken y.page x y.becomes y.no_tdr k) (λ x h. h)
+  shape_alive (takes y held) = takes_alive y
   shape_alive (reclaims y) = by_world _ y.is (λ x k. not_taken y.page x kind.Nda (λ e. cc) k) refl
   shape_alive (unmaps y) = by_world _ y.is (λ x k. not_taken (w.tds.entries y.tdr y.level y.number).page x kind.Nda (λ e. cc) k) refl
   shape_alive (begins y) = absurd (never y.tdr y.hkid y.call)
@@ -322,3 +337,7 @@ module _ (me : ℕ) (c : Call) (w w' : World) (never : (t h : ℕ) → c ≢ cal
   shape_alive (flushes y) = by_world _ y.is (λ x k. k) refl
   shape_alive (changes_entry y) = by_aspect _ y.rest (λ x k. k) (λ x h. h)
   shape_alive (advances y) = by_world _ y.is (λ x k. k) refl
+
+pub act_alive : (me : ℕ) (c : Call) (w w' : World) → ((t h : ℕ) → c ≢ call.MngCreate t h) → ActShape me c w w' → (x : ℕ) → IsAlive w'.pages w'.tds x → IsAlive w.pages w.tds x
+act_alive me c w w' never (one y) x a = shape_alive me c w w' never y x a
+act_alive me c w w' never (moves v y z held) x a = shape_alive me c w v never (unmaps y) x (takes_alive me c v w' never z x a)

@@ -13,9 +13,26 @@ use Rattle.flat_core.specs.Guests.{IsOccupied, SameVp, Spares, RowsSpare}
 use Rattle.flat_core.proofs.Tests.{by_test, host_kind}
 use Rattle.flat_core.proofs.Maps.{node_named}
 use Rattle.flat_core.proofs.AccessActs.{occupied-here}
-use Rattle.flat_core.proofs.Shapes.{Aspect, aspect_of, IsOneOf, ChangesOp, Shape, notes, fills, takes, reclaims, unmaps, begins, changes_life, changes_op, changes_vp, enters, flushes, changes_entry, advances, owner_reclaimed, same_vp}
+use Rattle.flat_core.proofs.Shapes.{Aspect, aspect_of, IsOneOf, Takes, Unmaps, ChangesOp, Shape, notes, fills, takes, reclaims, unmaps, begins, changes_life, changes_op, changes_vp, enters, flushes, changes_entry, advances, ActShape, one, moves, unmaps_kept, owner_reclaimed, same_vp}
 use Rattle.flat_core.proofs.ShapeOf.{shape_of}
 use Rattle.flat_core.proofs.Sparing.{beside, running_on, page_off, tdr_off, dead_off, idle_off, owned_off, named_off, elsewhere_off}
+
+module _ (m : Machine) (w w' : World) (l : Lawful m w) (p t v : ℕ) (x : IsOccupied w p t v) where
+  -- a page that an entry names is none of it
+  pub unmaps_spares : (c : Call) → Unmaps c w w' → Spares w w' p t v
+  unmaps_spares c y =
+      let node = node_named m w l y.tdr y.level y.number y.alive y.removed.used in
+      let off = named_off m w l p t v x y.level (w.tds.entries y.tdr y.level y.number).page node.page.kind in
+      subst (λ (z : World). Spares w z p t v) (sym y.is) (beside m w l p t v x _ (rw (off.1) refl) refl refl (rw (off.0) refl) (rw (off.0) refl) (same_vp w _ v refl refl))
+
+  -- nor is one of the host
+  takes_spares : Takes w w' → Spares w w' p t v
+  takes_spares y =
+      let host = host_kind _ y.host in
+      let a = page_off m w l p t v x y.page host in let b = tdr_off m w l p t v x y.page host in
+      let e = y.rest in
+      beside m w l p t v x w' (ap (λ (z : Aspect). z.pages.kinds t) e ∙ rw b refl) (ap (λ (z : Aspect). z.lives t) e) (ap (λ (z : Aspect). z.ops t) e)
+      (ap (λ (z : Aspect). z.pages.kinds v) e ∙ rw a refl) (ap (λ (z : Aspect). z.pages.owners v) e ∙ rw a refl) (y.vps v a)
 
 module _ (me : ℕ) (c : Call) (m : Machine) (w w' : World) (l : Lawful m w) (p t v : ℕ) (x : IsOccupied w p t v) (apart : p ≢ me) (unpaused : c ≢ call.ExportPause t) where
   by_aspect : (a : Aspect) → aspect_of w' ≡ a → a.pages.kinds t ≡ w.pages.kinds t → a.lives t ≡ w.tds.lives t → a.ops t ≡ w.tds.ops t → a.pages.kinds v ≡ w.pages.kinds v → a.pages.owners v ≡ w.pages.owners v → SameVp w w' v → Spares w w' p t v
@@ -39,20 +56,14 @@ module _ (me : ℕ) (c : Call) (m : Machine) (w w' : World) (l : Lawful m w) (p 
         (ap (λ (z : Aspect). z.pages.kinds v) y.rest) (ap (λ (z : Aspect). z.pages.owners v) y.rest) (vp_stays _ y.rest refl refl)
   ]
 
-  pub shape_spares : Shape me c w w' → Spares w w' p t v
+  shape_spares : Shape me c w w' → Spares w w' p t v
   shape_spares (notes y) = by_aspect _ y.rest refl refl refl refl refl (vp_stays _ y.rest refl refl)
   shape_spares (fills y) = by_aspect _ y.rest refl refl refl refl refl (vp_stays _ y.rest refl refl)
-  shape_spares (takes y) =
-      let host = host_kind _ y.host in
-      let a = page_off m w l p t v x y.page host in let b = tdr_off m w l p t v x y.page host in
-      by_aspect _ y.rest (rw b refl) refl refl (rw a refl) (rw a refl) (y.vps v a)
+  shape_spares (takes y held) = takes_spares m w w' l p t v x y
   shape_spares (reclaims y) =
       let off = owned_off m w l p t v x y.tdr y.page (dead_off m w l p t v x y.tdr y.dead) (owner_reclaimed m c w w' l y) in
       by_world _ y.is (beside m w l p t v x _ (rw (off.1) refl) refl refl (rw (off.0) refl) (rw (off.0) refl) (same_vp w _ v refl refl))
-  shape_spares (unmaps y) =
-      let node = node_named m w l y.tdr y.level y.number y.alive y.removed.used in
-      let off = named_off m w l p t v x y.level (w.tds.entries y.tdr y.level y.number).page node.page.kind in
-      by_world _ y.is (beside m w l p t v x _ (rw (off.1) refl) refl refl (rw (off.0) refl) (rw (off.0) refl) (same_vp w _ v refl refl))
+  shape_spares (unmaps y) = unmaps_spares m w w' l p t v x c y
   shape_spares (begins y) =
       let host = host_kind _ y.host in
       let a = page_off m w l p t v x y.tdr host in let b = tdr_off m w l p t v x y.tdr host in
@@ -83,5 +94,26 @@ module _ (me : ℕ) (c : Call) (m : Machine) (w w' : World) (l : Lawful m w) (p 
   shape_spares (changes_entry y) = by_aspect _ y.rest refl refl refl refl refl (vp_stays _ y.rest refl refl)
   shape_spares (advances y) = by_world _ y.is (beside m w l p t v x _ refl refl refl refl refl (same_vp w _ v refl refl))
 
+spares_behind : (w u w' : World) (p t v : ℕ) → Spares w u p t v → Spares u w' p t v → Spares w w' p t v
+spares_behind w u w' p t v a b = record {
+  occupied = b.occupied;
+  same = record {
+    index = b.same.index ∙ a.same.index;
+    state = b.same.state ∙ a.same.state;
+    associated = b.same.associated ∙ a.same.associated;
+    last = b.same.last ∙ a.same.last;
+    position = b.same.position ∙ a.same.position;
+    exported = b.same.exported ∙ a.same.exported;
+    entered = b.same.entered ∙ a.same.entered;
+    registers = λ r. b.same.registers r ∙ a.same.registers r;
+  };
+}
+
+act_spares : (me : ℕ) (c : Call) (m : Machine) (w w' : World) → Lawful m w → (p t v : ℕ) → IsOccupied w p t v → p ≢ me → c ≢ call.ExportPause t → ActShape me c w w' → Spares w w' p t v
+act_spares me c m w w' l p t v x apart unpaused (one y) = shape_spares me c m w w' l p t v x apart unpaused y
+act_spares me c m w w' l p t v x apart unpaused (moves u y z held) =
+    let first = unmaps_spares m w u l p t v x c y in
+    spares_behind w u w' p t v first (takes_spares m u w' (unmaps_kept m c w u l y) p t v first.occupied z)
+
 pub row_spares : RowsSpare
-row_spares o me c t n w p v l ps x apart = shape_spares me c o.machine w ((row_of o me c).act w) l p t v x apart n (shape_of o me c w ps)
+row_spares o me c t n w p v l ps x apart = act_spares me c o.machine w ((row_of o me c).act w) l p t v x apart n (shape_of o me c w ps)

@@ -65,7 +65,7 @@ due_grows o w p lp e (stops c cs g inside stays trying due) = unchanged w
 due_grows o w p lp e (fills c cs g op inside stays trying due full) = unchanged w
 due_grows o w p lp e (operates c cs g op row inside way is) =
     operation_grows w row (operation_row o g.tdr g.vp _ (λ x. (x.act w).outgoing.told ≡ w.outgoing.told) (λ r x. refl) (λ r s. refl) (λ r gpa. refl) (λ r gpa. refl)
-    (λ gpa. accepted (λ u. u.outgoing.told ≡ w.outgoing.told) _ g.tdr gpa w (λ y. refl) (λ y. refl)) (λ i. refl) (λ r. refl) op row is) _
+    (λ gpa. accepted (λ u. u.outgoing.told ≡ w.outgoing.told) _ g.tdr gpa w (λ y. refl) (λ y. refl)) (λ i. refl) refl (λ r. refl) op row is) _
 due_grows o w p lp e (walks c cs g op access r gpa inside way is found) = unchanged w
 due_grows o w p lp e (reaches c cs g op access r gpa page inside way is found) = reach_grows w g.tdr g.vp access r gpa page
 due_grows o w p lp e (undoes c cs g l inside stays phase) = unchanged w

@@ -85,6 +85,7 @@ act_tells o t v line op row w e =
     (λ r gpa. refl)
     (λ gpa. accepted (λ x. x.outgoing.told ≡ w.outgoing.told) (is_pending_at w t gpa) t gpa w (λ y. refl) (λ y. refl))
     (λ i. refl)
+    refl
     (λ r. refl)
     op row e
 

@@ -94,6 +94,7 @@ tries_in_order o (call.MemSeptRd t gpa level) w = tree_first t [] tt
 tries_in_order o (call.MemPageAdd t gpa page source) w = tree_first t (None ∷ None ∷ []) (tt, (tt, tt))
 tries_in_order o (call.MemPageAug t gpa page) w = tree_first t (None ∷ []) (tt, tt)
 tries_in_order o (call.MemSeptRemove t gpa level) w = tree_first t (Some (OfEpoch t) ∷ None ∷ []) (tt, (tt, tt))
+tries_in_order o (call.MemPageRelocate t gpa page) w = tree_first t (Some (OfEpoch t) ∷ None ∷ None ∷ []) (tt, (tt, (tt, tt)))
 tries_in_order o (call.MemPageRemove t gpa) w = tree_first t (Some (OfEpoch t) ∷ None ∷ []) (tt, (tt, tt))
 tries_in_order o (call.MemRangeBlock t gpa level) w = tree_first t (Some (OfEpoch t) ∷ None ∷ []) (tt, (tt, tt))
 tries_in_order o (call.MemRangeUnblock t gpa level) w = tree_first t (Some (OfEpoch t) ∷ None ∷ []) (tt, (tt, tt))
@@ -247,7 +248,7 @@ TriesOf t (Try l m ∷ items) = IsOfGuest t l × TriesOf t items
 operation_tries : (o : Opening) (t v line : ℕ) (op : GuestOp) (row : OperationRow) (w : World) → operation_of o t v line op ≡ ByRow row → TriesOf t (row.items w)
 operation_tries o t v line op row w is =
     operation_row o t v line (λ x. TriesOf t (x.items w))
-    (λ r x. tt) (λ r s. tt) (λ r gpa. (tt, tt)) (λ r gpa. (tt, tt)) (λ gpa. (refl, (tt, tt))) (λ i. (refl, tt)) (λ r. tt) op row is
+    (λ r x. tt) (λ r s. tt) (λ r gpa. (tt, tt)) (λ r gpa. (tt, tt)) (λ gpa. (refl, (tt, tt))) (λ i. (refl, tt)) (refl, tt) (λ r. tt) op row is
 
 try_of : (t : ℕ) (items : List (Item (Option Outcome))) (k : ℕ) (l : LockId) (m : Mode) → TriesOf t items → next items k ≡ Attempts l m → IsOfGuest t l
 try_of t [] k l m h e = cc

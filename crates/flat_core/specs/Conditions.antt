@@ -183,7 +183,7 @@ all_ops = op.Uninitialized ∷ begun_ops
 abbrev pub running_ops : List OpState
 running_ops = op.Runnable ∷ op.LiveExport ∷ op.LiveImport ∷ []
 
--- the one in which its pages are blocked, unblocked and removed: while it runs and no session stands
+-- the one in which its pages are blocked, unblocked, removed and relocated: while it runs and no session stands
 abbrev pub blocking_ops : List OpState
 blocking_ops = op.Runnable ∷ []
 

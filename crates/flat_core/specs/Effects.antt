@@ -153,7 +153,7 @@ new_td t h w = record w {
 }
 
 -- What a guest's private page holds, as its guest knows it, is told by events alone: a page that is added, accepted or
--- imported begins it, a guest's store changes one word, and a page that is removed or reclaimed ends it.
+-- imported begins it, a guest's store changes one word, a relocation keeps it, and a page that is removed or reclaimed ends it.
 abbrev pub begin_memory : ℕ → ℕ → (ℕ → ℕ) → World → World
 begin_memory t g ws w = record w { hidden = record (w.hidden) { memories = put_in w.hidden.memories t g (Some ws) } }
 

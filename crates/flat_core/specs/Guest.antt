@@ -14,12 +14,13 @@ use Rattle.td_words.specs.declared.replies.Outcome.{Outcome}
 use Rattle.td_words.specs.declared.replies.Outcome.TheVariants.{EptViolation, Vmcall}
 use Rattle.td_words.specs.Packing.{Entry}
 use Rattle.flat_core.specs.World.{World}
-use Rattle.flat_core.specs.Processor.{OfPage, OfTree, OfRtmr, Answered, Translation, Walk, Guest, Note, LoadNote, RtmrNote}
+use Rattle.flat_core.specs.Processor.{OfPage, OfTree, OfRtmr, Answered, Translation, Walk, Guest, Note, LoadNote, RtmrNote, ReportNote}
 use Rattle.flat_core.specs.Opening.{Opening}
 use Rattle.flat_core.specs.Row.{Item, Check, Try, OperationRow}
 use Rattle.flat_core.specs.Conditions.{is_host}
 use Rattle.flat_core.specs.Tree.{page_of_gpa, word_of_gpa, number_at, entry_at, same_state, may_read, may_write, allows, levels_above, is_passed}
 use Rattle.flat_core.specs.Digests.{digest_word, digest_bytes, six_words}
+use Rattle.flat_core.specs.Reports.{facts_of}
 use Rattle.flat_core.specs.Effects.{set_word, clear_page, set_entry, begin_memory, set_register, set_rtmr, store_memory, pass_operation, word_told}
 use Rattle.flat_core.specs.Translations.{cache}
 
@@ -122,6 +123,16 @@ extend_rtmr t v line i = record {
   tells = λ w. [];
 }
 
+-- report: MRTD, the RTMRs and the registers are noted, and nothing changes (ABI Reference, "TDG.MR.REPORT")
+abbrev pub report_facts : (tdr vp line : ℕ) → OperationRow
+report_facts t v line = record {
+  items = λ w. Try (OfRtmr t) Shared ∷ [];
+  act = λ w. pass_operation v w;
+  answer = λ w. None;
+  notes = λ w. ReportNote line (facts_of w t v) ∷ [];
+  tells = λ w. [];
+}
+
 -- vmcall R: the host is told a register, and the guest is left (ABI Reference, "TDG.VP.VMCALL")
 abbrev pub call_host : (vp register : ℕ) → OperationRow
 call_host v r = record {
@@ -144,6 +155,7 @@ operation_of o t v line (op.Load r gpa) = if is_private gpa then Private Read r 
 operation_of o t v line (op.Store r gpa) = if is_private gpa then Private Write r gpa else ByRow (shared_store o.machine v r gpa)
 operation_of o t v line (op.Accept gpa) = ByRow (accept t v gpa)
 operation_of o t v line (op.Rtmr i) = ByRow (extend_rtmr t v line i)
+operation_of o t v line op.Report = ByRow (report_facts t v line)
 operation_of o t v line (op.Vmcall r) = ByRow (call_host v r)
 
 abbrev pub word_reached : World → ℕ → ℕ → ℕ

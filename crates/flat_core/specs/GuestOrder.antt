@@ -29,6 +29,7 @@ operation_tries t (op.Load r gpa) w = access_tries gpa
 operation_tries t (op.Store r gpa) w = access_tries gpa
 operation_tries t (op.Accept gpa) w = shared (OfTree t) ∷ alone (OfPage (entry_at w t 0 gpa).page) ∷ []
 operation_tries t (op.Rtmr i) w = alone (OfRtmr t) ∷ []
+operation_tries t op.Report w = shared (OfRtmr t) ∷ []
 operation_tries t (op.Vmcall r) w = []
 
 -- what an operation tries where it goes by a row

@@ -6,16 +6,16 @@ use Rattle.td_words.specs.declared.names.Access.TheVariants as access
 use Rattle.td_words.specs.declared.names.OpState.TheVariants as op
 use Rattle.td_words.specs.declared.names.EntryState.TheVariants as entry
 use Rattle.td_words.specs.declared.calls.Call.{Call}
-use Rattle.td_words.specs.declared.calls.Call.TheVariants.{HostWrite, HostRead, MngCreate, MngVpflushdone, MrFinalize, VpCreate, VpInit, VpEnter, VpFlush, MemSeptRd, MemPageAdd, MemPageAug, MemPageRemove, MemSeptRemove, MemRangeBlock, MemRangeUnblock, MemTrack, MigStreamCreate, ExportStateImmutable, ExportBlockw, ExportUnblockw, ExportMem, ExportPause, ExportTrack}
+use Rattle.td_words.specs.declared.calls.Call.TheVariants.{HostWrite, HostRead, MngCreate, MngVpflushdone, MrFinalize, VpCreate, VpInit, VpEnter, VpFlush, MemSeptRd, MemPageAdd, MemPageAug, MemPageRemove, MemPageRelocate, MemSeptRemove, MemRangeBlock, MemRangeUnblock, MemTrack, MigStreamCreate, ExportStateImmutable, ExportBlockw, ExportUnblockw, ExportMem, ExportPause, ExportTrack}
 use Rattle.td_words.specs.declared.calls.GuestOp.{GuestOp}
-use Rattle.td_words.specs.declared.calls.GuestOp.TheVariants.{Set, Secret, Add, Load, Store, Accept, Rtmr, Vmcall}
+use Rattle.td_words.specs.declared.calls.GuestOp.TheVariants.{Set, Secret, Add, Load, Store, Accept, Rtmr, Report, Vmcall}
 use Rattle.td_words.specs.declared.refusals.Status.TheVariants.{OperandInvalid, OperandBusy, PageMetadataIncorrect, OpStateIncorrect, VcpuAssociated, VcpuNotAssociated, HkidNotFree, FlushvpNotDone, TlbTrackingNotDone, PreviousTlbEpochBusy}
 use Rattle.td_words.specs.declared.replies.Value.TheVariants.{Nothing, Number, Entry}
 use Rattle.td_words.specs.declared.replies.Outcome.TheVariants.{Stop, Max, Vmcall as Called, EptViolation, Busy}
 use Rattle.td_words.specs.declared.replies.Reply.{Reply}
 use Rattle.td_words.specs.declared.replies.Reply.TheVariants.{Done, Refused, Exited}
 use Rattle.flat_core.specs.Digests.{digest_bytes, digest_word, six_words}
-use Rattle.flat_core.specs.Processor.{Note, LoadNote, RtmrNote}
+use Rattle.flat_core.specs.Processor.{Note, LoadNote, RtmrNote, ReportNote}
 use Rattle.flat_core.specs.Opening.{Opening}
 use Rattle.flat_core.specs.Event.{State, start}
 use Rattle.flat_core.specs.Run.{run, told_in, bundles_in}
@@ -37,6 +37,11 @@ after_ready ops calls = drop 13 (replies_of (run_after ops calls) 0)
 
 abbrev pub notes_after : List GuestOp → List Call → List Note
 notes_after ops calls = ((run_after ops calls).lps 0).notes
+
+-- of a report, RTMR 2 and the registers
+abbrev pub some_facts : Note → List ℕ
+some_facts (ReportNote line f) = f.rtmr2 ++ f.given
+some_facts _ = []
 
 abbrev pub told_after : List GuestOp → List Call → List ℕ
 told_after ops calls = told_in (run_after ops calls)
@@ -104,6 +109,14 @@ abbrev pub removes_beside : State
 removes_beside =
     beside_guest (Load 1 0 ∷ Set 2 5 ∷ []) (VpEnter 1 4 100 ∷ []) (MemRangeBlock 1 0 0 ∷ MemPageRemove 1 0 ∷ MemTrack 1 ∷ MemPageRemove 1 0 ∷ MemPageRemove 1 0 ∷ HostRead 8 0 ∷ []) 40
 
+-- or moves beside it; and a guest that enters afterwards loads the word that it knows there
+abbrev pub moves_beside : State
+moves_beside =
+    beside_guest (Load 1 0 ∷ Set 2 5 ∷ []) (VpEnter 1 4 100 ∷ []) (MemRangeBlock 1 0 0 ∷ MemPageRelocate 1 0 9 ∷ MemTrack 1 ∷ MemPageRelocate 1 0 9 ∷ MemPageRelocate 1 0 9 ∷ HostRead 8 0 ∷ []) 44
+
+abbrev pub moves_page : List Call
+moves_page = MemRangeBlock 1 0 0 ∷ MemTrack 1 ∷ MemPageRelocate 1 0 9 ∷ VpEnter 1 4 9 ∷ []
+
 abbrev pub removes_sept_beside : State
 removes_sept_beside =
     let build = building ++ MrFinalize 1 ∷ VpEnter 1 4 9 ∷ [] in
@@ -151,6 +164,10 @@ pub record GuestExamples : Type 0 where
   -- so a page isn't removed while a guest may use it, nor a secure EPT page where a walk stands
   pub removed_after_exit_0 : drop 12 (replies_of removes_beside 0) ≡ Exited Stop ∷ []
   pub removed_after_exit_1 : replies_of removes_beside 1 ≡ success ∷ Refused TlbTrackingNotDone ∷ success ∷ Refused TlbTrackingNotDone ∷ success ∷ Done (Number 0) ∷ []
+  pub moved_after_exit_0 : drop 12 (replies_of moves_beside 0) ≡ Exited Stop ∷ []
+  pub moved_after_exit_1 : replies_of moves_beside 1 ≡ success ∷ Refused TlbTrackingNotDone ∷ success ∷ Refused TlbTrackingNotDone ∷ success ∷ Done (Number 0) ∷ []
+  pub moved_page : after_ready (Load 1 8 ∷ []) moves_page ≡ success ∷ success ∷ success ∷ Exited Stop ∷ []
+  pub moved_word : notes_after (Load 1 8 ∷ []) moves_page ≡ LoadNote 17 8 77 ∷ []
   pub sept_after_exit_0 : drop 11 (replies_of removes_sept_beside 0) ≡ Exited (EptViolation 0 access.Read) ∷ []
   pub sept_after_exit_1 : replies_of removes_sept_beside 1 ≡ success ∷ success ∷ Refused TlbTrackingNotDone ∷ success ∷ Done (Number 0) ∷ []
   -- a page that was blocked for writing and exported isn't stored to until it is unblocked; what is stored then is in the next
@@ -210,6 +227,9 @@ pub record GuestExamples : Type 0 where
   -- an RTMR is extended by registers 0 to 5
   pub measured : notes_after (Set 0 1 ∷ Set 5 6 ∷ Rtmr 2 ∷ []) (VpEnter 1 4 9 ∷ [])
       ≡ RtmrNote 14 2 (six_words (digest_word (sha384 (replicate 48 0 ++ digest_bytes (1 ∷ 0 ∷ 0 ∷ 0 ∷ 0 ∷ 6 ∷ []))))) ∷ []
+  -- a report tells RTMRs and registers as they are at its act
+  pub reported : map some_facts (notes_after (Set 7 9 ∷ Rtmr 2 ∷ Set 0 1 ∷ Report ∷ Set 0 2 ∷ []) (VpEnter 1 4 9 ∷ []))
+      ≡ [] ∷ (digest_bytes (six_words (digest_word (sha384 (replicate 48 0 ++ digest_bytes (0 ∷ 0 ∷ 0 ∷ 0 ∷ 0 ∷ 0 ∷ []))))) ++ digest_bytes (1 ∷ 0 ∷ 0 ∷ 0 ∷ 0 ∷ 0 ∷ 0 ∷ 9 ∷ [])) ∷ []
   -- a word that one guest has stored another one loads
   pub guests_share : replies_of two_guests 1 ≡ Exited (Called 44) ∷ []
   -- events: of an entry six and four at its exit; of a walk and its access five, and one where a translation is cached
@@ -223,4 +243,5 @@ pub record GuestExamples : Type 0 where
   pub accept_events : entry_events (Accept 0 ∷ []) 2 15
   pub accept_nothing_events : entry_events (Accept 0x40000000 ∷ []) 2 13
   pub rtmr_events : entry_events (Rtmr 0 ∷ []) 2 13
+  pub report_events : entry_events (Report ∷ []) 2 13
   pub vmcall_events : entry_events (Vmcall 0 ∷ []) 2 11

@@ -228,6 +228,7 @@ EventsMeasure = (o : Opening) (s : State) (p t : ℕ) → (event o s p).world.td
 abbrev pub gives_back : Call → World → ℕ → Bool
 gives_back (call.PhymemPageReclaim tdr page) w p = p == page
 gives_back (call.MemPageRemove tdr gpa) w p = p == (entry_at w tdr 0 gpa).page
+gives_back (call.MemPageRelocate tdr gpa page) w p = p == (entry_at w tdr 0 gpa).page
 gives_back (call.MemSeptRemove tdr gpa level) w p = p == (entry_at w tdr level gpa).page
 gives_back _ w p = false
 

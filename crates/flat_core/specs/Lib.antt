@@ -34,6 +34,7 @@ pub mod Guests
 pub mod Inside
 pub mod Access
 pub mod Laws
+pub mod Reports
 pub mod Rtmrs
 pub mod PageUses
 pub mod AccessLaw

@@ -1,6 +1,6 @@
--- Calls that build a TD's secure EPT, add its pages, block, track and remove them, and measure the first (Base Architecture,
--- "Secure EPT", "TLB Tracking Sequence" and "TD Measurement").
-use Rattle.std.specs.Prelude.{ℕ, ◌+◌, List, [], ◌∷◌, ◌++◌, map, Option, Some, None}
+-- Calls that build a TD's secure EPT, add its pages, block, track, remove and relocate them, and measure the first (Base
+-- Architecture, "Secure EPT", "TLB Tracking Sequence" and "TD Measurement").
+use Rattle.std.specs.Prelude.{ℕ, ◌+◌, List, [], ◌∷◌, ◌++◌, map, Option, Some, None, not, ◌==◌}
 use Rattle.std.specs.List.{range_with_len}
 use Rattle.mrtd_measure.specs.Records.{page_record, chunk_records}
 use Rattle.td_words.specs.declared.names.PageKind.TheVariants as kind
@@ -8,13 +8,14 @@ use Rattle.td_words.specs.declared.names.OpState.TheVariants as op
 use Rattle.td_words.specs.declared.names.EntryState.{EntryState}
 use Rattle.td_words.specs.declared.names.EntryState.TheVariants as entry
 use Rattle.td_words.specs.declared.names.Mode.TheVariants.{Shared, Exclusive}
+use Rattle.td_words.specs.declared.refusals.Status.TheVariants.{PageMetadataIncorrect}
 use Rattle.td_words.specs.declared.replies.Value.{Value}
 use Rattle.td_words.specs.declared.replies.Value.TheVariants as value
 use Rattle.td_words.specs.declared.machines.Machine.{Machine}
 use Rattle.td_words.specs.Packing.{Entry}
 use Rattle.td_words.specs.declared.replies.Reply.{Reply}
 use Rattle.flat_core.specs.World.{World}
-use Rattle.flat_core.specs.Row.{Item, Row, call_row}
+use Rattle.flat_core.specs.Row.{Item, Row, call_row, needs}
 use Rattle.flat_core.specs.Arguments.{page_argument, gpa_argument, level_argument, upper_level_argument, apart_argument, aligned_argument, chunk_argument}
 use Rattle.flat_core.specs.Digests.{digest_bytes}
 use Rattle.flat_core.specs.Conditions.{page_exclusive, tree_shared, tree_exclusive, epoch_shared, epoch_exclusive, host_page, blocking_ops, growing_ops, augmented_ops, begun_ops, td_shared, td_exclusive}
@@ -88,7 +89,7 @@ unblocked_state entry.PendingBlocked = entry.Pending
 unblocked_state entry.NlBlocked = entry.NlMapped
 unblocked_state s = s
 
--- The beginning of the rows that block, unblock and remove: the map is held alone, TD_EPOCH stays, the entry is in one of
+-- The beginning of the rows that block, unblock, remove and relocate: the map is held alone, TD_EPOCH stays, the entry is in one of
 -- these states, and the page that it names is held alone.
 abbrev pub named_row : World → (tdr gpa level : ℕ) → List EntryState → List (Item Reply) → List (Item Reply)
 named_row w tdr gpa level allowed rest =
@@ -111,7 +112,7 @@ unblock_range m tdr gpa level = call_row
     (λ w. set_state tdr level (number_at level gpa) (unblocked_state (entry_at w tdr level gpa).state) w)
     (λ w. value.Nothing)
 
--- those in which a private page can be removed
+-- those in which a private page can be removed or relocated
 abbrev pub removed_states : List EntryState
 removed_states = entry.Blocked ∷ entry.PendingBlocked ∷ []
 
@@ -130,6 +131,24 @@ remove_sept m tdr gpa level = call_row
     (λ w. page_argument m 1 tdr ∷ gpa_argument 2 gpa ∷ upper_level_argument 3 level ∷ aligned_argument 2 level gpa
     ∷ named_row w tdr gpa level (entry.NlBlocked ∷ []) (empty_below w tdr gpa level ∷ tracked_page w tdr (entry_at w tdr level gpa).page ∷ []))
     (λ w. unmap_page tdr level (number_at level gpa) w)
+    (λ w. value.Nothing)
+
+-- MEM.PAGE.RELOCATE TDR GPA PAGE: a private page moves to another page, once nobody can use a translation to it: PAGE gets its
+-- words and its place in the map, and the old page is the host's again (ABI Reference, "TDH.MEM.PAGE.RELOCATE")
+abbrev pub another_page : World → (tdr gpa page : ℕ) → Item Reply
+another_page w t gpa page = needs (not (page == (entry_at w t 0 gpa).page)) (PageMetadataIncorrect page)
+
+abbrev pub move_page : (tdr number page : ℕ) → World → World
+move_page t number page w =
+    let e = w.tds.entries t 0 number in
+    set_page page (w.words e.page) (map_page page kind.Reg (unblocked_state e.state) t 0 number (unmap_page t 0 number w))
+
+abbrev pub relocate_page : Machine → (tdr gpa page : ℕ) → Row
+relocate_page m tdr gpa page = call_row
+    (λ w. page_argument m 1 tdr ∷ gpa_argument 2 gpa ∷ page_argument m 3 page ∷ apart_argument 3 page tdr ∷ aligned_argument 2 0 gpa
+    ∷ named_row w tdr gpa 0 removed_states
+    (another_page w tdr gpa page ∷ page_exclusive page ∷ host_page w page ∷ tracked_page w tdr (entry_at w tdr 0 gpa).page ∷ []))
+    (λ w. move_page tdr (number_at 0 gpa) page w)
     (λ w. value.Nothing)
 
 -- MEM.TRACK TDR: TD_EPOCH rises, once no virtual processor is in guest that entered at the epoch before it (ABI Reference,

@@ -1,5 +1,6 @@
 -- What the flat machine knows of each logical processor: how far its call is, and what it caches.
 use Rattle.std.specs.Prelude.{ℕ, List, [], Option, None, Bool}
+use Rattle.report_core.specs.declared.facts.Facts.{Facts}
 use Rattle.td_words.specs.declared.names.LockName.{LockName}
 use Rattle.td_words.specs.declared.names.LockName.TheVariants as name
 use Rattle.td_words.specs.declared.names.Mode.{Mode}
@@ -79,10 +80,11 @@ pub record Entering : Type 0 where
 abbrev pub new_guest : Entering → Guest
 new_guest e = record { tdr = e.tdr; vp = e.vp; most = e.most; completed = 0; operation = nothing_yet; walk = None; leaving = None }
 
--- what a guest's reads and measurements came to, by the call line of their VP.ENTER
+-- what a guest's reads, measurements and reports came to, by the call line of their VP.ENTER
 pub data Note : Type 0 where
   LoadNote : (line gpa word : ℕ) → Note
   RtmrNote : (line index : ℕ) (words : List ℕ) → Note
+  ReportNote : (line : ℕ) (facts : Facts) → Note
 
 -- a logical processor
 pub record Lp : Type 0 where

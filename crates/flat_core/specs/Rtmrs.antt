@@ -11,11 +11,8 @@ use Rattle.flat_core.specs.Opening.{Opening, Incoming}
 use Rattle.flat_core.specs.Inputs.{input_in}
 use Rattle.flat_core.specs.Row.{Succeeds}
 use Rattle.flat_core.specs.Digests.{digest_bytes, six_words}
+use Rattle.flat_core.specs.Reports.{rtmr_bytes}
 use Rattle.flat_core.specs.Event.{State, Event, OfCall, OfOperation, lines_left, next_event, event, operation_due}
-
--- an RTMR of a TD: 48 bytes
-abbrev pub rtmr_bytes : World → (tdr index : ℕ) → List ℕ
-rtmr_bytes w t i = digest_bytes (six_words (λ k. w.hidden.rtmrs t (6 * i + k)))
 
 -- what a guest extends it with: registers 0 to 5 of its virtual processor
 abbrev pub extension_bytes : World → (vp : ℕ) → List ℕ

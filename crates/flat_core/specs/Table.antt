@@ -8,7 +8,7 @@ use Rattle.flat_core.specs.HostRows.{host_read, host_write, read_metadata}
 use Rattle.flat_core.specs.TdRows.{create, configure_key, add_tdcx, initialize, read_td, finalize}
 use Rattle.flat_core.specs.KeyRows.{write_caches_back, reclaim_page, end_flush, free_hkid}
 use Rattle.flat_core.specs.VpRows.{create_vp, initialize_vp, enter_vp, flush_vp}
-use Rattle.flat_core.specs.MemRows.{add_sept, read_sept, add_page, augment_page, remove_page, remove_sept, block_range, unblock_range, advance_epoch, extend}
+use Rattle.flat_core.specs.MemRows.{add_sept, read_sept, add_page, augment_page, remove_page, relocate_page, remove_sept, block_range, unblock_range, advance_epoch, extend}
 use Rattle.flat_core.specs.ExportRows.{create_stream, block_write, unblock_write, pause, abort_export, restore}
 use Rattle.flat_core.specs.BundleRows.{export_immutable, export_page, export_token, export_td, export_vp}
 use Rattle.flat_core.specs.ImportRows.{import_immutable, import_page, import_token, import_td, import_vp, commit_import, end_import, abort_import, abort_by_token}
@@ -38,6 +38,7 @@ row_of o me (call.MemSeptRemove tdr gpa level) = remove_sept o.machine tdr gpa l
 row_of o me (call.MemPageAdd tdr gpa page source) = add_page o.machine tdr gpa page source
 row_of o me (call.MemPageAug tdr gpa page) = augment_page o.machine tdr gpa page
 row_of o me (call.MemPageRemove tdr gpa) = remove_page o.machine tdr gpa
+row_of o me (call.MemPageRelocate tdr gpa page) = relocate_page o.machine tdr gpa page
 row_of o me (call.MemRangeBlock tdr gpa level) = block_range o.machine tdr gpa level
 row_of o me (call.MemRangeUnblock tdr gpa level) = unblock_range o.machine tdr gpa level
 row_of o me (call.MemTrack tdr) = advance_epoch o.machine tdr
@@ -88,6 +89,7 @@ most_tries (call.MemSeptRemove tdr gpa level) = 5
 most_tries (call.MemPageAdd tdr gpa page source) = 5
 most_tries (call.MemPageAug tdr gpa page) = 4
 most_tries (call.MemPageRemove tdr gpa) = 5
+most_tries (call.MemPageRelocate tdr gpa page) = 6
 most_tries (call.MemRangeBlock tdr gpa level) = 5
 most_tries (call.MemRangeUnblock tdr gpa level) = 5
 most_tries (call.MemTrack tdr) = 3

@@ -45,7 +45,7 @@ enter_tries t v = td_tries t Shared ++ alone (OfPage v) ∷ shared (OfEpoch t) �
 abbrev pub pause_tries : ℕ → List Held
 pause_tries t = td_tries t Exclusive ++ alone (OfTree t) ∷ []
 
--- the beginning of the rows that block, unblock and remove
+-- the beginning of the rows that block, unblock, remove and relocate
 abbrev pub named_tries : World → (tdr gpa level : ℕ) → List Held
 named_tries w t gpa level = td_tries t Shared ++ alone (OfTree t) ∷ shared (OfEpoch t) ∷ alone (OfPage (entry_at w t level gpa).page) ∷ []
 
@@ -106,6 +106,7 @@ tries_of o (call.MemSeptRemove tdr gpa level) w = named_tries w tdr gpa level
 tries_of o (call.MemPageAdd tdr gpa page source) w = td_tries tdr Exclusive ++ alone (OfTree tdr) ∷ alone (OfPage source) ∷ alone (OfPage page) ∷ []
 tries_of o (call.MemPageAug tdr gpa page) w = td_tries tdr Shared ++ alone (OfTree tdr) ∷ alone (OfPage page) ∷ []
 tries_of o (call.MemPageRemove tdr gpa) w = named_tries w tdr gpa 0
+tries_of o (call.MemPageRelocate tdr gpa page) w = named_tries w tdr gpa 0 ++ alone (OfPage page) ∷ []
 tries_of o (call.MemRangeBlock tdr gpa level) w = named_tries w tdr gpa level
 tries_of o (call.MemRangeUnblock tdr gpa level) w = named_tries w tdr gpa level
 tries_of o (call.MemTrack tdr) w = td_tries tdr Shared ++ alone (OfEpoch tdr) ∷ []

@@ -10,7 +10,7 @@ use Rattle.td_words.specs.declared.names.VcpuState.TheVariants as vcpu
 use Rattle.td_words.specs.declared.names.LimitName.TheVariants.{Vcpus, Streams}
 use Rattle.td_words.specs.declared.names.ReadField.TheVariants as field
 use Rattle.td_words.specs.declared.calls.Call.{Call}
-use Rattle.td_words.specs.declared.calls.Call.TheVariants.{HostRead, HostWrite, PhymemPageRdmd, PhymemCacheWb, PhymemPageReclaim, MngCreate, MngKeyConfig, MngAddcx, MngInit, MngRd, MngVpflushdone, MngKeyFreeid, MrExtend, MrFinalize, VpCreate, VpInit, VpFlush, MemSeptAdd, MemSeptRd, MemPageAdd, MemPageAug, MemPageRemove, MemSeptRemove, MemRangeBlock, MemRangeUnblock, MemTrack, MigStreamCreate, ExportBlockw, ExportUnblockw, ExportPause, ExportAbort, ExportRestore, ExportStateImmutable, ExportMem, ExportTrack, ExportStateTd, ExportStateVp}
+use Rattle.td_words.specs.declared.calls.Call.TheVariants.{HostRead, HostWrite, PhymemPageRdmd, PhymemCacheWb, PhymemPageReclaim, MngCreate, MngKeyConfig, MngAddcx, MngInit, MngRd, MngVpflushdone, MngKeyFreeid, MrExtend, MrFinalize, VpCreate, VpInit, VpFlush, MemSeptAdd, MemSeptRd, MemPageAdd, MemPageAug, MemPageRemove, MemPageRelocate, MemSeptRemove, MemRangeBlock, MemRangeUnblock, MemTrack, MigStreamCreate, ExportBlockw, ExportUnblockw, ExportPause, ExportAbort, ExportRestore, ExportStateImmutable, ExportMem, ExportTrack, ExportStateTd, ExportStateVp}
 use Rattle.td_words.specs.declared.refusals.Status.TheVariants.{OperandInvalid, OperandBusy, NotHost, PageMetadataIncorrect, LifecycleStateIncorrect, OpStateIncorrect, EptWalkFailed, EptEntryStateIncorrect, HkidNotFree, TdcxNumIncorrect, VcpuStateIncorrect, PagesExist, Limit, CacheWbNotDone, TlbTrackingNotDone, SeptNotEmpty, VcpuNotAssociated, NoStream, UnrestoredPages, ExportedThisEpoch, StateMissing, DirtyPages, AlreadyExported}
 use Rattle.td_words.specs.declared.replies.Value.TheVariants.{Nothing, Number, Life, Op, Page, Entry}
 use Rattle.td_words.specs.declared.replies.Reply.{Reply}
@@ -249,6 +249,16 @@ pub record Examples : Type 0 where
       ≡ (success ∷ (ten_successes ++ success ∷ success ∷ [])) ++ Refused (EptEntryStateIncorrect entry.Mapped) ∷ success ∷ Refused TlbTrackingNotDone ∷ success ∷ success ∷ Refused (EptEntryStateIncorrect entry.Free)
       ∷ Done (Page kind.Nda 0 0) ∷ Done (Number 0) ∷ Done (Entry entry.Free None) ∷ success ∷ []
   pub removed_pending : after_running (MemPageAug 1 4096 9 ∷ MemRangeBlock 1 4096 0 ∷ MemTrack 1 ∷ MemPageRemove 1 4096 ∷ PhymemPageRdmd 9 ∷ []) ≡ success ∷ success ∷ success ∷ success ∷ Done (Page kind.Nda 0 0) ∷ []
+  -- A page moves once its block is tracked, with six locks in thirteen events: its words and its state go along, and the old page
+  -- is the host's with zeros. The new page is another one, and the host's. So does a page that its guest hasn't accepted.
+  pub moved_events : events_of (running ++ MemRangeBlock 1 0 0 ∷ MemTrack 1 ∷ MemPageRelocate 1 0 9 ∷ []) ≡ 64 + 11 + 5 + 11 + 7 + 13
+  pub moved : answers_to (HostWrite 0 0 41 ∷ (running ++ MemPageRelocate 1 0 9 ∷ MemRangeBlock 1 0 0 ∷ MemPageRelocate 1 0 9 ∷ MemTrack 1 ∷ MemPageRelocate 1 0 8 ∷ MemPageRelocate 1 0 7 ∷ MemPageRelocate 1 0 9 ∷ MemSeptRd 1 0 0 ∷ HostRead 8 0 ∷ PhymemPageRdmd 8 ∷ PhymemPageRdmd 9 ∷ []))
+      ≡ (success ∷ (ten_successes ++ success ∷ success ∷ [])) ++ Refused (EptEntryStateIncorrect entry.Mapped) ∷ success ∷ Refused TlbTrackingNotDone ∷ success ∷ Refused (PageMetadataIncorrect 8) ∷ Refused (PageMetadataIncorrect 7) ∷ success
+      ∷ Done (Entry entry.Mapped (Some 9)) ∷ Done (Number 0) ∷ Done (Page kind.Nda 0 0) ∷ Done (Page kind.Reg 1 0) ∷ []
+  pub moved_pending : after_running (MemPageAug 1 4096 9 ∷ MemRangeBlock 1 4096 0 ∷ MemTrack 1 ∷ MemPageRelocate 1 4096 10 ∷ MemSeptRd 1 4096 0 ∷ PhymemPageRdmd 9 ∷ [])
+      ≡ success ∷ success ∷ success ∷ success ∷ Done (Entry entry.Pending (Some 10)) ∷ Done (Page kind.Nda 0 0) ∷ []
+  pub not_moved : after_running (MemPageRelocate 1 1 1 ∷ MemPageRelocate 1 1 9 ∷ MemPageRelocate 1 0 32 ∷ MemPageRelocate 1 4096 9 ∷ MemPageRelocate 1 0x200000 9 ∷ [])
+      ≡ Refused (OperandInvalid 3) ∷ Refused (OperandInvalid 2) ∷ Refused (OperandInvalid 3) ∷ Refused (EptEntryStateIncorrect entry.Free) ∷ Refused (EptWalkFailed 1) ∷ []
   -- a secure EPT page is removed once each of its entries is FREE; else the first that isn't is told
   pub not_empty : after_running (MemPageAug 1 0x1000 9 ∷ MemRangeBlock 1 0 0 ∷ MemTrack 1 ∷ MemPageRemove 1 0 ∷ MemSeptRemove 1 0 1 ∷ MemRangeBlock 1 0 1 ∷ MemSeptRemove 1 0 1 ∷ MemRangeUnblock 1 0 1 ∷ MemTrack 1 ∷ MemRangeUnblock 1 0 1 ∷ MemRangeBlock 1 0x1000 0
       ∷ MemTrack 1 ∷ MemPageRemove 1 0x1000 ∷ MemRangeBlock 1 0 1 ∷ MemSeptRemove 1 0 1 ∷ MemTrack 1 ∷ MemSeptRemove 1 0 1 ∷ PhymemPageRdmd 7 ∷ HostRead 7 0 ∷ MemSeptRd 1 0 1 ∷ MemSeptRemove 1 0 1 ∷ [])

@@ -94,6 +94,7 @@ module _ (o : Opening) (w : World) (t n : ℕ) where
     operation_remembers (op.Store r gpa) = either (op.Store r gpa) (is_private gpa) _ _ (λ row e. cc) (by_row (op.Store r gpa) (shared_store o.machine g.vp r gpa) refl)
     operation_remembers (op.Accept gpa) = by_row (op.Accept gpa) _ (accepts gpa (is_pending_at w g.tdr gpa))
     operation_remembers (op.Rtmr i) = by_row (op.Rtmr i) _ refl
+    operation_remembers op.Report = by_row op.Report _ refl
     operation_remembers (op.Vmcall r) = by_row (op.Vmcall r) _ refl
 
     -- an access to a word of a private page
@@ -124,6 +125,7 @@ module _ (o : Opening) (w : World) (t n : ℕ) where
     access_remembers (op.Store r gpa) = either_access (op.Store r gpa) (is_private gpa) _ _ (by_access (op.Store r gpa) Write r gpa (store_puts r gpa)) (λ access r gpa page e. cc)
     access_remembers (op.Accept gpa) = λ access r gpa page e. cc
     access_remembers (op.Rtmr i) = λ access r gpa page e. cc
+    access_remembers op.Report = λ access r gpa page e. cc
     access_remembers (op.Vmcall r) = λ access r gpa page e. cc
 
 module _ (o : Opening) (w : World) (p : ℕ) (lp : Lp) (t n : ℕ) where

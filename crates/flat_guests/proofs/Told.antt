@@ -41,6 +41,7 @@ module _ (o : Opening) (w : World) (g : Guest) (line : ℕ) where
   operation_says (op.Store r gpa) = store_tells r gpa (is_private gpa)
   operation_says (op.Accept gpa) = by_row [] _ refl
   operation_says (op.Rtmr i) = by_row [] _ refl
+  operation_says op.Report = by_row [] _ refl
   operation_says (op.Vmcall r) = by_row (register_told w g.vp r ∷ []) _ refl
 
 module _ (o : Opening) (w : World) (p : ℕ) (lp : Lp) where

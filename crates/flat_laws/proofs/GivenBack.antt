@@ -1,5 +1,6 @@
 -- The act of a call; and that what it gives back is emptied.
-use Rattle.std.proofs.Common.{◌≡◌, refl, sym, ◌∙◌, ap, subst, ℕ, Option, Some, None, true, false}
+use Rattle.std.proofs.Common.{◌≡◌, refl, sym, ◌∙◌, ap, subst, ℕ, Option, Some, None, true, false, not, ◌==◌}
+use Rattle.std.proofs.lemmas.Bool.{eqb-true}
 use Rattle.td_words.specs.declared.calls.Call.{Call}
 use Rattle.td_words.specs.declared.calls.Call.TheVariants as call
 use Rattle.td_words.specs.declared.names.PageKind.{PageKind}
@@ -10,11 +11,13 @@ use Rattle.flat_core.specs.Opening.{Opening}
 use Rattle.flat_core.specs.Conditions.{is_host_in, same_kind}
 use Rattle.flat_core.specs.Row.{Move, Attempts, Undoes, Refuses, Succeeds, Releases, Rests, Passes, next_in}
 use Rattle.flat_core.specs.Table.{row_of}
+use Rattle.flat_core.specs.Tree.{entry_at}
 use Rattle.flat_core.specs.Event.{State, Event, OfCall, next_event, after_event, event}
 use Rattle.flat_core.specs.Laws.{IsUsedAsBefore, gives_back}
 use Rattle.flat_core.specs.PageUses.{is_act}
 use Rattle.flat_core.proofs.Tests.{by_test}
 use Rattle.flat_core.proofs.Enter.{passed}
+use Rattle.flat_core.proofs.Passed.{relocate_passed}
 use Rattle.flat_core.proofs.Due.{Due, calls, frees, leaves, stops, fills, operates, walks, reaches, undoes, gives_back as returns, due_event_is}
 use Rattle.flat_core.proofs.OneUse.{one_use, events_keep_uses}
 use Rattle.flat_laws.specs.Usable.{IsEmptied, GivenBackAreEmptied}
@@ -56,11 +59,15 @@ module _ (o : Opening) (s : State) (me : ℕ) where
   act-of (Some e) is a = by_due e is (due_event_is o s me e is) a
 
 -- what an act gives back
-pub emptied : (o : Opening) (me q : ℕ) (w : World) (c : Call) → gives_back c w q ≡ true → IsEmptied ((row_of o me c).act w) q
-emptied o me q w (call.PhymemPageReclaim t page) h = record { kind = rw h refl; owner = rw h refl; blocked = rw h refl; words = λ i. rw h refl }
-emptied o me q w (call.MemPageRemove t gpa) h = record { kind = rw h refl; owner = rw h refl; blocked = rw h refl; words = λ i. rw h refl }
-emptied o me q w (call.MemSeptRemove t gpa level) h = record { kind = rw h refl; owner = rw h refl; blocked = rw h refl; words = λ i. rw h refl }
-emptied o me q w _ h = cc
+pub emptied : (o : Opening) (me q : ℕ) (w : World) (c : Call) → Passes ((row_of o me c).items w) → gives_back c w q ≡ true → IsEmptied ((row_of o me c).act w) q
+emptied o me q w (call.PhymemPageReclaim t page) ps h = record { kind = rw h refl; owner = rw h refl; blocked = rw h refl; words = λ i. rw h refl }
+emptied o me q w (call.MemPageRemove t gpa) ps h = record { kind = rw h refl; owner = rw h refl; blocked = rw h refl; words = λ i. rw h refl }
+emptied o me q w (call.MemSeptRemove t gpa level) ps h = record { kind = rw h refl; owner = rw h refl; blocked = rw h refl; words = λ i. rw h refl }
+emptied o me q w (call.MemPageRelocate t gpa page) ps h =
+    let apart = (relocate_passed o.machine w t gpa page ps).other in
+    let n : (q == page) ≡ false = by_test (q == page) (λ y. absurd (let no : false ≡ true = ap not (sym (ap (λ (x : ℕ). x == (entry_at w t 0 gpa).page) (sym (eqb-true q page y)) ∙ h)) ∙ apart in cc)) (λ y. y) in
+    record { kind = rw (n, h) refl; owner = rw (n, h) refl; blocked = rw (n, h) refl; words = λ i. rw (n, h) refl }
+emptied o me q w _ ps h = cc
 
 -- a page that is used as before is whose it was
 still-owned : (old new : Pages) (q : ℕ) → is_host_in old q ≡ false → is_host_in new q ≡ true → IsUsedAsBefore old new q → ⊥
@@ -73,6 +80,6 @@ given-back-are-emptied o s me q owned host = by_test (is_act (next_event o s me)
   where
     by_act : (c : Call) → IsActOf o s me c → IsEmptied (event o s me).world q
     by_act c act = by_test (gives_back c s.world q)
-        (λ y. subst (λ (z : World). IsEmptied z q) (sym (act-world o s me c act)) (emptied o me q s.world c y))
+        (λ y. subst (λ (z : World). IsEmptied z q) (sym (act-world o s me c act)) (emptied o me q s.world c act.passes y))
         (λ n. absurd (still-owned s.world.pages (event o s me).world.pages q owned host
         (subst (λ (z : World). IsUsedAsBefore s.world.pages z.pages q) (sym (act-world o s me c act)) (one_use o me c s.world q act.passes owned n))))

@@ -6,4 +6,5 @@ pub mod GivenBack
 pub mod Waits
 pub mod ImportWaits
 pub mod Moves
+pub mod Relocated
 pub mod Worked

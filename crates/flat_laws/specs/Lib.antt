@@ -2,4 +2,5 @@ pub mod Owners
 pub mod Usable
 pub mod Accesses
 pub mod Unreached
+pub mod Relocated
 pub mod Worked

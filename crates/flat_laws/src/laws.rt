@@ -4,6 +4,7 @@ ghost use Rattle.flat_laws.specs.Owners.{EveryPageHasItsOwner};
 ghost use Rattle.flat_laws.specs.Usable.{UsableNameTheirOwn, HostPagesAreUnnamed, OwnersAloneUse, PagesMoveUnnamed, GivenBackAreEmptied};
 ghost use Rattle.flat_laws.specs.Accesses.{AccessesAreOwn, AccessesKeepOthers, OthersAreNotReached};
 ghost use Rattle.flat_laws.specs.Unreached.{ClosedIsUnreached, ClosedIsUnchanged, UnreachedIsUnchanged, ClosedInGuarded, ClosedInRuns, ClosedIsNotAccessed};
+ghost use Rattle.flat_laws.specs.Relocated.{RelocationsMovePages};
 ghost use Rattle.flat_laws.specs.Worked.{RemovalExample};
 
 /// In every state of every run, the map of a living TD names each of its secure EPT and private
@@ -14,8 +15,8 @@ pub fn ownership_law()
 {}
 
 /// In every run each private access of a guest reaches a private page that its own TD owns, and that
-/// the TD's map names at that GPA page; a load gives the word that the guest knows from its own
-/// events, and changes no word of memory; a store puts the register's word into that page, and
+/// the TD's map names at that GPA page; a load gives the word that the guest knows from events of
+/// its TD, and changes no word of memory; a store puts the register's word into that page, and
 /// changes no other word. So no private access reaches a page while another TD owns it, or the host has
 /// it. (Shared accesses are to pages of the host's alone.)
 pub fn access_law()
@@ -37,6 +38,13 @@ pub fn move_law()
     ensures owners { OwnersAloneUse }
     ensures moves { PagesMoveUnnamed }
     ensures emptied { GivenBackAreEmptied }
+{}
+
+/// MEM.PAGE.RELOCATE moves a private page, in every run: guests know the same of their memory before
+/// and after it, and find it; the entry names the other page, which has the words; and the old page
+/// is the host's with zeros, named by no map of a living TD and by no translation that may be used.
+pub fn relocation_law()
+    ensures { RelocationsMovePages }
 {}
 
 /// No reach and no change, told from the world alone, of a TD that isn't in TD_TEARDOWN. Where the

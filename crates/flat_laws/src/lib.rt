@@ -8,4 +8,4 @@
 
 mod laws;
 
-pub use laws::{access_law, move_law, ownership_law, reach_law, worked_removal};
+pub use laws::{access_law, move_law, ownership_law, reach_law, relocation_law, worked_removal};

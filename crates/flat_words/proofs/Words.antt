@@ -178,6 +178,8 @@ module _ (w : World) (h : Held w) where
     call_keeps me (call.MemPageAdd tdr gpa page source) is =
         (page_words page (w.words source) (h.0 source), h.1, h.2, h.3, known_words tdr (page_of_gpa gpa) (Some (w.words source)) (h.0 source), h.5, h.6, h.7)
     call_keeps me (call.MemPageRemove tdr gpa) is = (cleared (entry_at w tdr 0 gpa).page, h.1, h.2, h.3, known_words tdr (page_of_gpa gpa) None tt, h.5, h.6, h.7)
+    call_keeps me (call.MemPageRelocate tdr gpa page) is =
+        let left = (entry_at w tdr 0 gpa).page in (put_holds AreWords (put w.words left (λ i. 0)) page (w.words left) (cleared left) (h.0 left), h.1, h.2, h.3, h.4, h.5, h.6, h.7)
     call_keeps me (call.MigStreamCreate tdr page) is = (cleared page, h.1, h.2, h.3, h.4, h.5, h.6, h.7)
     call_keeps me (call.ExportStateImmutable tdr slot) is = makes _ (words_of (w.tds.mrtds tdr) (0 ∷ 1 ∷ 2 ∷ 3 ∷ 4 ∷ 5 ∷ []) (h.3 tdr))
     call_keeps me (call.ExportMem tdr gpa stream slot) is = makes _ (words_of (w.words (entry_at w tdr 0 gpa).page) (range_with_len 0 512) (h.0 (entry_at w tdr 0 gpa).page))
@@ -262,6 +264,7 @@ module _ (w : World) (h : Held w) (v : ℕ) where
         (by_row (shared_store o.machine v r gpa) (one_told r) (word_stored (shared_page gpa) (word_of_gpa gpa) _ (told_fits r)))
     operation_keeps (op.Accept gpa) is = by_row _ (All-nil IsWord) (accepts (is_pending_at w t gpa) t gpa)
     operation_keeps (op.Rtmr i) is = by_row _ (All-nil IsWord) (extends t i)
+    operation_keeps op.Report is = by_row _ (All-nil IsWord) h
     operation_keeps (op.Vmcall r) is = by_row _ (one_told r) h
 
 -- Events: the call is one of the processor's lines, and the operation one of its guest's list

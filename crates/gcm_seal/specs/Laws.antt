@@ -7,7 +7,7 @@ abbrev pub sealed_14 : List ℕ
 sealed_14 = 0xce ∷ 0xa7 ∷ 0x40 ∷ 0x3d ∷ 0x4d ∷ 0x60 ∷ 0x6b ∷ 0x6e ∷ 0x07 ∷ 0x4e ∷ 0xc5 ∷ 0xd3 ∷ 0xba ∷ 0xf3 ∷ 0x9d ∷ 0x18 ∷ []
 
 -- opening undoes sealing, and the texts and tags of test cases 13 and 14 are those of the definition
-pub record StandardMet : Type 0 where
+pub record GcmStandardMet : Type 0 where
   pub sealing_undone : (key iv text : List ℕ) → mixed key iv (mixed key iv text) ≡ text
   pub empty_tag : tag_bytes (replicate 32 0) (replicate 12 0) [] []
       ≡ 0x53 ∷ 0x0f ∷ 0x8a ∷ 0xfb ∷ 0xc7 ∷ 0x45 ∷ 0x36 ∷ 0xb9 ∷ 0xa9 ∷ 0x63 ∷ 0xb4 ∷ 0xf1 ∷ 0xc4 ∷ 0xcb ∷ 0x73 ∷ 0x8b ∷ []

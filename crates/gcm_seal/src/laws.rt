@@ -1,9 +1,9 @@
 //! That the definition is the standard's, as the contract of a function that does nothing.
 
-ghost use Rattle.gcm_seal.specs.Laws.{StandardMet};
+ghost use Rattle.gcm_seal.specs.Laws.{GcmStandardMet};
 
 /// A text that was sealed is opened to what it was, and the definition meets examples of the mode's
 /// specification.
-pub fn standard_met()
-    ensures { StandardMet }
+pub fn gcm_standard_met()
+    ensures { GcmStandardMet }
 {}

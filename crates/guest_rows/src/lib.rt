@@ -17,6 +17,10 @@ mod private_words;
 #[cfg(test)]
 mod processors;
 #[cfg(test)]
+mod relocations;
+#[cfg(test)]
+mod reports;
+#[cfg(test)]
 mod rtmrs;
 #[cfg(test)]
 mod secrets;

@@ -46,7 +46,8 @@ use Rattle.act_rules.proofs.Respected.{leaves, all-same, effects-respect}
 use Rattle.leaf_engine.specs.declared.needs.Place.{Place}
 use Rattle.leaf_engine.specs.Changes.{Memory, Change, Put, changed, changed_all}
 use Rattle.leaf_engine.specs.Trees.{Tree, Load, needs, done}
-use Rattle.leaf_engine.specs.Means.{Instant, Means, MeansRow, MayFillAll, MayOweAll, MayChange, LocksStay, Work, work_of, OfCall, hold}
+use Rattle.leaf_engine.specs.Means.{Instant, Means, MeansRow, MayFillAll, MayTakeAll, MayOweAll, MayChange, LocksStay, Work, work_of, OfCall, hold, grasp_of}
+use Rattle.leaf_engine.proofs.Showing.{both-allowed}
 use Rattle.leaf_parts.proofs.Aside.{apart, turned}
 use Rattle.leaf_parts.proofs.Begun.{IsTd, op_lock, page_lock, page-in, locks-kept}
 use Rattle.leaf_parts.specs.Arguments.{AllHold}
@@ -88,6 +89,11 @@ module _ (m : Machine) (g : Grip) (w w' : World) (p : ℕ) (ws : ℕ → ℕ) (i
   unfolding word_puts
   puts-fill each from zero b = tt
   puts-fill each from (suc left) b = (((in_page, omega (arith, b)), each from), puts-fill each (suc from) left (omega (arith, b)))
+
+  pub puts-take : (h : Grip) (from left : ℕ) → MayTakeAll h w (word_puts p ws from left)
+  unfolding word_puts
+  puts-take h from zero = tt
+  puts-take h from (suc left) = (tt, puts-take h (suc from) left)
 
   module _ (each : (i : ℕ) → Owes g w' (place.Word p i) KeepsNothing) (rest : List Change) (more : (mem : Memory) → MayOweAll m g w' mem rest) where
     puts-owe : (from left : ℕ) → from + left ≤ 512 → (mem : Memory) → MayOweAll m g w' mem (word_puts p ws from left ++ rest)
@@ -297,7 +303,9 @@ module _ (m : Machine) (c : Instant) (b : Option Incoming) (t slot page : ℕ) (
             map-end m c taken_locks mapping at may (put w.words page ws) (word_puts page ws 0 512) filled (import_page m b t slot page) (counter_changes room)
             (ap (λ (v : World). v.pages) acts-free) (ap (λ (v : World). v.tds.lives) acts-free) (ap (λ (v : World). v.tds.controls) acts-free)
             (record { reply_is = refl; cached_is = refl; enters_is = refl; notes_are = refl; tells_are = refl; bundles_are = ap (λ (v : World). v.outgoing.bundles) acts-free })
+            (both-allowed m free_grip (grasp_of c taken_locks) w (word_puts page ws 0 512)
             (puts-fill m free_grip w (act_by entry.Free) page ws in_page (λ i. host-fills free_grip w page i host free-own) 0 512 (omega arith))
+            (puts-take m free_grip w (act_by entry.Free) page ws in_page (grasp_of c taken_locks) 0 512))
             (subst (λ (v : World). Respects free_grip w v) (sym acts-free) respects)
             (subst (λ (v : World). (let mem = changed_all (counter_changes room) after in Shows m mem.words mem.slots (record (c.state) { world = v }))) (sym acts-free)
             (counted-shown m (record (c.state) { world = mapped mapping (put w.words page ws) w }) after t (page_of_gpa gpa) k ws

@@ -5,24 +5,55 @@ use row_replay::{ArrivalRow, Asked, FILLED, GUEST, OPENED, STARTED, WAITS, repla
 use std::test::Fail;
 
 // The whole destination: its guest goes on where the source's has stopped.
-const WORKED: &[Asked<'static>] = &[(
-    "replay s --keys k --bundles c --guest-out g ; run s --keys k --bundles c --guest-out g",
-    "1 32 1",
+const WORKED: &[Asked<'static>] = &[
     (
-        "",
-        &[GUEST],
-        &[&[
-            WAITS,
-            OPENED,
-            FILLED,
-            STARTED,
-            "SUCCESS | IMPORT.COMMIT 1",
-            "EXIT VMCALL 33 | VP.ENTER 1 4 10",
-            "SUCCESS | IMPORT.END 1",
-        ]],
-        "0.21 load 0x0 44 | 0.21 load 0x1000 22 | 0.21 load 0x2000 33",
+        "replay s --keys k --bundles c --guest-out g ; run s --keys k --bundles c --guest-out g",
+        "1 32 1",
+        (
+            "",
+            &[GUEST],
+            &[&[
+                WAITS,
+                OPENED,
+                FILLED,
+                STARTED,
+                "SUCCESS | IMPORT.COMMIT 1",
+                "EXIT VMCALL 33 | VP.ENTER 1 4 10",
+                "SUCCESS | IMPORT.END 1",
+            ]],
+            "0.21 load 0x0 44 | 0.21 load 0x1000 22 | 0.21 load 0x2000 33",
+        ),
     ),
-)];
+    // A report at the destination: MRTD and RTMRs came over, and registers.
+    (
+        "replay s --keys k --bundles c --guest-out g --report-key r ; run s --keys k --bundles c --guest-out g --report-key r",
+        "1 32 1",
+        (
+            "",
+            &[
+                "1 0 | set 1 44 | store 1 0 | load 2 0 | load 2 4096 | load 2 8192 | report | vmcall 2",
+            ],
+            &[&[
+                WAITS,
+                OPENED,
+                FILLED,
+                STARTED,
+                "SUCCESS | IMPORT.COMMIT 1",
+                "EXIT VMCALL 33 | VP.ENTER 1 4 10",
+                "SUCCESS | IMPORT.END 1",
+            ]],
+            "0.21 load 0x0 44 | 0.21 load 0x1000 22 | 0.21 load 0x2000 33 | 0.21 report 54445852455030312\
+                b7edb784e77a7d6c4406aebf9118fa24b80b26d7f18fe893b7282758fb65f69c018d14a8d8c221f057b588f6f8c8\
+                1a200000000000000000000000000000000000000000000000000000000000000000000000000000000000000000\
+                00000000000000000000000000000000000000000000000000000000000000000000000000000000000000000000\
+                00000000000000000000000000000000000000000000000000000000000000000000000000000000000000000000\
+                00000000000000000000000000000000000000000000000000000000000000000000000000000000000000000000\
+                000000000000000000000000000000000002c0000000000000021000000000000000000000000000000000000000\
+                0000000000000000000000000000000000000000000000000000000a1ed673524711225869ed55f306b6756f8897\
+                52367ead48bdc7c65f67e4565236389849525490a95a1bf37186dcdbee9",
+        ),
+    ),
+];
 
 const ROWS: &[ArrivalRow<'static>] = &[
     // What the TD has then: MRTD, its epoch, the pages that each entry names; and a page that is

@@ -25,6 +25,7 @@ use Rattle.leaf_dispatch.specs.ShortRuns.{seen_by, IsOneOf}
 use Rattle.leaf_dispatch.specs.declared.call_runs.CallRun.{CallRun}
 use Rattle.leaf_dispatch.specs.declared.running.Running.{Running}
 use Rattle.leaf_dispatch.specs.declared.guests.GuestAt.{GuestAt}
+use Rattle.leaf_table.proofs.NoBundles.{calls-quiet}
 use Rattle.leaf_dispatch.proofs.ShortRuns.{Begins, begins, nothing-kept, short-begins, short-alone}
 
 call-begins : (given : Given) (p : Place) (c : Call) → Begins (call_ends p.machine c) (running (task_of given p c) None)
@@ -34,11 +35,11 @@ call-begins given p c = begins (call_ends p.machine c) (task_of given p c).tree 
 pub host-begins : {B : Type 0} (did : List Taken → B → Type 0) (given : Given) (p : Place) (m : Machine) (c d : Call) (access : HostAccess) (page i : ℕ) (bench : B) (before kept : Option HostRun) (other : Option Running) (result : LeafTurn)
     → p.machine ≡ m → c ≡ d → call_makes d ≡ None → (task_of given p d).tree ≡ access_tree p.machine access page i → before ≡ None → other ≡ None
     → HostTurned did m (standing (settle (access_tree m access page i)) Trying [] None) bench kept result
-    → LeafTurned did p.machine (call_ends p.machine c) (running (task_of given p c) (seen_by standing_of before other)) bench (seen_by standing_of kept other) (IsOneOf standing_of IsIn p.machine (call_ends p.machine c) kept other) result []
+    → LeafTurned did p.machine (call_ends p.machine c) (running (task_of given p c) (seen_by standing_of before other)) bench (seen_by standing_of kept other) (IsOneOf standing_of IsIn p.machine (call_ends p.machine c) kept other) result [] None
 host-begins did given p m c d access page i bench before kept other result at same none tree no_host no_other turned =
-    subst (λ (run : Option Standing). LeafTurned did p.machine (call_ends p.machine c) (running (task_of given p c) run) bench (seen_by standing_of kept other) (IsOneOf standing_of IsIn p.machine (call_ends p.machine c) kept other) result []) (sym (nothing-kept standing_of IsIn before other no_host no_other))
-    (subst (λ (z : Call). LeafTurned did p.machine (call_ends p.machine z) (running (task_of given p z) None) bench (seen_by standing_of kept other) (IsOneOf standing_of IsIn p.machine (call_ends p.machine z) kept other) result []) (sym same)
-    (short-begins standing_of IsIn did p.machine m (call_ends p.machine d) (task_of given p d).tree (λ (k : Machine). access_tree k access page i) bench kept other result at (call-begins given p d) none tree no_other turned))
+    subst (λ (run : Option Standing). LeafTurned did p.machine (call_ends p.machine c) (running (task_of given p c) run) bench (seen_by standing_of kept other) (IsOneOf standing_of IsIn p.machine (call_ends p.machine c) kept other) result [] None) (sym (nothing-kept standing_of IsIn before other no_host no_other))
+    (subst (λ (z : Call). LeafTurned did p.machine (call_ends p.machine z) (running (task_of given p z) None) bench (seen_by standing_of kept other) (IsOneOf standing_of IsIn p.machine (call_ends p.machine z) kept other) result [] None) (sym same)
+    (short-begins standing_of IsIn did p.machine m (call_ends p.machine d) (task_of given p d).tree (λ (k : Machine). access_tree k access page i) bench kept other result at (call-begins given p d) none (calls-quiet p d) tree no_other turned))
 
 -- it makes no bundle
 pub adds-none : (b : Stored) → HasAdded b [] b

@@ -67,10 +67,10 @@ exit-made did m t v out bench parity h =
 
 pub exit-counted : {B : Type 0} (did : List Taken → B → Type 0) (given : Given) (p : Place) (t v n : ℕ) (step : Step) (out : Outcome) (bench : B) (kept : StepRun) (result : LeafTurn) (parity : ℕ)
     → step ≡ Leaves out → HasLeft did p.machine t v bench parity → (kept.shared ≡ None) × (kept.other ≡ None) → result ≡ record { event = event.Act; act = Some (Exited out); reply = Some (Exited out) }
-    → StepCounted did p.machine (step_ends t n step) (running (step_task given p t v n step) None) bench kept result step parity
+    → StepCounted did p.machine (step_ends t n step) (running (step_task given p t v n step) None) bench kept result step parity None
 exit-counted did given p t v n step out bench kept result parity same left none is =
     let made = exit-made did p.machine t v out bench parity left in
-    step-with did given p t v n step (Leaves out) bench (Exited out) kept result (λ (z : Step). IsCounted z parity) same made.0 none is made.1
+    step-with did given p t v n step (Leaves out) bench (Exited out) kept result (λ (z : Step). IsCounted z parity) same refl made.0 none is made.1
 
 -- a step that keeps a run is none by which a guest is left
 pub uncounted : (step : Step) (kept : StepRun) (xs : List Taken) → (step_tries step ≡ 0 → is_none (step_run_seen kept) ≡ true) → (is_none (step_run_seen kept) ≡ true → ⊥) → IsCounted step 0 xs

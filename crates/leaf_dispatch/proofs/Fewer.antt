@@ -58,6 +58,7 @@ module _ (codes : ℕ → ℕ → List GuestOp) (ts : List Translation) (g : Wor
   by-operation (op.Add r s) = refl
   by-operation (op.Accept n) = refl
   by-operation (op.Rtmr i) = refl
+  by-operation op.Report = refl
   by-operation (op.Vmcall r) = refl
 
   by-count : (o : GuestOp) (b : Bool) → (if b then Leaves Max else operation_step ts h o) ≡ (if b then Leaves Max else operation_step ts g o)

@@ -26,7 +26,7 @@ use Rattle.leaf_table.specs.Table.{code_in, place_table, leaf_table}
 use Rattle.leaf_dispatch.specs.Shown.{event_as, epoch_loaded, TurnsAs}
 use Rattle.leaf_dispatch.specs.States.{seen_of, Moves}
 use Rattle.leaf_table.specs.Laws.{CallsHaveLeaves}
-use Rattle.leaf_dispatch.specs.Follows.{IsProcessor, LpStands, IsNext, ProcessorsFollow}
+use Rattle.leaf_dispatch.specs.Follows.{IsProcessor, LpStands, IsNext, LpStatesFollow}
 use Rattle.leaf_dispatch.specs.declared.states.LpState.{LpState}
 use Rattle.leaf_dispatch.proofs.Epochs.{shown-as, exit-epoch}
 
@@ -78,8 +78,8 @@ module _ (law : engine.ProcessorsFollow) (tells : TurnsAreTold) (leaves : CallsH
 starts : engine.ProcessorsFollow → (o : Opening) (p : ℕ) (l : LpState) → seen_of l ≡ first_lp (calls_of o.calls p) → LpStands o (start o None) no_table p l
 starts law o p l first = subst (λ (z : WordLp). StandsOn o (place_table l.place (given_in l.given) (code_in l.codes.now)) p (start o None) no_table z) (sym first) (law.starts o (place_table l.place (given_in l.given) (code_in l.codes.now)) p)
 
-pub processors-follow : engine.ProcessorsFollow → TurnsAreTold → CallsHaveLeaves → ProcessorsFollow
-processors-follow law tells leaves = record {
+pub lp-states-follow : engine.ProcessorsFollow → TurnsAreTold → CallsHaveLeaves → LpStatesFollow
+lp-states-follow law tells leaves = record {
   starts = starts law;
   follow = λ o s p l l' t u r machine codes runs is stands t' h. next law tells leaves o s p machine codes runs l l' t u r is stands t' h;
   runs = λ o schedule p l l' t u r machine few codes is stands t' h. next law tells leaves o (reached o None schedule) p machine codes (law.runs o schedule few) l l' t u r is stands t' h;

@@ -1,7 +1,8 @@
 -- An event of a guest's step is an event of its processor.
-use Rattle.std.proofs.Common.{◌≡◌, ◌∙◌, ℕ, zero, suc, ◌+◌, ◌-◌, ◌%◌, ◌<◌, ◌≤◌, Bool, true, false, ◌==◌, ◌&&◌, if◌then◌else◌, List, [], ◌∷◌, length, Option, Some, None, option_map, is_none, is_some, IfSome, refl, ap, sym, subst, arith}
+use Rattle.std.proofs.Common.{◌≡◌, ◌∙◌, ℕ, zero, suc, ◌+◌, ◌-◌, ◌%◌, ◌<◌, ◌≤◌, Bool, true, false, ◌==◌, ◌&&◌, if◌then◌else◌, drop, List, [], ◌∷◌, length, Option, Some, None, option_map, is_none, is_some, IfSome, refl, ap, sym, subst, arith}
 use Rattle.std.specs.Prelude.{nat_lt}
 use Rattle.std.proofs.lemmas.Bool.{ltb-false, ltb-true}
+use Rattle.report_core.specs.declared.facts.Facts.{Facts}
 use Rattle.td_words.specs.Seen.{CodeSeen}
 use Rattle.td_words.specs.declared.calls.Call.{Call}
 use Rattle.td_words.specs.declared.calls.GuestOp.{GuestOp}
@@ -17,20 +18,21 @@ use Rattle.step_core.specs.declared.items.Taken.{Taken}
 use Rattle.leaf_engine.specs.declared.needs.Place.{Place}
 use Rattle.leaf_engine.specs.declared.events.Event.{Event}
 use Rattle.leaf_engine.specs.declared.events.Stage.TheVariants as stages
-use Rattle.leaf_engine.specs.Trees.{added}
+use Rattle.leaf_engine.specs.Trees.{Answer, added}
 use Rattle.leaf_engine.specs.Besides.{Beside}
-use Rattle.leaf_engine.specs.Guests.{WordGuest, Step, Operates, Accesses, Loads, Leaves, step_of, stepped, is_right, walked, loaded, operated, exited_with, gives_epoch_back}
+use Rattle.leaf_engine.specs.Guests.{WordGuest, Step, Operates, Accesses, Loads, Leaves, step_of, stepped, is_right, walked, loaded, passed_on, operated, exited_with, gives_epoch_back}
 use Rattle.leaf_engine.specs.Merges.{IsStepOf}
 use Rattle.leaf_engine.specs.Turns.{Standing}
 use Rattle.leaf_engine.specs.OwnLists.{TurnsInPieces, WordLp, running, after_step, line_after, EnteredTurn}
 use Rattle.trace_laws.specs.Told.{step_told, event_told}
-use Rattle.leaf_table.specs.Ends.{Ends, step_answer, step_ends, step_tries}
+use Rattle.leaf_table.specs.Ends.{Ends, with_report, step_answer, step_reports, step_ends, step_tries}
 use Rattle.guest_turns.specs.Turns.{kept_after}
-use Rattle.leaf_dispatch.specs.Answers.{beside_by, cached_by, notes_by, tells_by}
-use Rattle.leaf_dispatch.specs.Bounds.{run_used, stage_used, events_left}
-use Rattle.leaf_dispatch.specs.Guests.{guest_seen, unless, unless_left, next_in, IsLow, CanCount, IsReplyOf, IsNextGuest}
+use Rattle.leaf_dispatch.specs.Answers.{answer_with, beside_by, cached_by, notes_by, tells_by}
+use Rattle.leaf_dispatch.specs.Bounds.{unless_leaving, run_used, stage_used, events_left}
+use Rattle.leaf_dispatch.specs.BundleRooms.{count_of}
+use Rattle.leaf_dispatch.specs.Guests.{guest_seen, facts_in, unless, unless_left, next_in, IsLow, CanCount, is_outcome, IsReplyOf, IsNextGuest}
 use Rattle.leaf_dispatch.specs.Inside.{guest_in, unless_gives, acting, line_then, IsGuestKept, KeepsGuest}
-use Rattle.leaf_dispatch.specs.NoteRooms.{longest_in, stage_made, run_made, guest_room, room_left}
+use Rattle.leaf_dispatch.specs.NoteRooms.{longest_in, stage_room, run_room, stage_made, run_made, guest_room, room_left, reports_in, guest_reports, reports_left}
 use Rattle.leaf_dispatch.specs.Running.{standing_of, run_seen, IsAnswered}
 use Rattle.leaf_table.specs.Given.{Given}
 use Rattle.leaf_table.specs.Table.{code_in, step_task, place_table}
@@ -47,7 +49,10 @@ use Rattle.leaf_dispatch.proofs.Shown.{counted-as}
 use Rattle.leaf_dispatch.proofs.StepTurns.{step-is, guest-moves, cached-stays}
 use Rattle.leaf_dispatch.proofs.Fewer.{run-same, Counts, IsLowStep, step-fewer}
 use Rattle.leaf_dispatch.proofs.Replying.{reply-fits, first-trying}
+use Rattle.leaf_table.proofs.NoBundles.{step-answers}
 use Rattle.leaf_dispatch.proofs.Rooming.{room-is, operated-room, goes-room}
+use Rattle.leaf_dispatch.proofs.Making.{less-stage, room-before, facts-room}
+use Rattle.leaf_dispatch.proofs.FactRooms.{reports_at, reports-by-stage, reports-by-run, next-asks, no-room, uses-more}
 use Rattle.leaf_dispatch.proofs.LineEvents.{no-run}
 use Rattle.leaf_dispatch.proofs.ShortRuns.{none-is}
 
@@ -69,14 +74,22 @@ MakesNone (Loads access gpa level page) made = made ≡ 0
 MakesNone (Leaves out) made = made ≡ 0
 MakesNone _ made = Unit {0}
 
-pub notes-none : (t n : ℕ) (s : Step) (act : Option Reply) → MakesNone s (length (notes_by (step_answer t n s) act))
-notes-none t n (Loads access gpa level page) None = refl
-notes-none t n (Loads access gpa level page) (Some (Done (value.Number x))) = refl
-notes-none t n (Loads access gpa level page) (Some r) = refl
-notes-none t n (Leaves out) None = refl
-notes-none t n (Leaves out) (Some r) = refl
-notes-none t n (Operates o) act = tt
-notes-none t n (Accesses access r gpa page) act = tt
+unreported-is : (f : Option Facts) (a : Answer) → (with_report None f a).notes ≡ a.notes
+unreported-is None a = refl
+unreported-is (Some f) a = refl
+
+pub notes-none : (t n : ℕ) (s : Step) (f : Option Facts) (act : Option Reply) → MakesNone s (length (notes_by (answer_with (step_ends t n s) f) act))
+notes-none t n (Loads access gpa level page) f None = refl
+notes-none t n (Loads access gpa level page) f (Some (Done (value.Number x))) = ap length (unreported-is f (step_answer t n (Loads access gpa level page) (Done (value.Number x))))
+notes-none t n (Loads access gpa level page) f (Some r) = ap length (unreported-is f (step_answer t n (Loads access gpa level page) r)) ∙ loads r
+  where
+    loads : (r : Reply) → length (step_answer t n (Loads access gpa level page) r).notes ≡ 0
+    loads (Done (value.Number x)) = refl
+    loads r = refl
+notes-none t n (Leaves out) f None = refl
+notes-none t n (Leaves out) f (Some r) = ap length (unreported-is f (step_answer t n (Leaves out) r))
+notes-none t n (Operates o) f act = tt
+notes-none t n (Accesses access r gpa page) f act = tt
 
 pub tells-none : (t n : ℕ) (s : Step) (act : Option Reply) → MakesNone s (length (tells_by (step_answer t n s) act))
 tells-none t n (Loads access gpa level page) None = refl
@@ -87,8 +100,17 @@ tells-none t n (Leaves out) (Some r) = refl
 tells-none t n (Operates o) act = tt
 tells-none t n (Accesses access r gpa page) act = tt
 
-pub no-notes : (t n : ℕ) (s : Step) (act : Option Reply) → act ≡ None → length (notes_by (step_answer t n s) act) ≡ 0
-no-notes t n s act e = ap (λ (a : Option Reply). length (notes_by (step_answer t n s) a)) e
+pub no-notes : (t n : ℕ) (s : Step) (f : Option Facts) (act : Option Reply) → act ≡ None → length (notes_by (answer_with (step_ends t n s) f) act) ≡ 0
+no-notes t n s f act e = ap (λ (a : Option Reply). length (notes_by (answer_with (step_ends t n s) f) a)) e
+
+-- what a step makes of its processor, with the facts that it reports
+with-notes : (line : Option ℕ) (answer : Reply → Answer) (f : Option Facts) (act : Option Reply) (b : Beside)
+    → beside_by (λ (r : Reply). with_report line f (answer r)) [] act b
+    ≡ record { cached = cached_by answer act b.cached; notes = added b.notes (notes_by (λ (r : Reply). with_report line f (answer r)) act); told = added b.told (tells_by answer act); bundles = b.bundles }
+with-notes line answer f None b = refl
+with-notes line answer None (Some r) b = refl
+with-notes None answer (Some f) (Some r) b = refl
+with-notes (Some line) answer (Some f) (Some r) b = refl
 
 pub no-tells : (t n : ℕ) (s : Step) (act : Option Reply) → act ≡ None → length (tells_by (step_answer t n s) act) ≡ 0
 no-tells t n s act e = ap (λ (a : Option Reply). length (tells_by (step_answer t n s) a)) e
@@ -166,7 +188,7 @@ module _ (p : Place) (given : Given) (codes : List CodeSeen) (c : Call) (cs : Li
   abbrev pub before : WordLp
   before = record { lines = c ∷ cs; run = Some (standing_of r); guest = Some x; replies = rs; beside = besides }
 
-  module _ {B : Type 0} (did : List Taken → B → Type 0) (bench : B) (kept : StepRun) (result : LeafTurn) (s : Step) (h : Option GuestAt) where
+  module _ {B : Type 0} (did : List Taken → B → Type 0) (bench : B) (kept : StepRun) (result : LeafTurn) (s : Step) (h : Option GuestAt) (facts : Option Facts) where
     abbrev ends : Ends
     ends = step_ends g.tdr at_line s
 
@@ -179,10 +201,10 @@ module _ (p : Place) (given : Given) (codes : List CodeSeen) (c : Call) (cs : Li
       run = line_then s result.reply (Some (standing_of r));
       guest = guest_in h kept;
       replies = rs;
-      beside = record { cached = us; notes = added notes (notes_by ends.answer result.act); told = added told (tells_by ends.answer result.act); bundles = ms };
+      beside = record { cached = us; notes = added notes (notes_by (answer_with ends facts) result.act); told = added told (tells_by ends.answer result.act); bundles = ms };
     }
 
-    module _ (is : next_in ts g None ≡ s) (inside : IsGuestKept p.machine codes ts at_line g step) (counts : CanCount g s) (low : IsStepOf s) (t : StepTurned did p.machine ends was bench kept result)
+    module _ (is : next_in ts g None ≡ s) (inside : IsGuestKept p.machine codes ts at_line g step) (counts : CanCount g s) (low : IsStepOf s) (t : StepTurned did p.machine ends was bench kept result facts)
         (cached : us ≡ cached_by ends.answer result.act ts) (next : IsNextGuest g s result.reply h) where
       gives : Gives ends was t.stands result.event
       gives = line-gives did bench p.machine ends was result [] t
@@ -217,8 +239,10 @@ module _ (p : Place) (given : Given) (codes : List CodeSeen) (c : Call) (cs : Li
       at-once : step_tries s ≡ 0 → (z : Reply) × (result.reply ≡ Some z)
       at-once none = (let e = gives.once none (first none) in (e.0, t.turned.2.reply ∙ e.2))
 
-      besides-are : turned.beside ≡ beside_by ends.answer [] result.act besides
-      besides-are = ap (λ (ys : List Translation). record { cached = ys; notes = added notes (notes_by ends.answer result.act); told = added told (tells_by ends.answer result.act); bundles = ms }) cached
+      besides-are : turned.beside ≡ beside_by (answer_with ends facts) [] result.act besides
+      besides-are =
+          ap (λ (ys : List Translation). record { cached = ys; notes = added notes (notes_by (answer_with ends facts) result.act); told = added told (tells_by ends.answer result.act); bundles = ms }) cached
+          ∙ sym (with-notes ends.reports ends.answer facts result.act besides)
 
       after : turned ≡ after_step c cs (standing_of r) x rs turned.beside s t.stands result.reply
       after = by result.reply next t.seen
@@ -248,7 +272,7 @@ module _ (p : Place) (given : Given) (codes : List CodeSeen) (c : Call) (cs : Li
       pub guest-moved : TurnsInPieces → gives_epoch_back r.run.held.items ≡ false → (parity : ℕ) → IsCounted s parity t.turned.0 → Moved given (code_in codes) did bench p before turned result.event (event_as parity (event_told (step_told s) result.event))
       guest-moved law back parity counts =
           let moved =
-          guest-moves law did bench p given (code_in codes) c cs (standing_of r) x rs besides kept turned result (λ (xs : List Taken). tells parity ≡ event_as (epoch_loaded xs % 2) (event_told (step_told (step_of (code_in codes) ts x)) result.event)) s step-at t
+          guest-moves law did bench p given (code_in codes) c cs (standing_of r) x rs besides kept turned result facts (λ (xs : List Taken). tells parity ≡ event_as (epoch_loaded xs % 2) (event_told (step_told (step_of (code_in codes) ts x)) result.event)) s step-at t
           (tells-so parity counts)
           (after ∙ ap (λ (b : Beside). after_step c cs (standing_of r) x rs b s t.stands result.reply) besides-are) in
           record {
@@ -320,6 +344,105 @@ module _ (p : Place) (given : Given) (codes : List CodeSeen) (c : Call) (cs : Li
               loads fresh now nil (Some w) z e = rw (room-is longest x now.0, now.0) (omega (arith, fresh, nil))
           by (Leaves out) same now within nil None e = (let z = at-once (ap step_tries (sym same)) in let no : None ≡ Some z.0 = sym e ∙ z.1 in cc)
           by (Leaves out) same now within nil (Some z) e = omega (arith, nil)
+
+      -- the room of the facts that are reported
+
+      reported-few : length (facts_in facts) + stage_room (count_of (step_reports at_line s)) t.stands.stage ≤ stage_room (count_of (step_reports at_line s)) was.stage
+      reported-few =
+          subst (λ (f : Option Facts). length (facts_in f) + stage_room (count_of (step_reports at_line s)) t.stands.stage ≤ stage_room (count_of (step_reports at_line s)) was.stage) (sym t.facts_is)
+          (facts-room ends was t.stands result.event (step-answers g.tdr at_line s) gives)
+
+      none-reported : step_reports at_line s ≡ None → length (facts_in facts) ≡ 0
+      none-reported none =
+          let few = reported-few in
+          let before : stage_room (count_of (step_reports at_line s)) was.stage ≡ 0 = ap (λ (o : Option ℕ). stage_room (count_of o) was.stage) none ∙ no-room was.stage in
+          omega (arith, few, before)
+
+      abbrev ops : List GuestOp
+      ops = code_in codes g.tdr g.index
+
+      module _ (stays : x.leaving ≡ None) where
+        abbrev own : ℕ
+        own = reports_at ops g.position
+
+        abbrev behind : ℕ
+        behind = reports_in (drop (suc g.position) ops)
+
+        reported-room : length (facts_in facts) + stage_room own t.stands.stage ≤ stage_room own was.stage
+        reported-room =
+            let asked : count_of (step_reports at_line s) ≤ own = subst (λ (z : Step). count_of (step_reports at_line z) ≤ own) is (next-asks at_line ts g ops inside.list stays) in
+            uses-more (length (facts_in facts)) (count_of (step_reports at_line s)) own was.stage t.stands.stage asked (less-stage own was.stage t.stands.stage gives.stays_answered) reported-few
+
+        reports-before : guest_reports (code_in codes) x ≡ stage_room own was.stage + behind
+        reports-before =
+            let left = reports-by-run g.position ops x.run in
+            let run : stage_room own was.stage ≡ run_room own x.run = room-before own (step_task given p g.tdr g.vp at_line s) x.run in
+            let here : guest_reports (code_in codes) x ≡ reports_in (drop (g.position + run_made x.run) ops) = ap (λ (l : Option Outcome). unless_leaving l (reports_in (drop (g.position + run_made x.run) ops))) stays in
+            omega (arith, left, run, here)
+
+        reports-on : guest_reports (code_in codes) (record x { run = Some t.stands }) ≡ stage_room own t.stands.stage + behind
+        reports-on = ap (λ (l : Option Outcome). unless_leaving l (reports_in (drop (g.position + stage_made t.stands.stage) ops))) stays ∙ reports-by-stage g.position ops t.stands.stage
+
+        reports-passed : guest_reports (code_in codes) (passed_on x) ≡ behind
+        reports-passed =
+            let next : g.position + 1 + 0 ≡ suc g.position = omega arith in
+            ap (λ (l : Option Outcome). unless_leaving l (reports_in (drop (g.position + 1 + 0) ops))) stays ∙ ap (λ (k : ℕ). reports_in (drop k ops)) next
+
+        reports-same : run_made x.run ≡ 0 → unless_leaving x.leaving (reports_in (drop (g.position + 0) ops)) ≤ guest_reports (code_in codes) x
+        reports-same fresh = subst (λ (k : ℕ). unless_leaving x.leaving (reports_in (drop (g.position + 0) ops)) ≤ unless_leaving x.leaving (reports_in (drop (g.position + k) ops))) (sym fresh) (omega arith)
+
+        operated-reports : (z : Reply) → is_outcome z ≡ true → length (facts_in facts) + guest_reports (code_in codes) (operated z x) ≤ guest_reports (code_in codes) x
+        operated-reports z fits = by z fits
+          where
+            exits : (o : Outcome) → length (facts_in facts) + guest_reports (code_in codes) (exited_with o x) ≤ guest_reports (code_in codes) x
+            exits (Vmcall w) = (let used = reported-room in let had = reports-before in omega (arith, used, had))
+            exits o = (let used = reported-room in let had = reports-before in omega (arith, used, had))
+
+            by : (z : Reply) → is_outcome z ≡ true → length (facts_in facts) + guest_reports (code_in codes) (operated z x) ≤ guest_reports (code_in codes) x
+            by (Done v) fits = (let used = reported-room in let had = reports-before in let on = reports-passed in omega (arith, used, had, on))
+            by (Exited o) fits = exits o
+            by (Refused (OperandBusy n)) fits = (let used = reported-room in let had = reports-before in omega (arith, used, had))
+            by (Refused s) fits = cc
+
+      pub guest-reports : (most : ℕ) → length (facts_in facts) + reports_left most (code_in codes) turned ≤ reports_left most (code_in codes) before
+      guest-reports most =
+          subst (λ (q : WordLp). length (facts_in facts) + reports_left most (code_in codes) q ≤ reports_left most (code_in codes) before) (sym after)
+          (by s refl counted result.reply refl)
+        where
+          by : (s' : Step) → s' ≡ s → Counts x s' → (reply : Option Reply) → result.reply ≡ reply
+              → length (facts_in facts) + reports_left most (code_in codes) (after_step c cs (standing_of r) x rs turned.beside s' t.stands reply) ≤ reports_left most (code_in codes) before
+          by (Operates o) same now None e =
+              let used = reported-room now.0 in
+              let had = reports-before now.0 in
+              let left = reports-on now.0 in
+              omega (arith, used, had, left)
+          by (Operates o) same now (Some z) e =
+              let fits : IfSome result.reply (λ w. IsReplyOf s w) = reply-fits did bench p.machine result [] g.tdr at_line s was t first result.reply refl in
+              let fit : IsReplyOf (Operates o) z = subst (λ (y : Step). IsReplyOf y z) (sym same) (subst (λ (w : Option Reply). IfSome w (λ w. IsReplyOf s w)) e fits) in
+              let more = operated-reports now.0 z fit in
+              omega (arith, more)
+          by (Accesses access q gpa page) same now None e = (let z = at-once (ap step_tries (sym same)) in let no : None ≡ Some z.0 = sym e ∙ z.1 in cc)
+          by (Accesses access q gpa page) same now (Some z) e =
+              let used = reported-room now.0 in
+              let had = reports-before now.0 in
+              let left = reports-passed now.0 in
+              omega (arith, used, had, left)
+          by (Loads access gpa level page) same now reply e =
+              loads (none-reported (ap (step_reports at_line) (sym same))) (reports-same now.0 (fresh-run (ap step_tries (sym same)))) reply (at-once (ap step_tries (sym same))) e
+            where
+              walks : (rights n : ℕ) (b : Bool) → unless_leaving x.leaving (reports_in (drop (g.position + 0) ops)) ≤ guest_reports (code_in codes) x → guest_reports (code_in codes) (walked access gpa n rights b x) ≤ guest_reports (code_in codes) x
+              walks rights zero true here = here
+              walks rights (suc n) true here = here
+              walks rights zero false here = omega arith
+              walks rights (suc n) false here = omega arith
+
+              loads : length (facts_in facts) ≡ 0 → unless_leaving x.leaving (reports_in (drop (g.position + 0) ops)) ≤ guest_reports (code_in codes) x → (reply : Option Reply) → (z : Reply) × (result.reply ≡ Some z) → result.reply ≡ reply
+                  → length (facts_in facts) + reports_left most (code_in codes) (after_step c cs (standing_of r) x rs turned.beside (Loads access gpa level page) t.stands reply) ≤ reports_left most (code_in codes) before
+              loads nil here None z e = (let no : None ≡ Some z.0 = sym e ∙ z.1 in cc)
+              loads nil here (Some (Done (value.Number rights))) z e = (let w = walks rights level (is_right access level rights) here in omega (arith, w, nil))
+              loads nil here (Some w) z e = omega (arith, here, nil)
+          by (Leaves out) same now None e = (let z = at-once (ap step_tries (sym same)) in let no : None ≡ Some z.0 = sym e ∙ z.1 in cc)
+          by (Leaves out) same now (Some z) e = (let nil = none-reported (ap (step_reports at_line) (sym same)) in omega (arith, nil))
 
       -- and what is kept then
       pub guest-keeps : (run : Option Running) → run_seen run ≡ line_then s result.reply (Some (standing_of r)) → IsAnswered run → IfSome h (λ y. IsLow y.walk × (y.list.now ≡ g.list.now)) → KeepsGuest p.machine codes us at_line h run kept

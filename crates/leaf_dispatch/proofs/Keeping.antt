@@ -1,5 +1,6 @@
 -- What a turn leaves of a run.
 use Rattle.std.proofs.Common.{◌≡◌, ◌∙◌, ℕ, ◌-◌, false, List, [], ◌∷◌, Option, Some, None, refl, ap, sym, subst, arith}
+use Rattle.report_core.specs.declared.facts.Facts.{Facts}
 use Rattle.td_words.specs.declared.machines.Machine.{Machine}
 use Rattle.td_words.specs.declared.replies.Reply.{Reply}
 use Rattle.flat_core.specs.World.{Made}
@@ -16,7 +17,7 @@ use Rattle.leaf_table.specs.Leaves.{leaf_seen}
 use Rattle.leaf_table.specs.Ends.{Ends, EndsAs, BeginsUnderOther}
 use Rattle.guest_turns.specs.Turns.{turn_of, act_of, kept_after}
 use Rattle.leaf_dispatch.specs.Answers.{FewTries, FitsStage, OldestIsOther}
-use Rattle.leaf_dispatch.specs.Running.{standing_of, run_seen, act_in, made_in_run, kept_until, IsUnderWay, IsRunOf, IsKept, CanTurn, HasTurned, RunTurned}
+use Rattle.leaf_dispatch.specs.Running.{standing_of, run_seen, act_in, made_in_run, facts_in_run, kept_until, IsUnderWay, IsRunOf, IsKept, CanTurn, HasTurned, RunTurned}
 use Rattle.leaf_dispatch.specs.declared.running.Running.{Running}
 use Rattle.guest_turns.specs.declared.runs.LeafTurn.{LeafTurn}
 use Rattle.leaf_table.proofs.Ending.{ends-fed}
@@ -47,10 +48,10 @@ can-turn m e s (Some r) k = (k.1.machine, k.1.can_run, k.1.going)
 
 -- a turn of the run that is kept, by whether its reply has come
 
-kept-turned : {B : Type 0} (did : List Taken → B → Type 0) (bench : B) (m : Machine) (e : Ends) (s : Standing) (r r' : Running) (kept : Option Running) (result : LeafTurn) (made : List Made)
-    → IsKept m e s (Some r) → HasTurned did m (Some r) bench (Some r') (turn_of result) → result.act ≡ act_of result.event r'.run.stage → made ≡ made_in_run (Some r') result.event → run_seen kept ≡ kept_after result.reply (standing_of r') → IsRunOf m e kept
-    → RunTurned did m e s bench kept result made
-kept-turned did bench m e s r r' kept result made k t act adds seen is = record {
+kept-turned : {B : Type 0} (did : List Taken → B → Type 0) (bench : B) (m : Machine) (e : Ends) (s : Standing) (r r' : Running) (kept : Option Running) (result : LeafTurn) (made : List Made) (facts : Option Facts)
+    → IsKept m e s (Some r) → HasTurned did m (Some r) bench (Some r') (turn_of result) → result.act ≡ act_of result.event r'.run.stage → made ≡ made_in_run (Some r') result.event → facts ≡ facts_in_run (Some r') result.event → run_seen kept ≡ kept_after result.reply (standing_of r') → IsRunOf m e kept
+    → RunTurned did m e s bench kept result made facts
+kept-turned did bench m e s r r' kept result made facts k t act adds reports seen is = record {
   going = subst (λ (z : Standing). has_ended z.stage z.held ≡ false) k.0 k.1.going;
   few_tries = subst (λ (z : Standing). FewTries e z) k.0 k.1.few_tries;
   fits = subst (λ (z : Standing). FitsStage e z.stage) k.0 k.1.fits;
@@ -59,36 +60,37 @@ kept-turned did bench m e s r r' kept result made k t act adds seen is = record 
   turned = subst (λ (z : Standing). Turned did m z bench (standing_of r') (turn_of result)) k.0 t.0;
   act_is = act;
   made_is = adds;
+  facts_is = reports;
   seen = seen;
   under_way = is;
 }
 
-run-goes-on : {B : Type 0} (did : List Taken → B → Type 0) (bench : B) (m : Machine) (e : Ends) (s : Standing) (kept kept' : Option Running) (result : LeafTurn) (made : List Made)
-    → IsKept m e s kept → HasTurned did m kept bench kept' (turn_of result) → result.act ≡ act_in kept' result.event → made ≡ made_in_run kept' result.event → result.reply ≡ None → RunTurned did m e s bench kept' result made
-run-goes-on did bench m e s None kept' result made k t act adds none = elim k [ ]
-run-goes-on did bench m e s (Some r) None result made k t act adds none = elim t [ ]
-run-goes-on did bench m e s (Some r) (Some r') result made k t act adds none =
+run-goes-on : {B : Type 0} (did : List Taken → B → Type 0) (bench : B) (m : Machine) (e : Ends) (s : Standing) (kept kept' : Option Running) (result : LeafTurn) (made : List Made) (facts : Option Facts)
+    → IsKept m e s kept → HasTurned did m kept bench kept' (turn_of result) → result.act ≡ act_in kept' result.event → made ≡ made_in_run kept' result.event → facts ≡ facts_in_run kept' result.event → result.reply ≡ None → RunTurned did m e s bench kept' result made facts
+run-goes-on did bench m e s None kept' result made facts k t act adds reports none = elim k [ ]
+run-goes-on did bench m e s (Some r) None result made facts k t act adds reports none = elim t [ ]
+run-goes-on did bench m e s (Some r) (Some r') result made facts k t act adds reports none =
     let gives = turn-gives m e (standing_of r) (standing_of r') t.0.0 result.event k.1.few_tries k.1.fits k.1.oldest t.0.2.turn in
-    kept-turned did bench m e s r r' (Some r') result made k t act adds (sym (ap (λ (z : Option Reply). kept_after z (standing_of r')) none))
+    kept-turned did bench m e s r r' (Some r') result made facts k t act adds reports (sym (ap (λ (z : Option Reply). kept_after z (standing_of r')) none))
     (still-under-way m e r r' result.event result.reply k.1 gives t.0.2.reply t.1 t.2 none)
 
-run-is-over : {B : Type 0} (did : List Taken → B → Type 0) (bench : B) (m : Machine) (e : Ends) (s : Standing) (kept kept' : Option Running) (result : LeafTurn) (made : List Made) (reply : Reply)
-    → IsKept m e s kept → HasTurned did m kept bench kept' (turn_of result) → result.act ≡ act_in kept' result.event → made ≡ made_in_run kept' result.event → result.reply ≡ Some reply → RunTurned did m e s bench None result made
-run-is-over did bench m e s None kept' result made reply k t act adds some = elim k [ ]
-run-is-over did bench m e s (Some r) None result made reply k t act adds some = elim t [ ]
-run-is-over did bench m e s (Some r) (Some r') result made reply k t act adds some =
-    kept-turned did bench m e s r r' None result made k t act adds (sym (ap (λ (z : Option Reply). kept_after z (standing_of r')) some)) tt
+run-is-over : {B : Type 0} (did : List Taken → B → Type 0) (bench : B) (m : Machine) (e : Ends) (s : Standing) (kept kept' : Option Running) (result : LeafTurn) (made : List Made) (facts : Option Facts) (reply : Reply)
+    → IsKept m e s kept → HasTurned did m kept bench kept' (turn_of result) → result.act ≡ act_in kept' result.event → made ≡ made_in_run kept' result.event → facts ≡ facts_in_run kept' result.event → result.reply ≡ Some reply → RunTurned did m e s bench None result made facts
+run-is-over did bench m e s None kept' result made facts reply k t act adds reports some = elim k [ ]
+run-is-over did bench m e s (Some r) None result made facts reply k t act adds reports some = elim t [ ]
+run-is-over did bench m e s (Some r) (Some r') result made facts reply k t act adds reports some =
+    kept-turned did bench m e s r r' None result made facts k t act adds reports (sym (ap (λ (z : Option Reply). kept_after z (standing_of r')) some)) tt
 
 -- whichever it is
-pub run-turned : {B : Type 0} (did : List Taken → B → Type 0) (bench : B) (m : Machine) (e : Ends) (s : Standing) (kept kept' kept'' : Option Running) (result : LeafTurn) (turn : RunTurn) (made : List Made)
-    → IsKept m e s kept → HasTurned did m kept bench kept' turn → turn_of result ≡ turn → result.act ≡ act_in kept' turn.event → made ≡ made_in_run kept' turn.event → kept'' ≡ kept_until turn.reply kept' → RunTurned did m e s bench kept'' result made
-run-turned did bench m e s kept kept' kept'' result turn made k t same =
-    subst (λ (z : RunTurn). HasTurned did m kept bench kept' z → result.act ≡ act_in kept' z.event → made ≡ made_in_run kept' z.event → kept'' ≡ kept_until z.reply kept' → RunTurned did m e s bench kept'' result made) same
-    (λ t act adds is. by t act adds result.reply refl is) t
+pub run-turned : {B : Type 0} (did : List Taken → B → Type 0) (bench : B) (m : Machine) (e : Ends) (s : Standing) (kept kept' kept'' : Option Running) (result : LeafTurn) (turn : RunTurn) (made : List Made) (facts : Option Facts)
+    → IsKept m e s kept → HasTurned did m kept bench kept' turn → turn_of result ≡ turn → result.act ≡ act_in kept' turn.event → made ≡ made_in_run kept' turn.event → facts ≡ facts_in_run kept' turn.event → kept'' ≡ kept_until turn.reply kept' → RunTurned did m e s bench kept'' result made facts
+run-turned did bench m e s kept kept' kept'' result turn made facts k t same =
+    subst (λ (z : RunTurn). HasTurned did m kept bench kept' z → result.act ≡ act_in kept' z.event → made ≡ made_in_run kept' z.event → facts ≡ facts_in_run kept' z.event → kept'' ≡ kept_until z.reply kept' → RunTurned did m e s bench kept'' result made facts) same
+    (λ t act adds reports is. by t act adds reports result.reply refl is) t
   where
-    by : HasTurned did m kept bench kept' (turn_of result) → result.act ≡ act_in kept' result.event → made ≡ made_in_run kept' result.event → (reply : Option Reply) → result.reply ≡ reply → kept'' ≡ kept_until reply kept' → RunTurned did m e s bench kept'' result made
-    by t act adds None none is = subst (λ (z : Option Running). RunTurned did m e s bench z result made) (sym is) (run-goes-on did bench m e s kept kept' result made k t act adds none)
-    by t act adds (Some r) some is = subst (λ (z : Option Running). RunTurned did m e s bench z result made) (sym is) (run-is-over did bench m e s kept kept' result made r k t act adds some)
+    by : HasTurned did m kept bench kept' (turn_of result) → result.act ≡ act_in kept' result.event → made ≡ made_in_run kept' result.event → facts ≡ facts_in_run kept' result.event → (reply : Option Reply) → result.reply ≡ reply → kept'' ≡ kept_until reply kept' → RunTurned did m e s bench kept'' result made facts
+    by t act adds reports None none is = subst (λ (z : Option Running). RunTurned did m e s bench z result made facts) (sym is) (run-goes-on did bench m e s kept kept' result made facts k t act adds reports none)
+    by t act adds reports (Some r) some is = subst (λ (z : Option Running). RunTurned did m e s bench z result made facts) (sym is) (run-is-over did bench m e s kept kept' result made facts r k t act adds reports some)
 
 -- in a machine that is the bench's
 

@@ -10,6 +10,8 @@ pub mod StepBounds
 pub mod Fewer
 pub mod Replying
 pub mod Rooming
+pub mod Reporting
+pub mod FactRooms
 pub mod Making
 pub mod Exiting
 pub mod Summing

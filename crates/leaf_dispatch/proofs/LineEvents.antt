@@ -28,7 +28,7 @@ use Rattle.leaf_dispatch.specs.Answers.{beside_by, guest_by, cached_by}
 use Rattle.leaf_dispatch.specs.Bounds.{stage_left, events_left}
 use Rattle.leaf_dispatch.specs.Guests.{guest_seen, IsLow, next_in}
 use Rattle.leaf_dispatch.specs.Inside.{unless_gives, entered_or, IsGuestKept, KeepsGuest}
-use Rattle.leaf_dispatch.specs.NoteRooms.{least, call_room, lines_room, stage_room, run_room, room_of, room_left}
+use Rattle.leaf_dispatch.specs.NoteRooms.{least, call_room, lines_room, stage_room, run_room, room_of, room_left, most_reports, call_reports, reports_left}
 use Rattle.leaf_dispatch.specs.Running.{IsAnsweredBy, standing_of}
 use Rattle.leaf_dispatch.specs.CallRuns.{CallTurned}
 use Rattle.leaf_dispatch.specs.Shown.{epoch_loaded}
@@ -53,6 +53,7 @@ use Rattle.leaf_dispatch.proofs.Lowering.{Gives}
 use Rattle.leaf_dispatch.proofs.Turning.{line-gives, line-moves, LineMoved, Moved, bound-before, none-begun, bound-after}
 use Rattle.leaf_dispatch.proofs.Fewer.{enters-fewer, releases-fewer}
 use Rattle.leaf_dispatch.proofs.Making.{room-before, less-stage}
+use Rattle.leaf_dispatch.proofs.FactRooms.{guest-among, reports-begun}
 use Rattle.leaf_dispatch.proofs.ShortRuns.{none-is, no-run-of}
 use Rattle.leaf_dispatch.proofs.Shown.{run-makes, frees, outside-tells, free-tells}
 
@@ -89,12 +90,13 @@ pub record Begins (c : Call) (r : Reply) (x : WordGuest) : Type 0 where
   pub stays : x.leaving ≡ None
   pub none : x.run ≡ None
   pub room : (longest : ℕ) → call_room longest c ≡ least x.most longest
+  pub reports : (most : ℕ) → call_reports most c ≡ most
 
 begins : (c : Call) (r : Reply) (x : WordGuest) → or_else (guest_entered (call_answer c r)) None ≡ Some x → Begins c r x
 begins (call.VpEnter tdr vp most) (Done (value.Entered stale index position root)) x e =
     let entered : WordGuest = record { tdr = tdr; vp = vp; root = root; most = most; completed = 0; index = index; position = position; walk = None; leaving = None; run = None } in
     let same : entered ≡ x = cc in
-    subst (λ (z : WordGuest). Begins (call.VpEnter tdr vp most) (Done (value.Entered stale index position root)) z) same (record { told = refl; events = refl; completed = refl; stays = refl; none = refl; room = λ n. refl })
+    subst (λ (z : WordGuest). Begins (call.VpEnter tdr vp most) (Done (value.Entered stale index position root)) z) same (record { told = refl; events = refl; completed = refl; stays = refl; none = refl; room = λ n. refl; reports = λ n. refl })
 begins (call.VpEnter tdr vp most) (Done _) x e = cc
 begins (call.VpEnter tdr vp most) (Refused s) x e = cc
 begins (call.VpEnter tdr vp most) (Exited out) x e = cc
@@ -200,6 +202,17 @@ module _ (p : Place) (given : Given) (codes : List CodeSeen) (c : Call) (cs : Li
           let on : (was run).stage ≡ stages.Trying = (gives.act e.0 e.1).on in
           rw (run-before (call_room longest c), on, e.2.room longest, e.2.stays, e.2.completed) (omega arith)
 
+      pub outside-reports : (G : Option WordGuest) → G ≡ guest_by (call_answer c) result.act None → (reply : Option Reply) → reports_left (most_reports codes) (code_in codes) (turned G t.stands reply) ≤ reports_left (most_reports codes) (code_in codes) (before run None)
+      outside-reports G is (Some r) = (let begun = reports-begun (most_reports codes) (code_in codes) cs in omega (arith, begun))
+      outside-reports None is None =
+          let less = less-stage (call_reports (most_reports codes) c) (was run).stage t.stands.stage gives.stays_answered in
+          rw (run-before (call_reports (most_reports codes) c)) (omega (arith, less))
+      outside-reports (Some x) is None =
+          let e = enters result.act x refl is in
+          let on : (was run).stage ≡ stages.Trying = (gives.act e.0 e.1).on in
+          let few = guest-among codes x in
+          rw (run-before (call_reports (most_reports codes) c), on, e.2.reports (most_reports codes)) (omega (arith, few))
+
       -- and what is kept then
       pub outside-keeps : (ent : Option GuestAt) → option_map (λ (g : GuestAt). guest_seen g None) ent ≡ guest_by (call_answer c) result.act None
           → IfSome ent (λ g. (g.tdr < p.machine.pages) × (g.vp < p.machine.pages) × (code_in codes g.tdr g.index ≡ g.list.now) × IsLow g.walk) → result.reply ≡ None
@@ -268,6 +281,10 @@ module _ (p : Place) (given : Given) (codes : List CodeSeen) (c : Call) (cs : Li
       pub inside-room : (longest : ℕ) (reply : Option Reply) → room_left longest (turned (Some x) t.stands reply) ≤ room_left longest (before (Some (standing_of r)) (Some x))
       inside-room longest (Some z) = rw (room-begun longest cs) (omega arith)
       inside-room longest None = omega arith
+
+      pub inside-reports : (most : ℕ) (reply : Option Reply) → reports_left most (code_in codes) (turned (Some x) t.stands reply) ≤ reports_left most (code_in codes) (before (Some (standing_of r)) (Some x))
+      inside-reports most (Some z) = (let begun = reports-begun most (code_in codes) cs in omega (arith, begun))
+      inside-reports most None = omega arith
 
       pub inside-keeps : (g : GuestAt) (step : StepRun) → is_none kept.host ≡ true → IsGuestKept p.machine codes ts (length rs + 1) g step → result.reply ≡ None → KeepsGuest p.machine codes us (length rs + 1) (Some g) kept.other step
       inside-keeps g step alone is none =

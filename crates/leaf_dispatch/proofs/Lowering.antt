@@ -1,5 +1,6 @@
 -- What a turn of a run comes to: fewer events left, and what its leaf answers with its act.
 use Rattle.std.proofs.Common.{◌≡◌, ℕ, ◌+◌, ◌-◌, ◌<◌, ◌≤◌, Bool, true, false, ◌||◌, List, [], ◌∷◌, ◌++◌, length, Option, Some, None, refl, ap, sym, ◌∙◌, subst, arith, length-append}
+use Rattle.report_core.specs.declared.facts.Facts.{Facts}
 use Rattle.td_words.specs.declared.names.LockName.{LockName}
 use Rattle.td_words.specs.declared.names.Mode.{Mode}
 use Rattle.td_words.specs.declared.names.Mode.TheVariants.{Shared, Exclusive}
@@ -19,16 +20,17 @@ use Rattle.leaf_engine.specs.declared.events.HeldLock.{HeldLock}
 use Rattle.leaf_engine.specs.declared.events.Stage.{Stage}
 use Rattle.leaf_engine.specs.declared.events.Stage.TheVariants as stages
 use Rattle.leaf_engine.specs.Trees.{Answer, Tree, Lock, Load, Test, End, Since, answer_of, settle, fed, passed}
-use Rattle.leaf_engine.specs.Besides.{Beside, answered_by, beside_after, bundles_made}
+use Rattle.leaf_engine.specs.Besides.{Beside, answered_by, beside_after, bundles_made, reported, facts_made}
 use Rattle.leaf_engine.specs.Decides.{Wants}
 use Rattle.leaf_engine.specs.Guests.{WordGuest, is_epoch_name, guest_after, guest_entered, or_else}
 use Rattle.leaf_engine.specs.Items.{IsLoadAt, IsLoaded}
 use Rattle.leaf_engine.specs.Turns.{Standing, standing, grants, tried, busy, last_reply, Comes, TurnBy}
-use Rattle.leaf_table.specs.Ends.{Ends, with_bundles, AreMade, EndsBy, EndsAs, BeginsUnderOther}
+use Rattle.leaf_table.specs.Ends.{Ends, with_bundles, with_report, AreMade, EndsBy, EndsAs, BeginsUnderOther}
 use Rattle.guest_turns.specs.Turns.{act_of}
-use Rattle.leaf_dispatch.specs.Answers.{FewTries, is_busy, FitsStage, OldestIsOther, beside_by, guest_by}
+use Rattle.leaf_dispatch.specs.Answers.{FewTries, is_busy, FitsStage, OldestIsOther, answer_with, beside_by, guest_by}
 use Rattle.leaf_dispatch.specs.Bounds.{stage_left, stage_used}
 use Rattle.leaf_table.proofs.Ending.{ends-fed}
+use Rattle.leaf_table.proofs.NoBundles.{AreQuiet, end-quiet}
 
 -- bundles
 
@@ -94,21 +96,23 @@ other-lock pages (Since r cs) name at mode g o = cc
 
 -- at the act it answers what its leaf comes to
 pub record AnswersBy (e : Ends) (t : Tree) (reply : Reply) : Type 0 where
-  pub answer : answer_of t ≡ with_bundles (answer_of t).bundles (e.answer reply)
+  pub answer : answer_of t ≡ with_bundles (answer_of t).bundles (answer_with e (reported (answer_of t).notes) reply)
+  pub quiet : AreQuiet e → reported (answer_of t).notes ≡ None
   pub made : AreMade e.makes (answer_of t).bundles
   pub fits : e.fits reply ≡ true
 
-ended-by : (e : Ends) (a : Answer) (reply : Reply) → a.reply ≡ reply → EndsBy e.makes a (e.answer a.reply) → e.fits a.reply ≡ true → (a ≡ with_bundles a.bundles (e.answer reply)) × AreMade e.makes a.bundles × (e.fits reply ≡ true)
+ended-by : (e : Ends) (a : Answer) (reply : Reply) → a.reply ≡ reply → EndsBy e.makes a (answer_with e (reported a.notes) a.reply) → e.fits a.reply ≡ true
+    → (a ≡ with_bundles a.bundles (answer_with e (reported a.notes) reply)) × AreMade e.makes a.bundles × (e.fits reply ≡ true) × (AreQuiet e → reported a.notes ≡ None)
 ended-by e a reply same by fits =
-    let is = is-by e.makes a (e.answer a.reply) by in
-    (is.answer ∙ ap (λ (r : Reply). with_bundles a.bundles (e.answer r)) same, is.made, sym (ap e.fits same) ∙ fits)
+    let is = is-by e.makes a (answer_with e (reported a.notes) a.reply) by in
+    (is.answer ∙ ap (λ (r : Reply). with_bundles a.bundles (answer_with e (reported a.notes) r)) same, is.made, sym (ap e.fits same) ∙ fits, λ quiet. end-quiet e a quiet by)
 
 ends-act : (e : Ends) (pages n : ℕ) (t : Tree) (reply : Reply) → Wants pages t (need.Verdict reply) → EndsAs e n t → AnswersBy e (passed t) reply
 ends-act e pages n (Lock l q m t) reply g few = cc
 ends-act e pages n (Load v q k) reply g few = cc
 ends-act e pages n (Test c r t) reply g few = absurd g
-ends-act e pages n (End a fs cs) reply g few = (let same : a.reply ≡ reply = cc in let by = ended-by e a reply same few.0 few.1 in record { answer = by.0; made = by.1; fits = by.2 })
-ends-act e pages n (Since a cs) reply g few = (let same : a.reply ≡ reply = cc in let by = ended-by e a reply same few.0 few.1 in record { answer = by.0; made = by.1; fits = by.2 })
+ends-act e pages n (End a fs cs) reply g few = (let same : a.reply ≡ reply = cc in let by = ended-by e a reply same few.0 few.1 in record { answer = by.0; made = by.1; fits = by.2; quiet = by.3 })
+ends-act e pages n (Since a cs) reply g few = (let same : a.reply ≡ reply = cc in let by = ended-by e a reply same few.0 few.1 in record { answer = by.0; made = by.1; fits = by.2; quiet = by.3 })
 
 other-act : (pages : ℕ) (t : Tree) (reply : Reply) → Wants pages t (need.Verdict reply) → BeginsUnderOther t → (answer_of (passed t)).enters ≡ None
 other-act pages (Lock l q m t) reply g o = cc
@@ -116,6 +120,17 @@ other-act pages (Load v q k) reply g o = cc
 other-act pages (Test c r t) reply g o = absurd g
 other-act pages (End a fs cs) reply g o = o
 other-act pages (Since a cs) reply g o = o
+
+-- a report enters no guest, and what an answer enters it enters with one
+enters-same : (line : Option ℕ) (f : Option Facts) (a : Answer) → (with_report line f a).enters ≡ a.enters
+enters-same line None a = refl
+enters-same None (Some f) a = refl
+enters-same (Some line) (Some f) a = refl
+
+entered-same : (line : Option ℕ) (f : Option Facts) (a : Answer) → guest_entered (with_report line f a) ≡ guest_entered a
+entered-same line None a = refl
+entered-same None (Some f) a = refl
+entered-same (Some line) (Some f) a = refl
 
 -- what an act comes to
 pub record ActsBy (e : Ends) (s s' : Standing) (r : Reply) : Type 0 where
@@ -131,7 +146,9 @@ pub record Gives (e : Ends) (s s' : Standing) (ev : Event) : Type 0 where
   pub few : FewTries e s'
   pub fits : FitsStage e s'.stage
   pub oldest : OldestIsOther s'.held s'
-  pub beside : (b : Beside) → beside_after ev s'.rest b ≡ beside_by e.answer (bundles_made ev s'.rest) (act_of ev s'.stage) b
+  pub beside : (b : Beside) → beside_after ev s'.rest b ≡ beside_by (answer_with e (facts_made ev s'.rest)) (bundles_made ev s'.rest) (act_of ev s'.stage) b
+  pub quiet : AreQuiet e → facts_made ev s'.rest ≡ None
+  pub unreported : act_of ev s'.stage ≡ None → facts_made ev s'.rest ≡ None
   pub made : AreMade e.makes (bundles_made ev s'.rest)
   pub unmade : act_of ev s'.stage ≡ None → bundles_made ev s'.rest ≡ []
   pub guest : (g : Option WordGuest) → guest_after ev s'.rest g ≡ guest_by e.answer (act_of ev s'.stage) g
@@ -179,6 +196,8 @@ granted-gives e t0 t held h name at mode room first few o other =
       fits = tt;
       oldest = oldest-more held x (standing t0 stages.Trying held h) (standing t stages.Trying (held ++ x ∷ []) h) other o;
       beside = λ b. refl;
+      quiet = λ q. refl;
+      unreported = λ none. refl;
       made = none-made e.makes;
       unmade = λ none. refl;
       guest = λ g. refl;
@@ -197,6 +216,8 @@ undoing-gives e t0 t held h name at room first o = record {
   fits = tt;
   oldest = oldest-stays held (standing t0 stages.Trying held h) (standing t (stages.Undoing name at) held h) (λ st. cc) o;
   beside = λ b. refl;
+  quiet = λ q. refl;
+  unreported = λ none. refl;
   made = none-made e.makes;
   unmade = λ none. refl;
   guest = λ g. refl;
@@ -215,6 +236,8 @@ denied-gives e t0 t held h name room first o = record {
   fits = busy-fits e name;
   oldest = oldest-stays held (standing t0 stages.Trying held h) (standing t (busy name) held h) (λ st. cc) o;
   beside = λ b. refl;
+  quiet = λ q. refl;
+  unreported = λ none. refl;
   made = none-made e.makes;
   unmade = λ none. refl;
   guest = λ g. refl;
@@ -244,10 +267,12 @@ act-gives e t0 t held h h' reply room a o none = record {
   fits = by-fits (e.fits reply) (is_busy reply) a.fits;
   oldest = oldest-stays held (standing t0 stages.Trying held h) (standing t (stages.Answered reply) held h') (λ st. cc) o;
   beside = λ b. ap (λ (z : Answer). answered_by z b) a.answer;
+  quiet = a.quiet;
+  unreported = λ none. cc;
   made = a.made;
   unmade = λ none. cc;
-  guest = λ g. ap (λ (z : Answer). or_else (guest_entered z) g) a.answer;
-  act = λ r is. same-reply e t0 t held h h' reply r is (record { on = refl; fits = a.fits; stage = refl; held = refl; few = room; under_other = λ z. sym (ap (λ (y : Answer). y.enters) a.answer) ∙ none z });
+  guest = λ g. ap (λ (z : Answer). or_else (guest_entered z) g) a.answer ∙ ap (λ (y : Option WordGuest). or_else y g) (entered-same e.reports (reported (answer_of t).notes) (e.answer reply));
+  act = λ r is. same-reply e t0 t held h h' reply r is (record { on = refl; fits = a.fits; stage = refl; held = refl; few = room; under_other = λ z. sym (enters-same e.reports (reported (answer_of t).notes) (e.answer reply)) ∙ (sym (ap (λ (y : Answer). y.enters) a.answer) ∙ none z) });
   lower = λ k. omega arith;
   used = λ two. (omega (arith, two), omega (arith, two));
   stays_answered = λ r z. cc;
@@ -267,6 +292,8 @@ undo-gives e t held h name at room o = record {
   fits = busy-fits e name;
   oldest = oldest-stays held (standing t (stages.Undoing name at) held h) (standing t (busy name) held h) (λ st. cc) o;
   beside = λ b. refl;
+  quiet = λ q. refl;
+  unreported = λ none. refl;
   made = none-made e.makes;
   unmade = λ none. refl;
   guest = λ g. refl;
@@ -286,6 +313,8 @@ free-gives e t held older x h reply room is fits o =
       fits = fits;
       oldest = oldest-less held older x (standing t (stages.Answered reply) held h) (standing t (stages.Answered reply) older h) reply refl is o;
       beside = λ b. refl;
+      quiet = λ q. refl;
+      unreported = λ none. refl;
       made = none-made e.makes;
       unmade = λ none. refl;
       guest = λ g. refl;

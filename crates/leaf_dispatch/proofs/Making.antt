@@ -1,6 +1,9 @@
 -- What a turn makes of bundles, and the room that it leaves.
 use Rattle.std.proofs.Common.{◌≡◌, ◌∙◌, ℕ, suc, ◌+◌, ◌<◌, ◌≤◌, true, is_none, List, [], ◌∷◌, ◌++◌, length, take, get_or, Option, Some, None, refl, ap, sym, subst, arith}
+use Rattle.std.specs.Global.{Vec}
+use Rattle.std.proofs.lemmas.List.{append-nil}
 use Rattle.std.proofs.Math.Seq.{take-suc}
+use Rattle.report_core.specs.declared.facts.Facts.{Facts}
 use Rattle.td_words.specs.declared.machines.Machine.{Machine}
 use Rattle.td_words.specs.declared.calls.Call.{Call}
 use Rattle.td_words.specs.declared.replies.Reply.{Reply}
@@ -11,17 +14,18 @@ use Rattle.leaf_engine.specs.declared.events.Event.{Event}
 use Rattle.leaf_engine.specs.declared.events.RunTurn.{RunTurn}
 use Rattle.leaf_engine.specs.declared.events.Stage.{Stage}
 use Rattle.leaf_engine.specs.declared.events.Stage.TheVariants as stages
-use Rattle.leaf_engine.specs.Besides.{bundles_made}
+use Rattle.leaf_engine.specs.Besides.{bundles_made, reported, facts_made}
 use Rattle.leaf_engine.specs.Guests.{Step}
 use Rattle.leaf_engine.specs.Means.{Task}
 use Rattle.leaf_engine.specs.Turns.{Standing}
 use Rattle.leaf_engine.specs.OwnLists.{running}
 use Rattle.leaf_table.specs.Ends.{Ends, AreMade, call_makes, call_ends}
 use Rattle.guest_turns.specs.Turns.{act_of, kept_after}
+use Rattle.leaf_dispatch.specs.Guests.{facts_in, HasReported}
 use Rattle.leaf_dispatch.specs.Inside.{line_then}
 use Rattle.leaf_dispatch.specs.NoteRooms.{stage_room, run_room}
 use Rattle.leaf_dispatch.specs.BundleRooms.{count_of, words_of, lines_make, still_make, payload_words}
-use Rattle.leaf_dispatch.specs.Running.{standing_of, run_seen, made_in_run, IsKept, HasTurned, IsAnsweredBy, IsAnswered}
+use Rattle.leaf_dispatch.specs.Running.{standing_of, run_seen, made_in_run, facts_in_run, IsKept, HasTurned, IsAnsweredBy, IsAnswered}
 use Rattle.leaf_dispatch.specs.ShortRuns.{seen_by}
 use Rattle.leaf_dispatch.specs.CallRuns.{call_run_seen, CallTurned}
 use Rattle.leaf_dispatch.specs.declared.call_runs.CallRun.{CallRun}
@@ -31,6 +35,7 @@ use Rattle.leaf_table.specs.Given.{Given}
 use Rattle.leaf_table.specs.Table.{task_of}
 use Rattle.leaf_dispatch.specs.declared.running.Running.{Running}
 use Rattle.guest_turns.specs.declared.runs.LeafTurn.{LeafTurn}
+use Rattle.leaf_table.proofs.NoBundles.{calls-quiet}
 use Rattle.leaf_dispatch.proofs.Lowering.{Gives, turn-gives}
 use Rattle.leaf_dispatch.proofs.Turning.{line-gives}
 
@@ -147,6 +152,54 @@ module _ (size : Option ℕ → ℕ) (of : List Made → ℕ) (counts : Counts s
       let room = kept-room did bench m (call_ends p.machine c) (running (task_of given p c) run) kept kept' turn (subst (λ (z : Machine). IsKept z (call_ends p.machine c) (running (task_of given p c) run) kept) at k) t in
       let before = room-before (size (call_makes c)) (task_of given p c) run in
       omega (arith, room, before)
+
+-- nothing is reported
+pub none-reported : (v : Vec Facts) → HasReported v None v
+none-reported v = record { kept = sym (append-nil v.items); room = omega arith }
+
+-- the facts of a turn leave so much less room
+pub facts-room : (e : Ends) (s s' : Standing) (ev : Event) → ((r : Reply) → reported (e.answer r).notes ≡ None) → Gives e s s' ev
+    → length (facts_in (facts_made ev s'.rest)) + stage_room (count_of e.reports) s'.stage ≤ stage_room (count_of e.reports) s.stage
+facts-room e s s' ev plain gives = by (act_of ev s'.stage) refl
+  where
+    at-most : (f : Option Facts) → length (facts_in f) ≤ 1
+    at-most None = omega arith
+    at-most (Some f) = omega arith
+
+    few : (line : Option ℕ) → e.reports ≡ line → length (facts_in (facts_made ev s'.rest)) ≤ count_of line
+    few None is = (let none = ap (λ (f : Option Facts). length (facts_in f)) (gives.quiet (is, plain)) in omega (arith, none))
+    few (Some line) is = at-most (facts_made ev s'.rest)
+
+    by : (act : Option Reply) → act_of ev s'.stage ≡ act → length (facts_in (facts_made ev s'.rest)) + stage_room (count_of e.reports) s'.stage ≤ stage_room (count_of e.reports) s.stage
+    by None is =
+        let zero = ap (λ (f : Option Facts). length (facts_in f)) (gives.unreported is) in
+        let less = less-stage (count_of e.reports) s.stage s'.stage gives.stays_answered in
+        omega (arith, zero, less)
+    by (Some r) is =
+        let a = gives.act r is in
+        let before : stage_room (count_of e.reports) s.stage ≡ count_of e.reports = ap (stage_room (count_of e.reports)) a.on in
+        let after : stage_room (count_of e.reports) s'.stage ≡ 0 = ap (stage_room (count_of e.reports)) a.stage in
+        let most = few e.reports refl in
+        omega (arith, before, after, most)
+
+-- of a step's run that is kept, which may have begun with this turn
+pub step-facts : {B : Type 0} (did : List Taken → B → Type 0) (bench : B) (m : Machine) (e : Ends) (task : Task) (run : Option Standing) (kept kept' : Option Running) (turn : RunTurn) → ((r : Reply) → reported (e.answer r).notes ≡ None)
+    → IsKept m e (running task run) kept → HasTurned did m kept bench kept' turn → length (facts_in (facts_in_run kept' turn.event)) ≤ run_room (count_of e.reports) run
+step-facts did bench m e task run None kept' turn plain k t = absurd k
+step-facts did bench m e task run (Some r) None turn plain k t = absurd t
+step-facts did bench m e task run (Some r) (Some r') turn plain k t =
+    let gives = turn-gives m e (standing_of r) (standing_of r') t.0.0 turn.event k.1.few_tries k.1.fits k.1.oldest t.0.2.turn in
+    let room = facts-room e (standing_of r) (standing_of r') turn.event plain gives in
+    let at : stage_room (count_of e.reports) (standing_of r).stage ≡ run_room (count_of e.reports) run = ap (λ (z : Standing). stage_room (count_of e.reports) z.stage) k.0 ∙ room-before (count_of e.reports) task run in
+    omega (arith, room, at)
+
+-- and of a call's, which reports nothing
+pub call-facts : {B : Type 0} (did : List Taken → B → Type 0) (bench : B) (m : Machine) (given : Given) (p : Place) (c : Call) (s : Standing) (kept kept' : Option Running) (turn : RunTurn)
+    → IsKept m (call_ends p.machine c) s kept → HasTurned did m kept bench kept' turn → None ≡ facts_in_run kept' turn.event
+call-facts did bench m given p c s None kept' turn k t = absurd k
+call-facts did bench m given p c s (Some r) None turn k t = absurd t
+call-facts did bench m given p c s (Some r) (Some r') turn k t =
+    sym ((turn-gives m (call_ends p.machine c) (standing_of r) (standing_of r') t.0.0 turn.event k.1.few_tries k.1.fits k.1.oldest t.0.2.turn).quiet (calls-quiet p c))
 
 -- the first line's own room
 pub first-room : (size : Option ℕ → ℕ) (c : Call) (cs lines : List Call) (run : Option Standing) (n : ℕ) → lines ≡ c ∷ cs → still_make size lines run ≤ n → run_room (size (call_makes c)) run ≤ n

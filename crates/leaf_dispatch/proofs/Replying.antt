@@ -1,5 +1,6 @@
 -- The replies of a guest's step are those that it may have.
 use Rattle.std.proofs.Common.{◌≡◌, ◌∙◌, ℕ, true, List, Option, Some, None, IfSome, refl, ap, sym, subst}
+use Rattle.report_core.specs.declared.facts.Facts.{Facts}
 use Rattle.td_words.specs.declared.machines.Machine.{Machine}
 use Rattle.td_words.specs.declared.names.Access.{Access}
 use Rattle.td_words.specs.declared.replies.Value.TheVariants as value
@@ -32,13 +33,13 @@ exit-of : (out : Outcome) (r : Reply) → step_fits (Leaves out) r ≡ true → 
 exit-of out (Exited x) h = tt
 exit-of out _ h = cc
 
-module _ {B : Type 0} (did : List Taken → B → Type 0) (bench : B) (m : Machine) {kept : Option Standing} {Keeps : Type 0} (result : LeafTurn) (made : List Made) where
-  pub act-fits : (e : Ends) (s : Standing) → LeafTurned did m e s bench kept Keeps result made → (act : Option Reply) → result.act ≡ act → IfSome act (λ r. e.fits r ≡ true)
+module _ {B : Type 0} (did : List Taken → B → Type 0) (bench : B) (m : Machine) {kept : Option Standing} {Keeps : Type 0} {facts : Option Facts} (result : LeafTurn) (made : List Made) where
+  pub act-fits : (e : Ends) (s : Standing) → LeafTurned did m e s bench kept Keeps result made facts → (act : Option Reply) → result.act ≡ act → IfSome act (λ r. e.fits r ≡ true)
   act-fits e s t None is = tt
   act-fits e s t (Some r) is = ((line-gives did bench m e s result made t).act r (sym t.act_is ∙ is)).fits
 
   -- a run of a single event has that event's reply
-  at-once : (t n : ℕ) (s : Step) (run : Standing) (r : Reply) → LeafTurned did m (step_ends t n s) run bench kept Keeps result made → step_tries s ≡ 0 → run.stage ≡ stages.Trying → result.reply ≡ Some r → step_fits s r ≡ true
+  at-once : (t n : ℕ) (s : Step) (run : Standing) (r : Reply) → LeafTurned did m (step_ends t n s) run bench kept Keeps result made facts → step_tries s ≡ 0 → run.stage ≡ stages.Trying → result.reply ≡ Some r → step_fits s r ≡ true
   at-once t n s run r turned none on is =
       let gives = line-gives did bench m (step_ends t n s) run result made turned in
       let x = gives.once none on in
@@ -47,7 +48,7 @@ module _ {B : Type 0} (did : List Taken → B → Type 0) (bench : B) (m : Machi
       some-same : {a b : Reply} → Some a ≡ Some b → a ≡ b
       some-same e = cc
 
-  pub reply-fits : (t n : ℕ) (s : Step) (run : Standing) → LeafTurned did m (step_ends t n s) run bench kept Keeps result made → (step_tries s ≡ 0 → run.stage ≡ stages.Trying) → (reply : Option Reply) → result.reply ≡ reply → IfSome reply (λ r. IsReplyOf s r)
+  pub reply-fits : (t n : ℕ) (s : Step) (run : Standing) → LeafTurned did m (step_ends t n s) run bench kept Keeps result made facts → (step_tries s ≡ 0 → run.stage ≡ stages.Trying) → (reply : Option Reply) → result.reply ≡ reply → IfSome reply (λ r. IsReplyOf s r)
   reply-fits t n s run turned first None is = tt
   reply-fits t n (Operates o) run turned first (Some r) is =
       let gives = line-gives did bench m (step_ends t n (Operates o)) run result made turned in

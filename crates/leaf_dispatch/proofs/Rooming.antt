@@ -1,5 +1,6 @@
 -- A turn in a guest uses the room of what it notes and tells.
 use Rattle.std.proofs.Common.{◌≡◌, ℕ, ◌+◌, ◌-◌, ◌<◌, ◌≤◌, true, length, Option, Some, None, refl, ap, ◌∙◌, arith}
+use Rattle.report_core.specs.declared.facts.Facts.{Facts}
 use Rattle.td_words.specs.declared.names.Access.TheVariants.{Read}
 use Rattle.td_words.specs.declared.calls.GuestOp.TheVariants as op
 use Rattle.td_words.specs.declared.refusals.Status.TheVariants.{OperandBusy}
@@ -12,10 +13,11 @@ use Rattle.leaf_engine.specs.declared.events.Event.{Event}
 use Rattle.leaf_engine.specs.declared.events.Stage.{Stage}
 use Rattle.leaf_engine.specs.declared.events.Stage.TheVariants as stages
 use Rattle.leaf_engine.specs.Turns.{Standing}
+use Rattle.leaf_engine.specs.Trees.{Answer}
 use Rattle.leaf_engine.specs.Guests.{WordGuest, Step, Operates, Accesses, Loads, passed_on, exited_with, operated}
-use Rattle.leaf_table.specs.Ends.{Ends, step_answer}
+use Rattle.leaf_table.specs.Ends.{Ends, with_report, step_answer, step_reports, step_ends}
 use Rattle.guest_turns.specs.Turns.{act_of}
-use Rattle.leaf_dispatch.specs.Answers.{notes_by, tells_by}
+use Rattle.leaf_dispatch.specs.Answers.{answer_with, notes_by, tells_by}
 use Rattle.leaf_dispatch.specs.Guests.{is_outcome}
 use Rattle.leaf_dispatch.specs.Bounds.{unless_leaving}
 use Rattle.leaf_dispatch.specs.NoteRooms.{least, stage_made, run_made, guest_room}
@@ -23,15 +25,24 @@ use Rattle.leaf_dispatch.proofs.Lowering.{Gives}
 
 -- a step notes and tells at most one thing each
 
-pub notes-few : (t n : ℕ) (s : Step) (act : Option Reply) → length (notes_by (step_answer t n s) act) ≤ 1
-notes-few t n s None = omega arith
-notes-few t n (Operates (op.Load r gpa)) (Some (Done (value.Number x))) = omega arith
-notes-few t n (Operates (op.Store r gpa)) (Some (Done (value.Number x))) = omega arith
-notes-few t n (Operates (op.Rtmr i)) (Some (Done (value.Digest bytes))) = omega arith
-notes-few t n (Operates (op.Vmcall r)) (Some (Exited (Vmcall x))) = omega arith
-notes-few t n (Accesses Read r gpa page) (Some (Done (value.Number x))) = omega arith
-notes-few t n (Loads access gpa level page) (Some (Done (value.Number x))) = omega arith
-notes-few t n s (Some r) = omega arith
+by-reply-few : (t n : ℕ) (s : Step) (act : Option Reply) → length (notes_by (step_answer t n s) act) ≤ 1
+by-reply-few t n s None = omega arith
+by-reply-few t n (Operates (op.Load r gpa)) (Some (Done (value.Number x))) = omega arith
+by-reply-few t n (Operates (op.Store r gpa)) (Some (Done (value.Number x))) = omega arith
+by-reply-few t n (Operates (op.Rtmr i)) (Some (Done (value.Digest bytes))) = omega arith
+by-reply-few t n (Operates (op.Vmcall r)) (Some (Exited (Vmcall x))) = omega arith
+by-reply-few t n (Accesses Read r gpa page) (Some (Done (value.Number x))) = omega arith
+by-reply-few t n (Loads access gpa level page) (Some (Done (value.Number x))) = omega arith
+by-reply-few t n s (Some r) = omega arith
+
+report-few : (line : Option ℕ) (f : Option Facts) (a : Answer) → length a.notes ≤ 1 → length (with_report line f a).notes ≤ 1
+report-few line None a few = few
+report-few None (Some f) a few = few
+report-few (Some line) (Some f) a few = omega arith
+
+pub notes-few : (t n : ℕ) (s : Step) (f : Option Facts) (act : Option Reply) → length (notes_by (answer_with (step_ends t n s) f) act) ≤ 1
+notes-few t n s f None = omega arith
+notes-few t n s f (Some r) = report-few (step_reports n s) f (step_answer t n s r) (by-reply-few t n s (Some r))
 
 pub tells-few : (t n : ℕ) (s : Step) (act : Option Reply) → length (tells_by (step_answer t n s) act) ≤ 1
 tells-few t n s None = omega arith

@@ -1,6 +1,7 @@
 -- The turns of a run that is kept in a small record, or else as the run of another leaf.
 use Rattle.std.proofs.Common.{◌≡◌, ◌∙◌, ℕ, ◌-◌, true, false, is_none, is_some, List, [], Option, Some, None, option_map, IfSome, refl, ap, sym, subst, arith}
 use Rattle.std.specs.Prelude.{MatchOption}
+use Rattle.report_core.specs.declared.facts.Facts.{Facts}
 use Rattle.td_words.specs.declared.machines.Machine.{Machine}
 use Rattle.td_words.specs.declared.replies.Reply.{Reply}
 use Rattle.flat_core.specs.World.{Made}
@@ -15,6 +16,7 @@ use Rattle.guest_turns.specs.Turns.{kept_after, ShortTurned, ShortGoesOn}
 use Rattle.guest_turns.specs.declared.runs.LeafTurn.{LeafTurn}
 use Rattle.leaf_table.specs.Ends.{Ends, AreMade, EndsAs, BeginsUnderOther}
 use Rattle.leaf_table.proofs.Ending.{ends-fed}
+use Rattle.leaf_table.proofs.NoBundles.{AreQuiet}
 use Rattle.leaf_dispatch.specs.Answers.{FewTries, FitsStage, OldestIsOther}
 use Rattle.leaf_dispatch.specs.Running.{run_seen, IsRunOf, LeafTurned, RunTurned}
 use Rattle.leaf_dispatch.specs.ShortRuns.{seen_by, IsOneOf}
@@ -70,8 +72,8 @@ module _ {A : Type 0} (at : A → Standing) (IsAt : Machine → A → Type 0) wh
   stands-so r s (Some z) e = cc
 
   pub short-turned : {B : Type 0} (did : List Taken → B → Type 0) (m : Machine) (e : Ends) (s : Standing) (bench : B) (kept : Option A) (other : Option Running) (result : LeafTurn)
-      → Begins e s → e.makes ≡ None → is_none other ≡ true → ShortTurned at IsAt did m s bench kept result → LeafTurned did m e s bench (seen_by at kept other) (IsOneOf at IsAt m e kept other) result []
-  short-turned did m e s bench kept other result b none alone t = record {
+      → Begins e s → e.makes ≡ None → AreQuiet e → is_none other ≡ true → ShortTurned at IsAt did m s bench kept result → LeafTurned did m e s bench (seen_by at kept other) (IsOneOf at IsAt m e kept other) result [] None
+  short-turned did m e s bench kept other result b none quiet alone t = record {
     going = b.going;
     few_tries = b.few_tries;
     fits = b.fits;
@@ -80,6 +82,7 @@ module _ {A : Type 0} (at : A → Standing) (IsAt : Machine → A → Type 0) wh
     turned = t.turned;
     act_is = t.act_is;
     made_is = sym (subst (λ (o : Option ℕ). AreMade o (bundles_made result.event t.stands.rest)) none gives.made);
+    facts_is = sym (gives.quiet quiet);
     seen = seen-so kept other alone t.seen;
     under_way = keeps kept other alone t.seen t.inside;
   }
@@ -101,6 +104,7 @@ module _ {A : Type 0} (at : A → Standing) (IsAt : Machine → A → Type 0) wh
             record {
               inside = inside;
               makes = none;
+              quiet = quiet;
               going = subst (λ (z : Standing). has_ended z.stage z.held ≡ false) on.1 (goes-on t.stands.stage t.stands.held (sym t.turned.2.reply ∙ on.0));
               few_tries = subst (λ (z : Standing). FewTries e z) on.1 gives.few;
               fits = subst (λ (z : Standing). FitsStage e z.stage) on.1 gives.fits;
@@ -115,18 +119,18 @@ module _ {A : Type 0} (at : A → Standing) (IsAt : Machine → A → Type 0) wh
   is-in m n e (Some k) other r same is u = subst (λ (z : Machine). IsAt z k) same u.1.inside
 
   pub short-on : {B : Type 0} (did : List Taken → B → Type 0) (m n : Machine) (e : Ends) (task : Task) (short : Option A) (other : Option Running) (bench : B) (kept : Option A) (result : LeafTurn)
-      → m ≡ n → IsOneOf at IsAt m e short other → ShortGoesOn at IsAt did n short bench kept result → LeafTurned did m e (running task (seen_by at short other)) bench (seen_by at kept other) (IsOneOf at IsAt m e kept other) result []
+      → m ≡ n → IsOneOf at IsAt m e short other → ShortGoesOn at IsAt did n short bench kept result → LeafTurned did m e (running task (seen_by at short other)) bench (seen_by at kept other) (IsOneOf at IsAt m e kept other) result [] None
   short-on did m n e task None other bench kept result same u t = absurd t
   short-on did m n e task (Some r) other bench kept result same u t =
-      short-turned did m e (at r) bench kept other result (record { going = u.1.going; few_tries = u.1.few_tries; fits = u.1.fits; oldest = u.1.oldest }) u.1.makes u.0
+      short-turned did m e (at r) bench kept other result (record { going = u.1.going; few_tries = u.1.few_tries; fits = u.1.fits; oldest = u.1.oldest }) u.1.makes u.1.quiet u.0
       (subst (λ (k : Machine). ShortTurned at IsAt did k (at r) bench kept result) (sym same) t)
 
   -- and one that begins, with a tree that is its leaf's
   pub short-begins : {B : Type 0} (did : List Taken → B → Type 0) (m n : Machine) (e : Ends) (t : Tree) (tree : Machine → Tree) (bench : B) (kept : Option A) (other : Option Running) (result : LeafTurn)
-      → m ≡ n → Begins e (standing (settle t) Trying [] None) → e.makes ≡ None → t ≡ tree m → other ≡ None → ShortTurned at IsAt did n (standing (settle (tree n)) Trying [] None) bench kept result
-      → LeafTurned did m e (standing (settle t) Trying [] None) bench (seen_by at kept other) (IsOneOf at IsAt m e kept other) result []
-  short-begins did m n e t tree bench kept other result same b none is alone turned =
-      short-turned did m e (standing (settle t) Trying [] None) bench kept other result b none (ap is_none alone)
+      → m ≡ n → Begins e (standing (settle t) Trying [] None) → e.makes ≡ None → AreQuiet e → t ≡ tree m → other ≡ None → ShortTurned at IsAt did n (standing (settle (tree n)) Trying [] None) bench kept result
+      → LeafTurned did m e (standing (settle t) Trying [] None) bench (seen_by at kept other) (IsOneOf at IsAt m e kept other) result [] None
+  short-begins did m n e t tree bench kept other result same b none quiet is alone turned =
+      short-turned did m e (standing (settle t) Trying [] None) bench kept other result b none quiet (ap is_none alone)
       (subst (λ (z : Tree). ShortTurned at IsAt did m (standing (settle z) Trying [] None) bench kept result) (sym is)
       (subst (λ (k : Machine). ShortTurned at IsAt did k (standing (settle (tree k)) Trying [] None) bench kept result) (sym same) turned))
 
@@ -135,10 +139,10 @@ module _ {A : Type 0} (at : A → Standing) (IsAt : Machine → A → Type 0) wh
   pub other-of : (m : Machine) (e : Ends) (short : Option A) (other : Option Running) → short ≡ None → IsOneOf at IsAt m e short other → IsRunOf m e other
   other-of m e short other alone u = subst (λ (s : Option A). IsOneOf at IsAt m e s other) alone u
 
-  pub other-turned : {B : Type 0} (did : List Taken → B → Type 0) (m : Machine) (e : Ends) (task : Task) (short : Option A) (other kept : Option Running) (bench : B) (result : LeafTurn) (made : List Made) → short ≡ None
-      → RunTurned did m e (running task (run_seen other)) bench kept result made → LeafTurned did m e (running task (seen_by at short other)) bench (seen_by at short kept) (IsOneOf at IsAt m e short kept) result made
-  other-turned did m e task short other kept bench result made alone turned =
-      subst (λ (k : Option A). LeafTurned did m e (running task (seen_by at k other)) bench (seen_by at k kept) (IsOneOf at IsAt m e k kept) result made) (sym alone) turned
+  pub other-turned : {B : Type 0} (did : List Taken → B → Type 0) (m : Machine) (e : Ends) (task : Task) (short : Option A) (other kept : Option Running) (bench : B) (result : LeafTurn) (made : List Made) {facts : Option Facts} → short ≡ None
+      → RunTurned did m e (running task (run_seen other)) bench kept result made facts → LeafTurned did m e (running task (seen_by at short other)) bench (seen_by at short kept) (IsOneOf at IsAt m e short kept) result made facts
+  other-turned did m e task short other kept bench result made {facts = facts} alone turned =
+      subst (λ (k : Option A). LeafTurned did m e (running task (seen_by at k other)) bench (seen_by at k kept) (IsOneOf at IsAt m e k kept) result made facts) (sym alone) turned
 
   -- only one of the two is kept
   pub short-alone : (m : Machine) (e : Ends) (short : Option A) (other : Option Running) → IsOneOf at IsAt m e short other → is_some other ≡ true → is_none short ≡ true

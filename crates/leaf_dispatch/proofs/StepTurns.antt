@@ -1,5 +1,6 @@
 -- A turn of the run of a guest's step is a turn of its processor.
 use Rattle.std.proofs.Common.{◌≡◌, ℕ, ◌+◌, ◌-◌, ◌*◌, ◌<◌, ◌≤◌, List, [], length, Option, Some, None, slice_get, refl, ap, sym, ◌∙◌, subst, arith}
+use Rattle.report_core.specs.declared.facts.Facts.{Facts}
 use Rattle.td_words.specs.declared.calls.Call.{Call}
 use Rattle.td_words.specs.declared.calls.GuestOp.{GuestOp}
 use Rattle.td_words.specs.declared.calls.GuestOp.TheVariants as op
@@ -18,7 +19,7 @@ use Rattle.leaf_engine.specs.Turns.{Standing}
 use Rattle.leaf_engine.specs.OwnLists.{Piece, taken_in, TurnsInPieces, WordLp, running, after_step, GuestTurn}
 use Rattle.leaf_table.specs.Ends.{Ends, step_answer, step_ends}
 use Rattle.guest_turns.specs.Turns.{turn_of}
-use Rattle.leaf_dispatch.specs.Answers.{beside_by}
+use Rattle.leaf_dispatch.specs.Answers.{answer_with, beside_by}
 use Rattle.leaf_dispatch.specs.Bounds.{stage_used, run_used, step_used, unless_leaving, guest_left}
 use Rattle.leaf_dispatch.specs.Guests.{guest_seen, unless_left, next_in}
 use Rattle.leaf_table.specs.Given.{Given}
@@ -44,16 +45,16 @@ pub record GuestMoved {B : Type 0} (did : List Taken → B → Type 0) (bench : 
   pub turn : GuestTurn (place_table p given codes) p.machine c cs line g rs b result.event pieces q
   pub shows : P (taken_in pieces)
 
-guest-moves-at : TurnsInPieces → {B : Type 0} (did : List Taken → B → Type 0) (bench : B) (p : Place) (given : Given) (codes : ℕ → ℕ → List GuestOp) (c : Call) (cs : List Call) (line : Standing) (g : WordGuest) (rs : List Reply) (b : Beside) (kept : StepRun) (q : WordLp) (result : LeafTurn) (P : List Taken → Type 0)
-    → let s = step_of codes b.cached g in let e = step_ends g.tdr (length rs + 1) s in (t : StepTurned did p.machine e (running (step_task given p g.tdr g.vp (length rs + 1) s) g.run) bench kept result)
-    → P t.turned.0 → q ≡ after_step c cs line g rs (beside_by e.answer [] result.act b) s t.stands result.reply → GuestMoved did bench p given codes c cs line g rs b q result P
-guest-moves-at law did bench p given codes c cs line g rs b kept q result P t made after =
+guest-moves-at : TurnsInPieces → {B : Type 0} (did : List Taken → B → Type 0) (bench : B) (p : Place) (given : Given) (codes : ℕ → ℕ → List GuestOp) (c : Call) (cs : List Call) (line : Standing) (g : WordGuest) (rs : List Reply) (b : Beside) (kept : StepRun) (q : WordLp) (result : LeafTurn) (facts : Option Facts) (P : List Taken → Type 0)
+    → let s = step_of codes b.cached g in let e = step_ends g.tdr (length rs + 1) s in (t : StepTurned did p.machine e (running (step_task given p g.tdr g.vp (length rs + 1) s) g.run) bench kept result facts)
+    → P t.turned.0 → q ≡ after_step c cs line g rs (beside_by (answer_with e facts) [] result.act b) s t.stands result.reply → GuestMoved did bench p given codes c cs line g rs b q result P
+guest-moves-at law did bench p given codes c cs line g rs b kept q result facts P t made after =
     let s : Step = step_of codes b.cached g in
     let e : Ends = step_ends g.tdr (length rs + 1) s in
     let run : Standing = running (step_task given p g.tdr g.vp (length rs + 1) s) g.run in
     let told = law.told p.machine run t.stands t.turned.0 (turn_of result) t.turned.2 in
     let gives : Gives e run t.stands result.event = turn-gives p.machine e run t.stands t.turned.0 result.event t.few_tries t.fits t.oldest t.turned.2.turn in
-    let besides : beside_by e.answer [] result.act b ≡ beside_after result.event t.stands.rest b = (λ i. beside_by e.answer (t.made_is i) (t.act_is i) b) ∙ sym (gives.beside b) in
+    let besides : beside_by (answer_with e facts) [] result.act b ≡ beside_after result.event t.stands.rest b = (λ i. beside_by (answer_with e (t.facts_is i)) (t.made_is i) (t.act_is i) b) ∙ sym (gives.beside b) in
     record {
       pieces = told.0;
       did_them = subst (λ (zs : List Taken). did zs bench) (sym told.2) t.turned.1;
@@ -70,15 +71,15 @@ guest-moves-at law did bench p given codes c cs line g rs b kept q result P t ma
     }
 
 -- whatever its step is
-pub guest-moves : TurnsInPieces → {B : Type 0} (did : List Taken → B → Type 0) (bench : B) (p : Place) (given : Given) (codes : ℕ → ℕ → List GuestOp) (c : Call) (cs : List Call) (line : Standing) (g : WordGuest) (rs : List Reply) (b : Beside) (kept : StepRun) (q : WordLp) (result : LeafTurn) (P : List Taken → Type 0)
-    (s : Step) → step_of codes b.cached g ≡ s → let e = step_ends g.tdr (length rs + 1) s in (t : StepTurned did p.machine e (running (step_task given p g.tdr g.vp (length rs + 1) s) g.run) bench kept result)
-    → P t.turned.0 → q ≡ after_step c cs line g rs (beside_by e.answer [] result.act b) s t.stands result.reply → GuestMoved did bench p given codes c cs line g rs b q result P
-guest-moves law did bench p given codes c cs line g rs b kept q result P s is =
+pub guest-moves : TurnsInPieces → {B : Type 0} (did : List Taken → B → Type 0) (bench : B) (p : Place) (given : Given) (codes : ℕ → ℕ → List GuestOp) (c : Call) (cs : List Call) (line : Standing) (g : WordGuest) (rs : List Reply) (b : Beside) (kept : StepRun) (q : WordLp) (result : LeafTurn) (facts : Option Facts) (P : List Taken → Type 0)
+    (s : Step) → step_of codes b.cached g ≡ s → let e = step_ends g.tdr (length rs + 1) s in (t : StepTurned did p.machine e (running (step_task given p g.tdr g.vp (length rs + 1) s) g.run) bench kept result facts)
+    → P t.turned.0 → q ≡ after_step c cs line g rs (beside_by (answer_with e facts) [] result.act b) s t.stands result.reply → GuestMoved did bench p given codes c cs line g rs b q result P
+guest-moves law did bench p given codes c cs line g rs b kept q result facts P s is =
     subst
-    (λ (z : Step). let e = step_ends g.tdr (length rs + 1) z in (t : StepTurned did p.machine e (running (step_task given p g.tdr g.vp (length rs + 1) z) g.run) bench kept result) → P t.turned.0 → q ≡ after_step c cs line g rs (beside_by e.answer [] result.act b) z t.stands result.reply
+    (λ (z : Step). let e = step_ends g.tdr (length rs + 1) z in (t : StepTurned did p.machine e (running (step_task given p g.tdr g.vp (length rs + 1) z) g.run) bench kept result facts) → P t.turned.0 → q ≡ after_step c cs line g rs (beside_by (answer_with e facts) [] result.act b) z t.stands result.reply
     → GuestMoved did bench p given codes c cs line g rs b q result P)
     is
-    (guest-moves-at law did bench p given codes c cs line g rs b kept q result P)
+    (guest-moves-at law did bench p given codes c cs line g rs b kept q result facts P)
 
 -- an operation leaves what is cached
 pub cached-stays : (t line : ℕ) (o : GuestOp) (r : Reply) (ts : List Translation) → (step_answer t line (Operates o) r).cached ts ≡ ts

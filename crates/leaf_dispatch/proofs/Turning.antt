@@ -1,5 +1,6 @@
 -- A turn of the run of the present line is a turn of its processor.
 use Rattle.std.proofs.Common.{◌≡◌, ℕ, ◌+◌, ◌%◌, ◌<◌, ◌≤◌, List, [], ◌∷◌, ◌++◌, length, Option, Some, None, refl, ap, sym, ◌∙◌, subst, arith}
+use Rattle.report_core.specs.declared.facts.Facts.{Facts}
 use Rattle.td_words.specs.declared.machines.Machine.{Machine}
 use Rattle.td_words.specs.declared.calls.Call.{Call}
 use Rattle.td_words.specs.declared.calls.GuestOp.{GuestOp}
@@ -16,7 +17,7 @@ use Rattle.leaf_engine.specs.Turns.{Standing}
 use Rattle.leaf_engine.specs.OwnLists.{Piece, taken_in, TurnsInPieces, WordLp, running, after_turn, LineTurn, LpTurns}
 use Rattle.leaf_table.specs.Ends.{Ends, call_answer, call_ends}
 use Rattle.guest_turns.specs.Turns.{turn_of}
-use Rattle.leaf_dispatch.specs.Answers.{beside_by, guest_by}
+use Rattle.leaf_dispatch.specs.Answers.{answer_with, beside_by, guest_by}
 use Rattle.leaf_dispatch.specs.Bounds.{stage_left, run_left, events_left}
 use Rattle.leaf_table.specs.Given.{Given}
 use Rattle.leaf_table.specs.Table.{task_of, place_table}
@@ -27,7 +28,7 @@ use Rattle.guest_turns.specs.declared.runs.LeafTurn.{LeafTurn}
 use Rattle.leaf_dispatch.proofs.Lowering.{Gives, turn-gives}
 
 -- the present line's run before, and what its turn gives
-pub line-gives : {B : Type 0} (did : List Taken → B → Type 0) (bench : B) (m : Machine) (e : Ends) (s : Standing) {kept : Option Standing} {Keeps : Type 0} (result : LeafTurn) (made : List Made) → (t : LeafTurned did m e s bench kept Keeps result made) → Gives e s t.stands result.event
+pub line-gives : {B : Type 0} (did : List Taken → B → Type 0) (bench : B) (m : Machine) (e : Ends) (s : Standing) {kept : Option Standing} {Keeps : Type 0} {facts : Option Facts} (result : LeafTurn) (made : List Made) → (t : LeafTurned did m e s bench kept Keeps result made facts) → Gives e s t.stands result.event
 line-gives did bench m e s result made t = turn-gives m e s t.stands t.turned.0 result.event t.few_tries t.fits t.oldest t.turned.2.turn
 
 pub record LineMoved {B : Type 0} (did : List Taken → B → Type 0) (bench : B) (given : Given) (p : Place) (c : Call) (cs : List Call) (run : Option Standing) (g : Option WordGuest) (rs : List Reply) (b : Beside) (q : WordLp) (result : LeafTurn) : Type 0 where
@@ -40,14 +41,14 @@ abbrev pub after_line : Call → List Call → Option WordGuest → List Reply �
 after_line c cs g rs b s t made = after_turn c cs (guest_by (call_answer c) t.act g) rs (beside_by (call_answer c) made t.act b) s t.reply
 
 pub line-moves : TurnsInPieces → {B : Type 0} (did : List Taken → B → Type 0) (bench : B) (given : Given) (p : Place) (c : Call) (cs : List Call) (run : Option Standing) (g : Option WordGuest) (rs : List Reply) (b : Beside) {kept : Option Standing} {Keeps : Type 0} (q : WordLp) (result : LeafTurn) (made : List Made)
-    → (t : LeafTurned did p.machine (call_ends p.machine c) (running (task_of given p c) run) bench kept Keeps result made) → q ≡ after_line c cs g rs b t.stands result made
+    → (t : LeafTurned did p.machine (call_ends p.machine c) (running (task_of given p c) run) bench kept Keeps result made None) → q ≡ after_line c cs g rs b t.stands result made
     → LineMoved did bench given p c cs run g rs b q result
 line-moves law did bench given p c cs run g rs b q result made t after =
     let s = running (task_of given p c) run in
     let told = law.told p.machine s t.stands t.turned.0 (turn_of result) t.turned.2 in
     let gives : Gives (call_ends p.machine c) s t.stands result.event = line-gives did bench p.machine (call_ends p.machine c) s result made t in
     let guest : guest_by (call_answer c) result.act g ≡ guest_after result.event t.stands.rest g = ap (λ (z : Option Reply). guest_by (call_answer c) z g) t.act_is ∙ sym (gives.guest g) in
-    let besides : beside_by (call_answer c) made result.act b ≡ beside_after result.event t.stands.rest b = (λ i. beside_by (call_answer c) (t.made_is i) (t.act_is i) b) ∙ sym (gives.beside b) in
+    let besides : beside_by (call_answer c) made result.act b ≡ beside_after result.event t.stands.rest b = (λ i. beside_by (answer_with (call_ends p.machine c) (t.facts_is i)) (t.made_is i) (t.act_is i) b) ∙ sym (gives.beside b) in
     record {
       pieces = told.0;
       did_them = subst (λ (zs : List Taken). did zs bench) (sym told.2) t.turned.1;

@@ -76,6 +76,7 @@ module _ (codes : ℕ → ℕ → List GuestOp) (ts : List Translation) (g : Wor
   by-operation stays more (op.Add r s) at e = cc
   by-operation stays more (op.Accept n) at e = cc
   by-operation stays more (op.Rtmr i) at e = cc
+  by-operation stays more op.Report at e = cc
   by-operation stays more (op.Vmcall r) at e = cc
 
   by-count : g.leaving ≡ None → (o : GuestOp) → slice_get (codes g.tdr g.index) g.position ≡ Some o → (b : Bool) → nat_le g.most g.completed ≡ b → due_is (if b then Leaves Max else operation_step ts g o) → goal

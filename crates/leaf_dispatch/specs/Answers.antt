@@ -1,5 +1,6 @@
 -- What a run keeps on its way, by what its leaf comes to, and what its act makes of its processor.
 use Rattle.std.specs.Prelude.{◌≡◌, ℕ, ◌-◌, ◌≤◌, Bool, true, false, ◌||◌, Option, Some, None, List, [], ◌∷◌, length}
+use Rattle.report_core.specs.declared.facts.Facts.{Facts}
 use Rattle.td_words.specs.declared.refusals.Status.TheVariants.{OperandBusy}
 use Rattle.td_words.specs.declared.replies.Reply.{Reply}
 use Rattle.td_words.specs.declared.replies.Reply.TheVariants.{Refused}
@@ -12,7 +13,7 @@ use Rattle.leaf_engine.specs.Trees.{Answer, added}
 use Rattle.leaf_engine.specs.Besides.{Beside}
 use Rattle.leaf_engine.specs.Turns.{Standing}
 use Rattle.leaf_engine.specs.Guests.{WordGuest, is_epoch_name, guest_entered, or_else}
-use Rattle.leaf_table.specs.Ends.{Ends, EndsAs, BeginsUnderOther}
+use Rattle.leaf_table.specs.Ends.{Ends, with_report, EndsAs, BeginsUnderOther}
 
 -- it holds no more locks than its leaf tries; and on its way the rest of its tree is so
 abbrev pub FewTries : Ends → Standing → Type 0
@@ -36,6 +37,10 @@ OldestIsOther (h ∷ hs) s = is_epoch_name h.name ≡ false
 abbrev pub guest_by : (Reply → Answer) → Option Reply → Option WordGuest → Option WordGuest
 guest_by answer None g = g
 guest_by answer (Some r) g = or_else (guest_entered (answer r)) g
+
+-- its answer by its reply, with the facts that it reported
+abbrev pub answer_with : Ends → Option Facts → Reply → Answer
+answer_with e f r = with_report e.reports f (e.answer r)
 
 -- what it makes of its processor, part by part, and with the bundles that the turn made
 abbrev pub cached_by : (Reply → Answer) → Option Reply → List Translation → List Translation

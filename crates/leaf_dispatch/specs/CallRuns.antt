@@ -1,5 +1,5 @@
 -- What contracts see of the run of a call: of a host access, or of another leaf.
-use Rattle.std.specs.Prelude.{List, [], ◌∷◌, Option}
+use Rattle.std.specs.Prelude.{List, [], ◌∷◌, Option, None}
 use Rattle.std.proofs.Props.{props}
 use Rattle.td_words.specs.declared.machines.Machine.{Machine}
 use Rattle.td_words.specs.declared.calls.Call.{Call}
@@ -27,9 +27,9 @@ abbrev pub IsCallRunAt : Machine → List Call → CallRun → Type 0
 IsCallRunAt m [] k = Unit {0}
 IsCallRunAt m (c ∷ cs) k = IsCallRunOf m (call_ends m c) k
 
--- the next turn of the run of a call, with the bundles that it made
+-- the next turn of the run of a call, with the bundles that it made: it reports nothing
 abbrev pub CallTurned : {B : Type 0} → (List Taken → B → Type 0) → Machine → Ends → Standing → B → CallRun → LeafTurn → List Made → Type 0
-CallTurned did m e s bench kept result made = LeafTurned did m e s bench (call_run_seen kept) (IsCallRunOf m e kept) result made
+CallTurned did m e s bench kept result made = LeafTurned did m e s bench (call_run_seen kept) (IsCallRunOf m e kept) result made None
 
 -- each has one proof
 

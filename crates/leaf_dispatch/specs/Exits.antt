@@ -1,5 +1,6 @@
 -- The count step of an exit, made at once, and what a guest's turn tells of it.
-use Rattle.std.specs.Prelude.{◌≡◌, ℕ, ◌+◌, ◌-◌, ◌%◌, ◌^◌, List, [], ◌∷◌}
+use Rattle.std.specs.Prelude.{◌≡◌, ℕ, ◌+◌, ◌-◌, ◌%◌, ◌^◌, List, [], ◌∷◌, Option}
+use Rattle.report_core.specs.declared.facts.Facts.{Facts}
 use Rattle.td_words.specs.Address.{word_at}
 use Rattle.td_words.specs.declared.machines.Machine.{Machine}
 use Rattle.td_words.specs.declared.places.TheConstants.{TDR_TDCS, TDCS_ENTERED, VP_LAST_EPOCH}
@@ -32,5 +33,5 @@ abbrev pub IsCounted : Step → (parity : ℕ) → List Taken → Type 0
 IsCounted (Leaves outcome) n xs = n ≡ epoch_loaded xs % 2
 IsCounted _ n xs = Unit {0}
 
-abbrev pub StepCounted : {B : Type 0} → (List Taken → B → Type 0) → Machine → Ends → Standing → B → StepRun → LeafTurn → Step → (parity : ℕ) → Type 0
-StepCounted did m e s bench kept result step n = (t : StepTurned did m e s bench kept result) × IsCounted step n t.turned.0
+abbrev pub StepCounted : {B : Type 0} → (List Taken → B → Type 0) → Machine → Ends → Standing → B → StepRun → LeafTurn → Step → (parity : ℕ) → Option Facts → Type 0
+StepCounted did m e s bench kept result step n facts = (t : StepTurned did m e s bench kept result facts) × IsCounted step n t.turned.0

@@ -52,7 +52,7 @@ IsNext o s u p l l' turn.Ended = (next_event o s p ≡ None) × LpStands o s u p
 -- bundles that have come in by then, the turn of a processor that stands where that state has it is its next event, after which it
 -- stands where the state after that event has it; and it has ended exactly where no line is left. So it is in each state that a
 -- schedule of at most eight processors leads to from one opening.
-pub record ProcessorsFollow : Type 0 where
+pub record LpStatesFollow : Type 0 where
   pub starts : (o : Opening) (p : ℕ) (l : LpState) → seen_of l ≡ first_lp (calls_of o.calls p) → LpStands o (start o None) no_table p l
   pub follow : (o : Opening) (s : State) (p : ℕ) (l l' : LpState) (t u : Table) (r : Turn) → IsMachine o.machine → AreCodes o → IsRunning o s → IsProcessor o p l
       → LpStands o s t p l → Turned Moves (λ z. events_left (code_in z.codes.now) (seen_of z)) (PlaysTo t) l u l' r → has_moved r ≡ not (length l.lines.now == 0) → IsNext o s u p l l' r

@@ -1,10 +1,14 @@
 -- What contracts see of the guest that a logical processor is in, and of its next step.
-use Rattle.std.specs.Prelude.{◌≡◌, ℕ, ◌<◌, ◌≤◌, Bool, true, if◌then◌else◌, Option, Some, None, option_map, List, [], ◌∷◌, slice_get, length}
+use Rattle.std.specs.Prelude.{◌≡◌, ℕ, ◌<◌, ◌≤◌, Bool, true, if◌then◌else◌, Option, Some, None, option_map, List, [], ◌∷◌, ◌++◌, slice_get, slice_index_or, vec_capacity, get_or, length}
+use Rattle.std.specs.List.{All}
+use Rattle.std.specs.Global.{Vec}
+use Rattle.std.proofs.Props.{props}
+use Rattle.report_core.specs.declared.facts.Facts.{Facts}
 use Rattle.td_words.specs.declared.replies.Outcome.{Outcome}
 use Rattle.td_words.specs.declared.replies.Reply.{Reply}
 use Rattle.td_words.specs.declared.replies.Reply.TheVariants.{Done, Refused, Exited}
 use Rattle.td_words.specs.declared.replies.Value.TheVariants as value
-use Rattle.flat_core.specs.Processor.{Translation, Walk, Note, LoadNote, RtmrNote}
+use Rattle.flat_core.specs.Processor.{Translation, Walk, Note, LoadNote, RtmrNote, ReportNote}
 use Rattle.flat_core.specs.Digests.{digest_word, six_words}
 use Rattle.report_text.specs.declared.guest.GuestNote.{GuestNote}
 use Rattle.report_text.specs.declared.guest.GuestNote.TheVariants as note
@@ -83,14 +87,37 @@ unless left g = if left then None else Some g
 abbrev pub IsStepped : GuestAt → Step → Reply → Option GuestAt → Type 0
 IsStepped g s r h = (run : Option Standing) → option_map (λ z. guest_seen z None) h ≡ stepped s r (guest_seen g run)
 
--- what its guests noted, and the words that they told
-abbrev pub note_seen : GuestNote → Note
-note_seen (note.Load line gpa word) = LoadNote line gpa word
-note_seen (note.Rtmr line index digest) = RtmrNote line index (six_words (digest_word digest))
+-- the facts that stand at a place of those that a processor keeps
+abbrev pub no_facts : Facts
+no_facts = record { mrtd = []; rtmr0 = []; rtmr1 = []; rtmr2 = []; rtmr3 = []; given = [] }
 
-abbrev pub notes_in : Option GuestNote → List Note
-notes_in None = []
-notes_in (Some n) = note_seen n ∷ []
+abbrev pub facts_at : List Facts → (place : ℕ) → Facts
+facts_at reports place = slice_index_or reports place no_facts
+
+-- what its guests noted, and the words that they told
+abbrev pub note_seen : List Facts → GuestNote → Note
+note_seen reports (note.Load line gpa word) = LoadNote line gpa word
+note_seen reports (note.Rtmr line index digest) = RtmrNote line index (six_words (digest_word digest))
+note_seen reports (note.Report line place) = ReportNote line (facts_at reports place)
+
+-- a report's facts are among so many that are kept
+abbrev pub IsPlaced : ℕ → GuestNote → Type 0
+IsPlaced n (note.Report line place) = place < n
+IsPlaced n _ = Unit {0}
+
+abbrev pub notes_in : List Facts → Option GuestNote → List Note
+notes_in reports None = []
+notes_in reports (Some n) = note_seen reports n ∷ []
+
+-- the facts of a turn, in a list
+abbrev pub facts_in : Option Facts → List Facts
+facts_in None = []
+facts_in (Some f) = f ∷ []
+
+-- what is kept of them before and after such a turn
+pub record HasReported (before : Vec Facts) (f : Option Facts) (after : Vec Facts) : Type 0 where
+  pub kept : after.items ≡ before.items ++ facts_in f
+  pub room : vec_capacity before ≤ vec_capacity after
 
 abbrev pub words_in : Option ℕ → List ℕ
 words_in None = []
@@ -100,3 +127,12 @@ words_in (Some x) = x ∷ []
 abbrev pub IsNextGuest : GuestAt → Step → Option Reply → Option GuestAt → Type 0
 IsNextGuest g s None h = h ≡ Some g
 IsNextGuest g s (Some r) h = IsStepped g s r h
+
+-- that all are has one proof
+IsPlaced-prop : (n : ℕ) (x : GuestNote) → IsProp (IsPlaced n x)
+IsPlaced-prop n (note.Load line gpa word) = hlevel
+IsPlaced-prop n (note.Rtmr line index digest) = hlevel
+IsPlaced-prop n (note.Report line place) = hlevel props
+
+pub ArePlaced-prop : (n : ℕ) (notes : List GuestNote) → IsProp (All (IsPlaced n) notes)
+ArePlaced-prop n notes = hlevel (λ (k : ℕ) (d : GuestNote) (l : k < length notes). IsPlaced-prop n (get_or notes k d))

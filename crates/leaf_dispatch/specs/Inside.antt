@@ -85,6 +85,7 @@ IsOperation-prop (op.Load r gpa) = hlevel props
 IsOperation-prop (op.Store r gpa) = hlevel props
 IsOperation-prop (op.Accept gpa) = hlevel props
 IsOperation-prop (op.Rtmr i) = hlevel props
+IsOperation-prop op.Report = hlevel
 IsOperation-prop (op.Vmcall r) = hlevel props
 
 pub AreOperations-prop : (codes : List CodeSeen) → IsProp (AreOperations codes)

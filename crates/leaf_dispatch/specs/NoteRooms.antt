@@ -1,7 +1,9 @@
 -- How many notes, and how many told words, a processor's guests can still make at most, where no list of operations is longer
--- than this: one for each operation that may still be made.
-use Rattle.std.specs.Prelude.{ℕ, ◌+◌, ◌-◌, nat_lt, if◌then◌else◌, List, [], ◌∷◌, length, Option, Some, None}
+-- than this: one for each operation that may still be made; and of how many reports the facts.
+use Rattle.std.specs.Prelude.{ℕ, ◌+◌, ◌-◌, Bool, true, false, drop, nat_lt, if◌then◌else◌, List, [], ◌∷◌, length, Option, Some, None}
 use Rattle.td_words.specs.Seen.{CodeSeen}
+use Rattle.td_words.specs.declared.calls.GuestOp.{GuestOp}
+use Rattle.td_words.specs.declared.calls.GuestOp.TheVariants as op
 use Rattle.td_words.specs.declared.calls.Call.{Call}
 use Rattle.td_words.specs.declared.calls.Call.TheVariants as call
 use Rattle.leaf_engine.specs.declared.events.Stage.{Stage}
@@ -25,9 +27,12 @@ abbrev pub call_room : ℕ → Call → ℕ
 call_room longest (call.VpEnter tdr vp most) = least most longest
 call_room longest _ = 0
 
+abbrev pub lines_sum : (Call → ℕ) → List Call → ℕ
+lines_sum room [] = 0
+lines_sum room (c ∷ cs) = room c + lines_sum room cs
+
 abbrev pub lines_room : ℕ → List Call → ℕ
-lines_room longest [] = 0
-lines_room longest (c ∷ cs) = call_room longest c + lines_room longest cs
+lines_room longest cs = lines_sum (call_room longest) cs
 
 -- none once it is answered
 abbrev pub stage_room : ℕ → Stage → ℕ
@@ -60,3 +65,39 @@ room_of longest (c ∷ cs) run g = now_room longest c run g + lines_room longest
 
 abbrev pub room_left : ℕ → WordLp → ℕ
 room_left longest p = room_of longest p.lines p.run p.guest
+
+-- Reports, whose facts are kept apart: how many of a list's operations are reports, and of the list that has most
+abbrev pub is_report : GuestOp → Bool
+is_report op.Report = true
+is_report _ = false
+
+abbrev pub reports_in : List GuestOp → ℕ
+reports_in [] = 0
+reports_in (o ∷ os) = (if is_report o then 1 else 0) + reports_in os
+
+abbrev pub most_reports : List CodeSeen → ℕ
+most_reports [] = 0
+most_reports (c ∷ cs) = if nat_lt (reports_in c.ops) (most_reports cs) then most_reports cs else reports_in c.ops
+
+-- a guest that a call enters may make so many
+abbrev pub call_reports : ℕ → Call → ℕ
+call_reports most (call.VpEnter tdr vp max) = most
+call_reports most _ = 0
+
+abbrev pub lines_reports : ℕ → List Call → ℕ
+lines_reports most cs = lines_sum (call_reports most) cs
+
+-- those of its list that are still to come: that of an operation whose act is done has been made
+abbrev pub guest_reports : (ℕ → ℕ → List GuestOp) → WordGuest → ℕ
+guest_reports codes g = unless_leaving g.leaving (reports_in (drop (g.position + run_made g.run) (codes g.tdr g.index)))
+
+abbrev pub now_reports : ℕ → (ℕ → ℕ → List GuestOp) → Call → Option Standing → Option WordGuest → ℕ
+now_reports most codes c run None = run_room (call_reports most c) run
+now_reports most codes c run (Some g) = guest_reports codes g
+
+abbrev pub reports_of : ℕ → (ℕ → ℕ → List GuestOp) → List Call → Option Standing → Option WordGuest → ℕ
+reports_of most codes [] run g = 0
+reports_of most codes (c ∷ cs) run g = now_reports most codes c run g + lines_reports most cs
+
+abbrev pub reports_left : ℕ → (ℕ → ℕ → List GuestOp) → WordLp → ℕ
+reports_left most codes p = reports_of most codes p.lines p.run p.guest

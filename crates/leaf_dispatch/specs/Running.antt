@@ -1,5 +1,6 @@
 -- What contracts see of the run of a leaf, and what it keeps between its turns.
 use Rattle.std.specs.Prelude.{◌≡◌, ℕ, Bool, false, List, [], Option, Some, None}
+use Rattle.report_core.specs.declared.facts.Facts.{Facts}
 use Rattle.td_words.specs.declared.machines.Machine.{Machine}
 use Rattle.td_words.specs.declared.replies.Reply.{Reply}
 use Rattle.flat_core.specs.World.{Made}
@@ -8,7 +9,7 @@ use Rattle.leaf_engine.specs.declared.events.Event.{Event}
 use Rattle.leaf_engine.specs.declared.events.RunTurn.{RunTurn}
 use Rattle.leaf_engine.specs.declared.events.Stage.{Stage}
 use Rattle.leaf_engine.specs.declared.events.Stage.TheVariants as stage
-use Rattle.leaf_engine.specs.Besides.{bundles_made}
+use Rattle.leaf_engine.specs.Besides.{bundles_made, facts_made}
 use Rattle.leaf_engine.specs.Turns.{Standing, standing, CanRun, Turned, has_ended}
 use Rattle.leaf_table.specs.Leaves.{leaf_seen}
 use Rattle.leaf_table.specs.PageRooms.{is_spare, leaf_room}
@@ -64,6 +65,11 @@ abbrev pub made_in_run : Option Running → Event → List Made
 made_in_run None e = []
 made_in_run (Some r) e = bundles_made e (leaf_seen r.run.leaf).rest
 
+-- the facts that it has reported with it
+abbrev pub facts_in_run : Option Running → Event → Option Facts
+facts_in_run None e = None
+facts_in_run (Some r) e = facts_made e (leaf_seen r.run.leaf).rest
+
 -- the room for a page's words is spare, or the run that is kept has it
 abbrev pub holds_room : Option (List ℕ) → Option Running → Bool
 holds_room spare None = is_spare spare
@@ -74,8 +80,9 @@ abbrev pub kept_until : Option Reply → Option Running → Option Running
 kept_until None kept = kept
 kept_until (Some reply) kept = None
 
--- the next turn of a leaf's run, which stood there; what is kept of the run, and what is so of that; and the bundles that it made
-pub record LeafTurned {B : Type 0} (did : List Taken → B → Type 0) (m : Machine) (e : Ends) (s : Standing) (bench : B) (kept : Option Standing) (Keeps : Type 0) (result : LeafTurn) (made : List Made) : Type 0 where
+-- the next turn of a leaf's run, which stood there; what is kept of the run, and what is so of that; the bundles that it
+-- made, and the facts that it reported
+pub record LeafTurned {B : Type 0} (did : List Taken → B → Type 0) (m : Machine) (e : Ends) (s : Standing) (bench : B) (kept : Option Standing) (Keeps : Type 0) (result : LeafTurn) (made : List Made) (facts : Option Facts) : Type 0 where
   pub going : has_ended s.stage s.held ≡ false
   pub few_tries : FewTries e s
   pub fits : FitsStage e s.stage
@@ -84,12 +91,13 @@ pub record LeafTurned {B : Type 0} (did : List Taken → B → Type 0) (m : Mach
   pub turned : Turned did m s bench stands (turn_of result)
   pub act_is : result.act ≡ act_of result.event stands.stage
   pub made_is : made ≡ bundles_made result.event stands.rest
+  pub facts_is : facts ≡ facts_made result.event stands.rest
   pub seen : kept ≡ kept_after result.reply stands
   pub under_way : Keeps
 
 -- the same of a run that is kept so
-abbrev pub RunTurned : {B : Type 0} → (List Taken → B → Type 0) → Machine → Ends → Standing → B → Option Running → LeafTurn → List Made → Type 0
-RunTurned did m e s bench kept result made = LeafTurned did m e s bench (run_seen kept) (IsRunOf m e kept) result made
+abbrev pub RunTurned : {B : Type 0} → (List Taken → B → Type 0) → Machine → Ends → Standing → B → Option Running → LeafTurn → List Made → Option Facts → Type 0
+RunTurned did m e s bench kept result made facts = LeafTurned did m e s bench (run_seen kept) (IsRunOf m e kept) result made facts
 
 -- a run that was answered, and answers something else
 abbrev pub answered_with : Reply → Standing → Standing

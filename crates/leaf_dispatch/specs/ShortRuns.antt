@@ -1,6 +1,8 @@
 -- What contracts see of a run that is kept in a small record, or else as the run of another leaf.
 use Rattle.std.specs.Prelude.{◌≡◌, true, false, is_none, Option, Some, None}
 use Rattle.std.proofs.Props.{props}
+use Rattle.td_words.specs.declared.replies.Reply.{Reply}
+use Rattle.leaf_engine.specs.Besides.{reported}
 use Rattle.td_words.specs.declared.machines.Machine.{Machine}
 use Rattle.leaf_engine.specs.Turns.{Standing, has_ended}
 use Rattle.leaf_table.specs.Ends.{Ends}
@@ -14,10 +16,11 @@ abbrev pub seen_by : {A : Type 0} → (A → Standing) → Option A → Option R
 seen_by stands None other = run_seen other
 seen_by stands (Some r) other = Some (stands r)
 
--- one in a small record is on its way: it makes no bundle, has something left to do, and comes to what its leaf does
+-- one in a small record is on its way: it makes no bundle and reports nothing, has something left to do, and comes to what its leaf does
 pub record IsShortOf {A : Type 0} (stands : A → Standing) (IsAt : Machine → A → Type 0) (m : Machine) (e : Ends) (r : A) : Type 0 where
   pub inside : IsAt m r
   pub makes : e.makes ≡ None
+  pub quiet : (e.reports ≡ None) × ((r : Reply) → reported (e.answer r).notes ≡ None)
   pub going : has_ended (stands r).stage (stands r).held ≡ false
   pub few_tries : FewTries e (stands r)
   pub fits : FitsStage e (stands r).stage

@@ -19,7 +19,7 @@ seen_of s = record {
   run = call_run_seen s.run;
   guest = guest_in s.guest s.step_run;
   replies = s.replies.items;
-  beside = record { cached = s.cached; notes = map note_seen s.notes.items; told = s.told.items; bundles = s.bundles.made };
+  beside = record { cached = s.cached; notes = map (note_seen s.reports.items) s.notes.items; told = s.told.items; bundles = s.bundles.made };
 }
 
 -- its next turn tells this event, in these pieces, of a processor whose calls and steps have the leaves of the table

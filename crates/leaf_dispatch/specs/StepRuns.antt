@@ -1,6 +1,7 @@
 -- What contracts see of the run of a guest's step: of a shared access, or of another leaf.
 use Rattle.std.specs.Prelude.{List, [], Option}
 use Rattle.std.proofs.Props.{props}
+use Rattle.report_core.specs.declared.facts.Facts.{Facts}
 use Rattle.td_words.specs.declared.machines.Machine.{Machine}
 use Rattle.step_core.specs.declared.items.Taken.{Taken}
 use Rattle.leaf_engine.specs.Turns.{Standing}
@@ -21,8 +22,8 @@ abbrev pub IsStepRunOf : Machine → Ends → StepRun → Type 0
 IsStepRunOf m e k = IsOneOf standing_of IsIn m e k.shared k.other
 
 -- the next turn of the run of a step, which makes no bundle
-abbrev pub StepTurned : {B : Type 0} → (List Taken → B → Type 0) → Machine → Ends → Standing → B → StepRun → LeafTurn → Type 0
-StepTurned did m e s bench kept result = LeafTurned did m e s bench (step_run_seen kept) (IsStepRunOf m e kept) result []
+abbrev pub StepTurned : {B : Type 0} → (List Taken → B → Type 0) → Machine → Ends → Standing → B → StepRun → LeafTurn → Option Facts → Type 0
+StepTurned did m e s bench kept result facts = LeafTurned did m e s bench (step_run_seen kept) (IsStepRunOf m e kept) result [] facts
 
 -- each has one proof
 

@@ -1,11 +1,13 @@
 //! What becomes of a logical processor by the reply of a leaf's act: of its cached translations and
 //! its guest, and what it notes and tells.
 
-ghost use Rattle.std.specs.Prelude.{◌≡◌, ℕ, ◌<◌, true, None, IfSome, option_map};
+ghost use Rattle.std.specs.Prelude.{◌≡◌, ℕ, ◌<◌, true, List, None, IfSome, option_map};
+ghost use Rattle.report_core.specs.declared.facts.Facts.{Facts};
 ghost use Rattle.leaf_engine.specs.Guests.{guest_entered};
-ghost use Rattle.leaf_table.specs.Ends.{call_answer, call_fits, step_answer, step_fits};
+ghost use Rattle.leaf_table.specs.Ends.{call_answer, call_fits, step_answer, step_ends, step_fits};
 ghost use Rattle.leaf_table.specs.Steps.{step_seen};
-ghost use Rattle.leaf_dispatch.specs.Guests.{guest_seen, notes_in, words_in, IsLow};
+ghost use Rattle.leaf_dispatch.specs.Answers.{answer_with};
+ghost use Rattle.leaf_dispatch.specs.Guests.{guest_seen, facts_at, notes_in, words_in, IsLow, IsPlaced};
 ghost use Rattle.leaf_dispatch.specs.FirstLists.{AreFirstLists};
 ghost use Rattle.leaf_table.specs.Table.{code_in};
 
@@ -97,11 +99,16 @@ pub fn cache_walk(cached: &mut Tlb, tdr: u16, step: Step, reply: Reply)
     }
 }
 
-/// What a guest read, or the RTMR that it extended, at a call line.
-pub fn noted(line: u32, step: Step, reply: Reply) -> Option<GuestNote>
-    ensures { (tdr : ℕ) → notes_in result ≡ (step_answer tdr line (step_seen step) reply).notes }
+/// What a guest read, the RTMR that it extended, or the place of the facts that it reported, at a call line.
+pub fn noted(line: u32, step: Step, reply: Reply, place: Option<u32>) -> Option<GuestNote>
+    ensures noted { (tdr : ℕ) (reports : List Facts) → notes_in reports result ≡ (answer_with (step_ends tdr line (step_seen step)) (option_map (facts_at reports) place) reply).notes }
+    ensures placed { (n : ℕ) → IfSome place (λ at. at < n) → IfSome result (IsPlaced n) }
 {
     match (step, reply) {
+        (Step::Operates(GuestOp::Report), _) => match place {
+            Some(place) => Some(GuestNote::Report { line, place }),
+            None => None,
+        },
         (Step::Operates(GuestOp::Load { gpa, .. }), Reply::Done(Value::Number(word))) => {
             Some(GuestNote::Load { line, gpa, word })
         }

@@ -1,6 +1,6 @@
 //! What the layers above may rest on, as the contract of a function that does nothing.
 
-ghost use Rattle.leaf_dispatch.specs.Follows.{ProcessorsFollow};
+ghost use Rattle.leaf_dispatch.specs.Follows.{LpStatesFollow};
 
 /// Over words that show a state of the flat machine, the turn of an `LpState` that stands where that
 /// state has its processor is the processor's next event, and its `Event` is the shown form of that one:
@@ -8,8 +8,8 @@ ghost use Rattle.leaf_dispatch.specs.Follows.{ProcessorsFollow};
 /// exactly where no line is left. So it is in every state of a run, with whatever bundles have come in by
 /// then, of scripts whose lists of operations are within the limits; and from the start on in every state
 /// that a schedule of at most eight processors leads to.
-pub fn processors_follow()
-    ensures { ProcessorsFollow }
+pub fn lp_states_follow()
+    ensures { LpStatesFollow }
 {
     leaf_engine::processors_follow();
     trace_laws::turns_told();

@@ -6,10 +6,10 @@
 //! what an event was. A layer above may use that `LpState` is a `Processor`.
 //! From its calls on (`first` of `new`, which is handed the `Inputs` of its run) each turn is the next event
 //! of its present call's leaf, or in a guest that of the guest's next step, told in pieces; the reply comes in
-//! with the call's last event. A turn takes no memory. What guests note and tell stands in `notes` and `told`,
-//! and the bundles of the calls that have ended in `bundles`; `guest`, `next_step` and `cached` tell of the
-//! guest that a processor is in. By `processors_follow` a turn is the flat machine's next event, and its
-//! `Event` is what that was.
+//! with the call's last event. A turn takes no memory. What guests note, report and tell stands in `notes`,
+//! `reports` and `told`, and the bundles of the calls that have ended in `bundles`; `guest`, `next_step` and
+//! `cached` tell of the guest that a processor is in. By `lp_states_follow` a turn is the flat machine's next
+//! event, and its `Event` is what that was.
 #![tactic(auto)]
 
 mod answers;
@@ -32,5 +32,5 @@ pub use ended::EndedBundles;
 pub use first_lists::FirstLists;
 pub use guests::InGuest;
 pub use inputs::Inputs;
-pub use laws::processors_follow;
+pub use laws::lp_states_follow;
 pub use states::LpState;

@@ -1,6 +1,6 @@
 //! The run of a leaf.
 
-ghost use Rattle.std.specs.Prelude.{◌≡◌, ℕ, ◌<◌, ◌≤◌, true, length, List, [], Option, None, option_map};
+ghost use Rattle.std.specs.Prelude.{◌≡◌, ℕ, ◌+◌, ◌<◌, ◌≤◌, true, length, vec_capacity, List, [], Option, None, option_map};
 ghost use Rattle.td_words.specs.declared.machines.Machine.{Machine};
 ghost use Rattle.td_words.specs.Limits.{IsMachine};
 ghost use Rattle.flat_core.specs.World.{Made};
@@ -11,21 +11,24 @@ ghost use Rattle.leaf_engine.specs.Merges.{IsStepOf};
 ghost use Rattle.leaf_table.specs.Steps.{step_seen};
 ghost use Rattle.leaf_table.specs.Given.{given_in};
 ghost use Rattle.leaf_table.specs.Table.{task_of, step_task};
-ghost use Rattle.leaf_table.specs.Ends.{Ends, call_makes, call_ends, step_ends};
+ghost use Rattle.leaf_table.specs.Ends.{Ends, call_makes, call_ends, step_reports, step_ends};
+ghost use Rattle.report_core.specs.declared.facts.Facts.{Facts};
+ghost use Rattle.leaf_dispatch.specs.Guests.{facts_in, HasReported};
 ghost use Rattle.guest_turns.specs.Turns.{turn_of, act_of};
 ghost use Rattle.leaf_dispatch.specs.NoteRooms.{run_room};
 ghost use Rattle.leaf_dispatch.specs.BundleRooms.{count_of, words_of, payload_words, HasAdded};
 ghost use Rattle.leaf_table.specs.PageRooms.{is_spare, leaf_room};
 ghost use Rattle.leaf_dispatch.specs.Ended.{made_by_run};
 ghost use Rattle.leaf_dispatch.specs.Held.{held_by};
-ghost use Rattle.leaf_dispatch.specs.Running.{standing_of, run_seen, answered_with, IsAnswered, act_in, made_in_run, kept_until, holds_room, IsUnderWay, IsRunOf, IsKept, CanTurn, HasTurned, RunTurned};
+ghost use Rattle.leaf_dispatch.specs.Running.{standing_of, run_seen, answered_with, IsAnswered, act_in, made_in_run, facts_in_run, kept_until, holds_room, IsUnderWay, IsRunOf, IsKept, CanTurn, HasTurned, RunTurned};
 
-use crate::rooms::add_bundle;
+use crate::rooms::{add_bundle, add_facts};
 use bundles::{Bundle, Bundles};
 use export_pages::PageWords;
 use guest_turns::LeafTurn;
 use leaf_engine::{Event, HeldLock, Place, Run, RunTurn, Stage};
 use leaf_table::{AnyLeaf, Given, Step, leaf_of, step_leaf};
+use report_core::Facts;
 use std::mem;
 use step_core::Bench;
 use td_words::{Call, Reply};
@@ -77,7 +80,7 @@ pub fn turn_call_run<'a, B: Bench>(
     requires room { run_room (count_of (call_makes call.now)) (run_seen kept.old) ≤ bundles.old.room }
     requires word_room { run_room (words_of (call_makes call.now)) (run_seen kept.old) ≤ bundles.old.word_room }
     requires page_room { holds_room spare.old kept.old ≡ true }
-    ensures turned { (made : List Made) × HasAdded bundles.old made bundles.new × RunTurned (B.did bench.old) place.machine (call_ends place.machine call.now) (running (task_of (given_in given.entry) place call.now) (run_seen kept.old)) bench.new kept.new turn.new made }
+    ensures turned { (made : List Made) × HasAdded bundles.old made bundles.new × RunTurned (B.did bench.old) place.machine (call_ends place.machine call.now) (running (task_of (given_in given.entry) place call.now) (run_seen kept.old)) bench.new kept.new turn.new made None }
     ensures page_room { holds_room spare.new kept.new ≡ true }
     ensures machine { B.machine bench.new ≡ B.machine bench.old }
 {
@@ -92,6 +95,7 @@ pub fn turn_call_run<'a, B: Bench>(
 #[inline(never)]
 pub fn turn_step_run<'a, B: Bench>(
     kept: &mut Option<Running<'a>>,
+    reports: &mut Vec<Facts>,
     place: Place,
     given: Given<'a>,
     tdr: u16,
@@ -106,11 +110,13 @@ pub fn turn_step_run<'a, B: Bench>(
     requires limits { IsStepOf (step_seen step) }
     requires at { place.machine ≡ B.machine bench.old }
     requires under_way { IsRunOf place.machine (step_ends tdr line (step_seen step)) kept.old }
-    ensures turned { RunTurned (B.did bench.old) place.machine (step_ends tdr line (step_seen step)) (running (step_task (given_in given.entry) place tdr vp line (step_seen step)) (run_seen kept.old)) bench.new kept.new turn.new [] }
+    requires fact_room { length reports.old.items + run_room (count_of (step_reports line (step_seen step))) (run_seen kept.old) ≤ vec_capacity reports.old }
+    ensures turned { (f : Option Facts) × HasReported reports.old f reports.new × RunTurned (B.did bench.old) place.machine (step_ends tdr line (step_seen step)) (running (step_task (given_in given.entry) place tdr vp line (step_seen step)) (run_seen kept.old)) bench.new kept.new turn.new [] f }
     ensures machine { B.machine bench.new ≡ B.machine bench.old }
 {
     begin_step_where_none(kept, place, given, tdr, vp, line, step);
     let step_made = turn_kept(kept, bench);
+    add_reported(kept, step_made.event, reports);
     leave_step(kept, &step_made, turn);
 }
 
@@ -207,6 +213,20 @@ fn add_made(kept: &Option<Running<'_>>, event: Event, bundles: &mut Bundles)
     match event {
         Event::Act => match kept {
             Some(Running { run }) => add_bundle(bundles, run.leaf().bundle()),
+            None => (),
+        },
+        _ => (),
+    }
+}
+
+// Adds the facts that a run has reported with its last event, for which there is room.
+fn add_reported(kept: &Option<Running<'_>>, event: Event, reports: &mut Vec<Facts>)
+    requires room { length reports.old.items + length (facts_in (facts_in_run kept.now event)) ≤ vec_capacity reports.old }
+    ensures { HasReported reports.old (facts_in_run kept.now event) reports.new }
+{
+    match event {
+        Event::Act => match kept {
+            Some(Running { run }) => add_facts(reports, run.leaf().facts()),
             None => (),
         },
         _ => (),

@@ -1,11 +1,14 @@
 //! Logical processors with their calls and their guests.
 
 ghost use Rattle.std.specs.Prelude.{◌≡◌, ◌+◌, ◌<◌, ◌≤◌, ◌^◌, true, length, vec_capacity};
+ghost use Rattle.std.specs.List.{All};
+ghost use Rattle.leaf_table.specs.Table.{code_in};
+ghost use Rattle.leaf_dispatch.specs.Guests.{IsPlaced, ArePlaced-prop};
 ghost use Rattle.td_words.specs.Limits.{IsMachine};
 ghost use Rattle.leaf_dispatch.specs.Running.{holds_room};
 ghost use Rattle.leaf_dispatch.specs.CallRuns.{call_run_seen, IsCallRunAt, IsCallRunAt-prop};
 ghost use Rattle.leaf_dispatch.specs.Inside.{guest_in, AreOperations, AreOperations-prop, KeepsGuest, KeepsGuest-prop};
-ghost use Rattle.leaf_dispatch.specs.NoteRooms.{longest_in, room_of};
+ghost use Rattle.leaf_dispatch.specs.NoteRooms.{longest_in, room_of, most_reports, reports_of};
 ghost use Rattle.leaf_dispatch.specs.BundleRooms.{count_of, words_of, still_make};
 ghost use Rattle.leaf_dispatch.specs.FirstLists.{AreFirstLists, AreFirstLists-prop};
 
@@ -15,16 +18,20 @@ use crate::exits::event_told;
 use crate::first_lists::FirstLists;
 use crate::guests::{GuestAt, InGuest, next_step};
 use crate::inputs::Inputs;
-use crate::rooms::{lines_bundles, lines_payloads, lines_room, longest};
+use crate::rooms::{
+    lines_bundles, lines_payloads, lines_reports, lines_room, longest, most_reports,
+};
 use crate::step_runs::{StepRun, forget_step, step_held_of};
 use crate::turns::{
-    GuestTurn, answer_exit, is_acting, leave_where, note_by, tell_by, turn_guest, turn_line,
+    GuestTurn, answer_exit, is_acting, leave_where, note_by, place_behind, tell_by, turn_guest,
+    turn_line,
 };
 use bundles::Bundles;
 use export_pages::PageWords;
 use guest_turns::LeafTurn;
 use leaf_engine::{Event, HeldLock, Place, Processor, Turn, turns_in_pieces};
 use leaf_table::{Given, Step};
+use report_core::Facts;
 use report_text::GuestNote;
 use std::alloc::Global;
 use step_core::Bench;
@@ -33,8 +40,8 @@ use tlb_epochs::Tlb;
 
 /// A logical processor: its calls from the present one on, and the run of that call once its first
 /// event is made; the guest that it is in, and the run of what the guest does; its cached translations;
-/// its replies, one for each call that is done, what its guests noted and told, and the bundles that its
-/// calls made; and a place, into which its turns are written. The room for a page's words is spare, but
+/// its replies, one for each call that is done, what its guests noted, reported and told, and the bundles that
+/// its calls made; and a place, into which its turns are written. The room for a page's words is spare, but
 /// while a run of EXPORT.MEM has it.
 #[derive(Drop)]
 pub struct LpState<'a> {
@@ -50,6 +57,7 @@ pub struct LpState<'a> {
     cached: Tlb,
     replies: Vec<Reply>,
     notes: Vec<GuestNote>,
+    reports: Vec<Facts>,
     told: Vec<u64>,
     bundles: Bundles,
     turn: LeafTurn,
@@ -62,6 +70,9 @@ pub struct LpState<'a> {
     ghost room: { length replies.items + length lines.now ≤ vec_capacity replies },
     ghost note_room: { length notes.items + room_of (longest_in codes.now) lines.now (call_run_seen run) (guest_in guest step_run) ≤ vec_capacity notes },
     ghost word_room: { length told.items + room_of (longest_in codes.now) lines.now (call_run_seen run) (guest_in guest step_run) ≤ vec_capacity told },
+    ghost places: { All (IsPlaced (length reports.items)) notes.items } by { ArePlaced-prop (length reports.items) notes.items },
+    ghost fact_room: { length reports.items + reports_of (most_reports codes.now) (code_in codes.now) lines.now (call_run_seen run) (guest_in guest step_run) ≤ vec_capacity reports },
+    ghost few_facts: { length reports.items + reports_of (most_reports codes.now) (code_in codes.now) lines.now (call_run_seen run) (guest_in guest step_run) < 2 ^ 32 },
     ghost bundle_room: { still_make count_of lines.now (call_run_seen run) ≤ bundles.room },
     ghost payload_room: { still_make words_of lines.now (call_run_seen run) ≤ bundles.word_room },
     ghost page_room: { holds_room spare run.other ≡ true },
@@ -71,7 +82,8 @@ impl<'a> LpState<'a> {
     ghost use Rattle.std.specs.Prelude.{◌≡◌, ◌<◌, ◌^◌, ◌∷◌, true, false, None, Some, is_some, length, map, option_map, IfOk};
     ghost use Rattle.td_words.specs.Limits.{IsMachine};
     ghost use Rattle.leaf_engine.specs.OwnLists.{first_lp};
-    ghost use Rattle.leaf_dispatch.specs.Guests.{note_seen};
+    ghost use Rattle.std.specs.List.{All};
+    ghost use Rattle.leaf_dispatch.specs.Guests.{note_seen, IsPlaced};
     ghost use Rattle.leaf_dispatch.specs.Inside.{acting};
     ghost use Rattle.leaf_table.specs.Given.{given_in};
     ghost use Rattle.leaf_table.specs.Steps.{step_seen};
@@ -114,6 +126,15 @@ impl<'a> LpState<'a> {
         let Ok(told) = Vec::with_capacity(alloc, room) else {
             return Err(OutOfMemory);
         };
+        let Some(facts) = lines_reports(most_reports(codes), calls) else {
+            return Err(OutOfMemory);
+        };
+        if facts > u32::MAX as usize {
+            return Err(OutOfMemory);
+        }
+        let Ok(reports) = Vec::with_capacity(alloc, facts) else {
+            return Err(OutOfMemory);
+        };
         let count = lines_bundles(calls);
         let words = lines_payloads(calls);
         let Ok(bundles) = Bundles::new(alloc, count, words) else {
@@ -141,6 +162,7 @@ impl<'a> LpState<'a> {
             cached: Tlb::new(),
             replies,
             notes,
+            reports,
             told,
             bundles,
             turn: LeafTurn::unmade(),
@@ -154,11 +176,19 @@ impl<'a> LpState<'a> {
         self.replies.as_slice()
     }
 
-    /// What its guests read and extended, in order.
+    /// What its guests read, extended and reported, in order.
     pub fn notes(&self) -> &[GuestNote]
-        ensures { map note_seen result.now ≡ (seen_of self.now).beside.notes }
+        ensures notes { map (note_seen self.now.reports.items) result.now ≡ (seen_of self.now).beside.notes }
+        ensures placed { All (IsPlaced (length self.now.reports.items)) result.now }
     {
         self.notes.as_slice()
+    }
+
+    /// The facts that its guests reported, in order: a report's note has a place among them.
+    pub fn reports(&self) -> &[Facts]
+        ensures { result.now ≡ self.now.reports.items }
+    {
+        self.reports.as_slice()
     }
 
     /// The words that its guests told, in order.
@@ -295,11 +325,13 @@ impl<'a> LpState<'a> {
     {
         turns_in_pieces();
         let line = self.replies().len() as u32 + 1;
+        let kept = self.reports().len();
         let Some(guest) = &mut self.guest else {
             unreachable!()
         };
         let GuestTurn { step, parity, left } = turn_guest(
             &mut self.step_run,
+            &mut self.reports,
             &mut self.cached,
             guest,
             self.place,
@@ -308,7 +340,8 @@ impl<'a> LpState<'a> {
             bench,
             &mut self.turn,
         );
-        note_by(&mut self.notes, line, step, &self.turn.act);
+        let place = place_behind(kept, self.reports.as_slice());
+        note_by(&mut self.notes, line, step, &self.turn.act, place);
         tell_by(&mut self.told, step, &self.turn.act);
         answer_exit(&mut self.run.other, step, &self.turn.reply);
         leave_where(&mut self.guest, left);

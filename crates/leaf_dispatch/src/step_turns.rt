@@ -1,6 +1,7 @@
 //! The turns of a guest's steps.
 
-ghost use Rattle.std.specs.Prelude.{◌≡◌, ℕ, ◌<◌, true, is_none, Some, None};
+ghost use Rattle.std.specs.Prelude.{◌≡◌, ℕ, ◌+◌, ◌<◌, ◌≤◌, true, length, vec_capacity, is_none, Option, Some, None};
+ghost use Rattle.report_core.specs.declared.facts.Facts.{Facts};
 ghost use Rattle.td_words.specs.Limits.{IsMachine};
 ghost use Rattle.td_words.specs.declared.replies.Reply.TheVariants.{Done, Exited};
 ghost use Rattle.td_words.specs.declared.replies.Value.TheVariants.{Nothing, Number};
@@ -14,7 +15,10 @@ ghost use Rattle.guest_turns.specs.Turns.{MadeAtOnce};
 ghost use Rattle.leaf_table.specs.Steps.{step_seen};
 ghost use Rattle.leaf_table.specs.Given.{given_in};
 ghost use Rattle.leaf_table.specs.Table.{step_task};
-ghost use Rattle.leaf_table.specs.Ends.{step_ends, step_tries};
+ghost use Rattle.leaf_table.specs.Ends.{step_reports, step_ends, step_tries};
+ghost use Rattle.leaf_dispatch.specs.BundleRooms.{count_of};
+ghost use Rattle.leaf_dispatch.specs.Guests.{HasReported};
+ghost use Rattle.leaf_dispatch.specs.NoteRooms.{run_room};
 ghost use Rattle.leaf_dispatch.specs.StepRuns.{step_run_seen, IsStepRunOf, StepTurned};
 ghost use Rattle.leaf_dispatch.specs.Exits.{StepCounted};
 
@@ -27,14 +31,16 @@ use guest_turns::{
 use leaf_engine::{Event, Place};
 use leaf_parts::page_told;
 use leaf_table::{Given, Step};
+use report_core::Facts;
 use step_core::Bench;
 use td_words::{Access, GuestOp, Outcome, Reply, Value};
 
 /// The next turn of the run of a guest's step, which is kept until its reply comes, and begins where
-/// none is kept. A step that has a short way takes it. It answers the parity of the epoch whose count an
-/// exit has lowered, and else 0.
+/// none is kept. A step that has a short way takes it. Of an exit it answers the parity of the epoch whose
+/// count was lowered.
 pub fn turn_step<'a, B: Bench>(
     kept: &mut StepRun<'a>,
+    reports: &mut Vec<Facts>,
     place: Place,
     given: Given<'a>,
     tdr: u16,
@@ -50,7 +56,8 @@ pub fn turn_step<'a, B: Bench>(
     requires at { place.machine ≡ B.machine bench.old }
     requires under_way { IsStepRunOf place.machine (step_ends tdr line (step_seen step)) kept.old }
     requires alone { step_tries (step_seen step) ≡ 0 → is_none (step_run_seen kept.old) ≡ true }
-    ensures turned { StepCounted (B.did bench.old) place.machine (step_ends tdr line (step_seen step)) (running (step_task (given_in given.entry) place tdr vp line (step_seen step)) (step_run_seen kept.old)) bench.new kept.new turn.new (step_seen step) result }
+    requires fact_room { length reports.old.items + run_room (count_of (step_reports line (step_seen step))) (step_run_seen kept.old) ≤ vec_capacity reports.old }
+    ensures turned { (f : Option Facts) × HasReported reports.old f reports.new × StepCounted (B.did bench.old) place.machine (step_ends tdr line (step_seen step)) (running (step_task (given_in given.entry) place tdr vp line (step_seen step)) (step_run_seen kept.old)) bench.new kept.new turn.new (step_seen step) result f }
     ensures machine { B.machine bench.new ≡ B.machine bench.old }
 {
     match kept.shared {
@@ -60,10 +67,14 @@ pub fn turn_step<'a, B: Bench>(
         }
         None => match kept.other {
             Some(_) => {
-                turn_other_step(kept, place, given, tdr, vp, line, step, bench, turn);
+                turn_other_step(
+                    kept, reports, place, given, tdr, vp, line, step, bench, turn,
+                );
                 0
             }
-            None => turn_new_step(kept, place, given, tdr, vp, line, step, bench, turn),
+            None => turn_new_step(
+                kept, reports, place, given, tdr, vp, line, step, bench, turn,
+            ),
         },
     }
 }
@@ -71,6 +82,7 @@ pub fn turn_step<'a, B: Bench>(
 // That of a step of another leaf.
 fn turn_other_step<'a, B: Bench>(
     kept: &mut StepRun<'a>,
+    reports: &mut Vec<Facts>,
     place: Place,
     given: Given<'a>,
     tdr: u16,
@@ -85,12 +97,14 @@ fn turn_other_step<'a, B: Bench>(
     requires limits { IsStepOf (step_seen step) }
     requires at { place.machine ≡ B.machine bench.old }
     requires alone { kept.old.shared ≡ None }
+    requires fact_room { length reports.old.items + run_room (count_of (step_reports line (step_seen step))) (step_run_seen kept.old) ≤ vec_capacity reports.old }
     requires under_way { IsStepRunOf place.machine (step_ends tdr line (step_seen step)) kept.old }
-    ensures turned { StepTurned (B.did bench.old) place.machine (step_ends tdr line (step_seen step)) (running (step_task (given_in given.entry) place tdr vp line (step_seen step)) (step_run_seen kept.old)) bench.new kept.new turn.new }
+    ensures turned { (f : Option Facts) × HasReported reports.old f reports.new × StepTurned (B.did bench.old) place.machine (step_ends tdr line (step_seen step)) (running (step_task (given_in given.entry) place tdr vp line (step_seen step)) (step_run_seen kept.old)) bench.new kept.new turn.new f }
     ensures machine { B.machine bench.new ≡ B.machine bench.old }
 {
     turn_step_run(
         &mut kept.other,
+        reports,
         place,
         given,
         tdr,
@@ -105,6 +119,7 @@ fn turn_other_step<'a, B: Bench>(
 // The first turn of a step.
 fn turn_new_step<'a, B: Bench>(
     kept: &mut StepRun<'a>,
+    reports: &mut Vec<Facts>,
     place: Place,
     given: Given<'a>,
     tdr: u16,
@@ -119,7 +134,8 @@ fn turn_new_step<'a, B: Bench>(
     requires limits { IsStepOf (step_seen step) }
     requires at { place.machine ≡ B.machine bench.old }
     requires none { (kept.old.shared ≡ None) × (kept.old.other ≡ None) }
-    ensures turned { StepCounted (B.did bench.old) place.machine (step_ends tdr line (step_seen step)) (running (step_task (given_in given.entry) place tdr vp line (step_seen step)) None) bench.new kept.new turn.new (step_seen step) result }
+    requires fact_room { length reports.old.items + count_of (step_reports line (step_seen step)) ≤ vec_capacity reports.old }
+    ensures turned { (f : Option Facts) × HasReported reports.old f reports.new × StepCounted (B.did bench.old) place.machine (step_ends tdr line (step_seen step)) (running (step_task (given_in given.entry) place tdr vp line (step_seen step)) None) bench.new kept.new turn.new (step_seen step) result f }
     ensures machine { B.machine bench.new ≡ B.machine bench.old }
 {
     match step {
@@ -134,11 +150,15 @@ fn turn_new_step<'a, B: Bench>(
             0
         }
         Step::Operates(operation) => {
-            turn_new_operation(kept, place, given, tdr, vp, line, operation, bench, turn);
+            turn_new_operation(
+                kept, reports, place, given, tdr, vp, line, operation, bench, turn,
+            );
             0
         }
         Step::Loads { .. } => {
-            turn_other_step(kept, place, given, tdr, vp, line, step, bench, turn);
+            turn_other_step(
+                kept, reports, place, given, tdr, vp, line, step, bench, turn,
+            );
             0
         }
         Step::Leaves(outcome) => {
@@ -152,6 +172,7 @@ fn turn_new_step<'a, B: Bench>(
 // The first turn of an operation.
 fn turn_new_operation<'a, B: Bench>(
     kept: &mut StepRun<'a>,
+    reports: &mut Vec<Facts>,
     place: Place,
     given: Given<'a>,
     tdr: u16,
@@ -166,7 +187,8 @@ fn turn_new_operation<'a, B: Bench>(
     requires limits { IsOperation operation }
     requires at { place.machine ≡ B.machine bench.old }
     requires none { (kept.old.shared ≡ None) × (kept.old.other ≡ None) }
-    ensures turned { StepTurned (B.did bench.old) place.machine (step_ends tdr line (Operates operation)) (running (step_task (given_in given.entry) place tdr vp line (Operates operation)) None) bench.new kept.new turn.new }
+    requires fact_room { length reports.old.items + count_of (step_reports line (Operates operation)) ≤ vec_capacity reports.old }
+    ensures turned { (f : Option Facts) × HasReported reports.old f reports.new × StepTurned (B.did bench.old) place.machine (step_ends tdr line (Operates operation)) (running (step_task (given_in given.entry) place tdr vp line (Operates operation)) None) bench.new kept.new turn.new f }
     ensures machine { B.machine bench.new ≡ B.machine bench.old }
 {
     let pages = place.machine.pages;
@@ -211,6 +233,7 @@ fn turn_new_operation<'a, B: Bench>(
         }
         _ => turn_other_step(
             kept,
+            reports,
             place,
             given,
             tdr,

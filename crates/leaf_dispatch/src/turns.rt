@@ -1,6 +1,6 @@
 //! A turn of a call line, and a turn in a guest.
 
-ghost use Rattle.std.specs.Prelude.{◌≡◌, ℕ, ◌+◌, ◌<◌, ◌≤◌, true, length, map, vec_capacity, List, [], Option, IfSome, None, is_none, is_some, if◌then◌else◌, option_map};
+ghost use Rattle.std.specs.Prelude.{◌≡◌, ℕ, ◌+◌, ◌<◌, ◌≤◌, ◌^◌, ◌++◌, true, length, map, vec_capacity, List, [], Option, IfSome, None, is_none, is_some, if◌then◌else◌, option_map};
 ghost use Rattle.std.specs.List.{All};
 ghost use Rattle.td_words.specs.declared.machines.Machine.{Machine};
 ghost use Rattle.td_words.specs.declared.calls.Call.{Call};
@@ -10,10 +10,11 @@ ghost use Rattle.leaf_engine.specs.Trees.{added};
 ghost use Rattle.leaf_engine.specs.Turns.{Standing};
 ghost use Rattle.leaf_engine.specs.OwnLists.{running};
 ghost use Rattle.leaf_engine.specs.Merges.{IsOperation, IsStepOf};
-ghost use Rattle.leaf_table.specs.Ends.{call_answer, call_makes, call_ends, call_fits, step_answer, step_ends, step_fits, step_tries};
-ghost use Rattle.leaf_dispatch.specs.Answers.{guest_by, cached_by, notes_by, tells_by};
+ghost use Rattle.leaf_table.specs.Ends.{call_answer, call_makes, call_ends, call_fits, step_answer, step_reports, step_ends, step_fits, step_tries};
+ghost use Rattle.report_core.specs.declared.facts.Facts.{Facts};
+ghost use Rattle.leaf_dispatch.specs.Answers.{guest_by, cached_by, answer_with, notes_by, tells_by};
 ghost use Rattle.leaf_table.specs.Steps.{step_seen};
-ghost use Rattle.leaf_dispatch.specs.Guests.{guest_seen, next_in, note_seen, IsLow, CanCount, IsReplyOf, unless, IsNextGuest};
+ghost use Rattle.leaf_dispatch.specs.Guests.{guest_seen, next_in, note_seen, facts_at, facts_in, HasReported, IsPlaced, IsLow, CanCount, IsReplyOf, unless, IsNextGuest};
 ghost use Rattle.leaf_dispatch.specs.Inside.{acting, line_then, HasEntered};
 ghost use Rattle.leaf_dispatch.specs.NoteRooms.{run_room};
 ghost use Rattle.leaf_dispatch.specs.BundleRooms.{count_of, words_of, HasAdded};
@@ -39,6 +40,7 @@ use export_pages::PageWords;
 use guest_turns::LeafTurn;
 use leaf_engine::Place;
 use leaf_table::{Given, Step};
+use report_core::Facts;
 use report_text::GuestNote;
 use step_core::Bench;
 use td_words::{Call, Code, Machine, Reply};
@@ -122,6 +124,7 @@ fn enter_by<'a>(
 /// comes, and begins where none is kept.
 pub fn turn_guest<'a, B: Bench>(
     kept: &mut StepRun<'a>,
+    reports: &mut Vec<Facts>,
     cached: &mut Tlb,
     guest: &mut GuestAt<'a>,
     place: Place,
@@ -137,10 +140,11 @@ pub fn turn_guest<'a, B: Bench>(
     requires low { IsLow guest.old.walk }
     requires under_way { IsStepRunOf place.machine (step_ends guest.old.tdr line (next_in cached.old guest.old None)) kept.old }
     requires alone { step_tries (next_in cached.old guest.old None) ≡ 0 → is_none (step_run_seen kept.old) ≡ true }
+    requires fact_room { length reports.old.items + run_room (count_of (step_reports line (next_in cached.old guest.old None))) (step_run_seen kept.old) ≤ vec_capacity reports.old }
     ensures step { (run : Option Standing) → step_seen result.step ≡ next_in cached.old guest.old run }
     ensures counts { CanCount guest.old (step_seen result.step) }
     ensures within { IsStepOf (step_seen result.step) }
-    ensures turned { StepCounted (B.did bench.old) place.machine (step_ends guest.old.tdr line (step_seen result.step)) (running (step_task (given_in given.entry) place guest.old.tdr guest.old.vp line (step_seen result.step)) (step_run_seen kept.old)) bench.new kept.new turn.new (step_seen result.step) result.parity }
+    ensures turned { (f : Option Facts) × HasReported reports.old f reports.new × StepCounted (B.did bench.old) place.machine (step_ends guest.old.tdr line (step_seen result.step)) (running (step_task (given_in given.entry) place guest.old.tdr guest.old.vp line (step_seen result.step)) (step_run_seen kept.old)) bench.new kept.new turn.new (step_seen result.step) result.parity f }
     ensures fits { IfSome turn.new.reply (λ r. IsReplyOf (step_seen result.step) r) }
     ensures cached { cached.new ≡ cached_by (step_answer guest.old.tdr line (step_seen result.step)) turn.new.act cached.old }
     ensures next { IsNextGuest guest.old (step_seen result.step) turn.new.reply (unless result.left guest.new) }
@@ -150,6 +154,7 @@ pub fn turn_guest<'a, B: Bench>(
     let step = next_step(guest, cached);
     let parity = turn_step(
         kept,
+        reports,
         place,
         given,
         guest.tdr,
@@ -173,15 +178,36 @@ fn cache_by(cached: &mut Tlb, tdr: u16, step: Step, act: &Option<Reply>)
     }
 }
 
-/// Adds what a guest noted with the act of its step, at a call line, for which there is room.
-pub fn note_by(notes: &mut Vec<GuestNote>, line: u32, step: Step, act: &Option<Reply>)
-    requires room { (tdr : ℕ) → length notes.old.items + length (notes_by (step_answer tdr line (step_seen step)) act.now) ≤ vec_capacity notes.old }
-    ensures noted { (tdr : ℕ) → map note_seen notes.new.items ≡ added (map note_seen notes.old.items) (notes_by (step_answer tdr line (step_seen step)) act.now) }
-    ensures count { (tdr : ℕ) → length notes.new.items ≡ length notes.old.items + length (notes_by (step_answer tdr line (step_seen step)) act.now) }
+/// The place of the facts that were added behind so many, if any were.
+pub fn place_behind(count: usize, reports: &[Facts]) -> Option<u32>
+    requires few { length reports.now < 2 ^ 32 }
+    ensures facts { (before : List Facts) (f : Option Facts) → length before ≡ count → reports.now ≡ before ++ facts_in f → option_map (facts_at reports.now) result ≡ f }
+    ensures placed { IfSome result (λ at. at < length reports.now) }
+{
+    if count < reports.len() {
+        Some(count as u32)
+    } else {
+        None
+    }
+}
+
+/// Adds what a guest noted with the act of its step, at a call line, for which there is room; `place` is
+/// that of the facts that it reported.
+pub fn note_by(
+    notes: &mut Vec<GuestNote>,
+    line: u32,
+    step: Step,
+    act: &Option<Reply>,
+    place: Option<u32>,
+)
+    requires room { (tdr : ℕ) (f : Option Facts) → length notes.old.items + length (notes_by (answer_with (step_ends tdr line (step_seen step)) f) act.now) ≤ vec_capacity notes.old }
+    ensures noted { (tdr : ℕ) (reports : List Facts) → map (note_seen reports) notes.new.items ≡ added (map (note_seen reports) notes.old.items) (notes_by (answer_with (step_ends tdr line (step_seen step)) (option_map (facts_at reports) place)) act.now) }
+    ensures count { (tdr : ℕ) (reports : List Facts) → length notes.new.items ≡ length notes.old.items + length (notes_by (answer_with (step_ends tdr line (step_seen step)) (option_map (facts_at reports) place)) act.now) }
+    ensures placed { (n : ℕ) → All (IsPlaced n) notes.old.items → IfSome place (λ at. at < n) → All (IsPlaced n) notes.new.items }
     ensures room { vec_capacity notes.old ≤ vec_capacity notes.new }
 {
     if let Some(reply) = act {
-        let note = noted(line, step, *reply);
+        let note = noted(line, step, *reply, place);
         add_note(notes, note);
     }
 }

@@ -126,7 +126,7 @@ operation-counts o t v line op x Succeeds w e =
     operation_row o t v line (λ y. (tell_words (y.tells w) (y.act w)).vps.entered ≡ w.vps.entered)
     (λ r n. refl) (λ r s. refl) (λ r gpa. refl) (λ r gpa. refl)
     (λ gpa. accepted (λ z. (tell_words [] (pass_operation v z)).vps.entered ≡ w.vps.entered) (is_pending_at w t gpa) t gpa w (λ pends. refl) (λ stays. refl))
-    (λ i. refl) (λ r. refl) op x e
+    (λ i. refl) refl (λ r. refl) op x e
 operation-counts o t v line op x (Attempts l m) w e = refl
 operation-counts o t v line op x (Undoes l) w e = refl
 operation-counts o t v line op x (Refuses r) w e = refl

@@ -20,7 +20,7 @@ use Rattle.td_words.specs.Packing.{Entry}
 use Rattle.td_words.specs.Place.{lock_place}
 use Rattle.flat_core.specs.World.{World, put}
 use Rattle.flat_core.specs.Locks.{one_if}
-use Rattle.flat_core.specs.Processor.{Note, LoadNote, RtmrNote}
+use Rattle.flat_core.specs.Processor.{Note, LoadNote, RtmrNote, ReportNote}
 use Rattle.flat_core.specs.Opening.{Opening}
 use Rattle.flat_core.specs.Row.{Item, Check, Try, OperationRow, Refuses, next}
 use Rattle.flat_core.specs.Effects.{tell_words, pass_operation}
@@ -96,6 +96,7 @@ row-is o t v line op row e =
       answer = λ w. inl refl;
     })
     (λ i. record { items = λ w. tt; act = λ w. passes w _ v (record { controls = refl; kinds = refl; lives = refl; indexes = refl }) refl; answer = λ w. inl refl })
+    (record { items = λ w. tt; act = λ w. passes w _ v (record { controls = refl; kinds = refl; lives = refl; indexes = refl }) refl; answer = λ w. inl refl })
     (λ r. record { items = λ w. tt; act = λ w. passes w _ v (record { controls = refl; kinds = refl; lives = refl; indexes = refl }) refl; answer = λ w. inr (register_told w v r, refl) }) op row e
 
 pub reach-passes : (t v : ℕ) (access : Access) (r gpa page : ℕ) (w : World) → Passes w (reach t v access r gpa page w) v
@@ -126,6 +127,7 @@ completed notes tells out (inl e) = subst (λ (z : Option Outcome). IsAnswer z (
     by : (ns : List Note) (xs : List ℕ) → IsAnswer None (operation_reply ns xs None)
     by (LoadNote line gpa word ∷ ns) xs = record { behind = refl; of_guest = tt; is = refl }
     by (RtmrNote line index words ∷ ns) xs = record { behind = refl; of_guest = tt; is = refl }
+    by (ReportNote line facts ∷ ns) xs = record { behind = refl; of_guest = tt; is = refl }
     by [] (x ∷ xs) = record { behind = refl; of_guest = tt; is = refl }
     by [] [] = record { behind = refl; of_guest = tt; is = refl }
 

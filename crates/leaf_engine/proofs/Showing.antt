@@ -25,7 +25,7 @@ use Rattle.leaf_engine.specs.declared.events.Event.{Event}
 use Rattle.word_rules.specs.Views.{look}
 use Rattle.leaf_engine.specs.Changes.{Memory, Change, Put, PutHash, Raise, Clear, Copy, Swap, changed, changed_all}
 use Rattle.leaf_engine.specs.Trees.{Answer, only, Tree, Lock, Load, Test, End, Since, feed, settle, passed, answer_of, changes_of, has_acted}
-use Rattle.leaf_engine.specs.Means.{Task, Instant, Work, work_of, hold, Locks, MayFillAll, MayOweAll, MayChangeBy, LocksStay, acted, AnswersAs}
+use Rattle.leaf_engine.specs.Means.{Task, Instant, Work, work_of, hold, grasp_of, Locks, MayFillAll, MayTakeAll, FillsAllowed, MayOweAll, MayChangeBy, LocksStay, acted, AnswersAs}
 use Rattle.leaf_engine.specs.Decides.{Wants, IsHand}
 use Rattle.leaf_engine.specs.Items.{IsLoaded, AreChanged}
 use Rattle.leaf_engine.specs.Follows.{granted, Current, NotActed, Comes}
@@ -156,6 +156,18 @@ passed-lock (Since a cs) l mode h = absurd h
 
 -- changes that may be made are in the machine
 
+pub allowed-fills : (m : Machine) (g h : Grip) (w : World) (cs : List Change) → FillsAllowed m g h w cs → MayFillAll m g w cs
+allowed-fills m g h w [] a = tt
+allowed-fills m g h w (c ∷ cs) a = a.0
+
+pub allowed-takes : (m : Machine) (g h : Grip) (w : World) (cs : List Change) → FillsAllowed m g h w cs → MayTakeAll h w cs
+allowed-takes m g h w [] a = tt
+allowed-takes m g h w (c ∷ cs) a = a.1
+
+pub both-allowed : (m : Machine) (g h : Grip) (w : World) (cs : List Change) → MayFillAll m g w cs → MayTakeAll h w cs → FillsAllowed m g h w cs
+both-allowed m g h w [] fills takes = tt
+both-allowed m g h w (c ∷ cs) fills takes = (fills, takes)
+
 fills-in : (m : Machine) (g : Grip) (w : World) (cs ds : List Change) → MayFillAll m g w cs → AreChangesIn m ds → AreChangesIn m (cs ++ ds)
 fills-in m g w [] ds a b = b
 fills-in m g w (Put q x ∷ cs) ds a b = (a.0.0, fills-in m g w cs ds a.1 b)
@@ -211,7 +223,7 @@ ends-with m c k hs n (End a fs cs) reply (inl co) g =
 ends-with m c k hs n (End a fs cs) reply (inr co) g =
     let e : a.reply ≡ reply = cc in
     record {
-      inside = fills-in m (k.grasp c hs) c.state.world fs cs co.1.fills_allowed (act-in m (k.grasp c hs) (hold c hs) c.state.world (k.act c.state.world) (changed_all fs c.memory) cs co.2);
+      inside = fills-in m (k.grasp c hs) c.state.world fs cs (allowed-fills m (k.grasp c hs) (grasp_of c hs) c.state.world fs co.1.fills_allowed) (act-in m (k.grasp c hs) (hold c hs) c.state.world (k.act c.state.world) (changed_all fs c.memory) cs co.2);
       kept = refl;
       ends = inr (co.0, e, co.1.answers, shows-append m c k fs cs co.1.shows, co.1.locks_stay);
     }

@@ -14,7 +14,7 @@ use Rattle.flat_core.specs.Opening.{Opening}
 use Rattle.flat_core.specs.Row.{OperationRow, next_in}
 use Rattle.flat_core.specs.Tree.{page_of_gpa}
 use Rattle.flat_core.specs.Translations.{look_up}
-use Rattle.flat_core.specs.Guest.{Operation, ByRow, Private, operation_of, is_private, walk_level, set_value, take_secret, add_registers, shared_load, shared_store, accept, extend_rtmr, call_host}
+use Rattle.flat_core.specs.Guest.{Operation, ByRow, Private, operation_of, is_private, walk_level, set_value, take_secret, add_registers, shared_load, shared_store, accept, extend_rtmr, report_facts, call_host}
 use Rattle.flat_core.specs.Event.{Event, OfOperation, Walks, Reaches, Leaves as LeavesGuest, due_event, max_event, operation_event, private_event}
 use Rattle.leaf_engine.specs.Turns.{Standing}
 use Rattle.leaf_engine.specs.Guests.{WordGuest, Step, Operates, Accesses, Loads, Leaves, walk_page, private_step, operation_step, due_step, staying_step}
@@ -70,6 +70,7 @@ module _ (o : Opening) (w : World) (lp : Lp) (g : Guest) (root index position : 
     of-operation (op.Add r k) is i = operates (op.Add r k) (add_registers g.vp r k) stays i (is, refl)
     of-operation (op.Accept gpa) is i = operates (op.Accept gpa) (accept g.tdr g.vp gpa) stays i (is, refl)
     of-operation (op.Rtmr k) is i = operates (op.Rtmr k) (extend_rtmr g.tdr g.vp line k) stays i (is, refl)
+    of-operation op.Report is i = operates op.Report (report_facts g.tdr g.vp line) stays i (is, refl)
     of-operation (op.Vmcall r) is i = operates (op.Vmcall r) (call_host g.vp r) stays i (is, refl)
     of-operation (op.Load r gpa) is i = by (is_private gpa) refl
       where
@@ -141,6 +142,7 @@ module _ (codes : ℕ → ℕ → List GuestOp) (ts : List Translation) (g : Gue
   same-operation (op.Add r k) = refl
   same-operation (op.Accept gpa) = refl
   same-operation (op.Rtmr k) = refl
+  same-operation op.Report = refl
   same-operation (op.Vmcall r) = refl
 
   same-max : (b : Bool) (op : GuestOp) → (if b then Leaves Max else operation_step ts y op) ≡ (if b then Leaves Max else operation_step ts z op)

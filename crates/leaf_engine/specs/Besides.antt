@@ -1,7 +1,8 @@
 -- What a logical processor has besides its calls and its guest, and what the turns of their leaves make of it.
-use Rattle.std.specs.Prelude.{ℕ, List, []}
+use Rattle.std.specs.Prelude.{ℕ, List, [], ◌∷◌, Option, Some, None}
+use Rattle.report_core.specs.declared.facts.Facts.{Facts}
 use Rattle.flat_core.specs.World.{Made}
-use Rattle.flat_core.specs.Processor.{Translation, Note, Lp}
+use Rattle.flat_core.specs.Processor.{Translation, Note, ReportNote, Lp}
 use Rattle.leaf_engine.specs.declared.events.Event.{Event}
 use Rattle.leaf_engine.specs.declared.events.Event.TheVariants as event
 use Rattle.leaf_engine.specs.Trees.{Answer, Tree, answer_of, added}
@@ -38,3 +39,12 @@ beside_after _ t b = b
 abbrev pub bundles_made : Event → Tree → List Made
 bundles_made event.Act t = (answer_of t).bundles
 bundles_made _ t = []
+
+-- the facts that it reported: no reply shows them
+abbrev pub reported : List Note → Option Facts
+reported (ReportNote line f ∷ notes) = Some f
+reported _ = None
+
+abbrev pub facts_made : Event → Tree → Option Facts
+facts_made event.Act t = reported (answer_of t).notes
+facts_made _ t = None

@@ -1,6 +1,8 @@
 -- Code against trees: the need that a tree comes to, the decision that it takes, and the writes that its changes are.
 use Rattle.std.specs.Prelude.{◌≡◌, ℕ, zero, suc, ◌-◌, true, false, Option, Some, None, List, [], ◌∷◌, ◌++◌, Result, Ok, Err, MatchOption, MatchResult}
+use Rattle.td_words.specs.declared.replies.Value.TheVariants as value
 use Rattle.td_words.specs.declared.replies.Reply.{Reply}
+use Rattle.td_words.specs.declared.replies.Reply.TheVariants.{Done}
 use Rattle.td_words.specs.Place.{address}
 use Rattle.flat_core.specs.Processor.{name_of}
 use Rattle.sha2.specs.Hashers.{Holds384}
@@ -17,7 +19,7 @@ use Rattle.leaf_engine.specs.declared.plans.Act.{Act}
 use Rattle.leaf_engine.specs.declared.plans.Verdict.{Verdict}
 use Rattle.word_rules.specs.Views.{look}
 use Rattle.leaf_engine.specs.Changes.{Hand, Change, Put, PutHash, Raise, Clear, Copy, Swap}
-use Rattle.leaf_engine.specs.Trees.{Tree, Lock, Load, Test, End, Since}
+use Rattle.leaf_engine.specs.Trees.{Tree, Lock, Load, Test, End, Since, feed, changes_of}
 use Rattle.leaf_engine.specs.Inside.{WriteInside}
 
 -- a change as it is made in a machine of so many pages, with this hasher in hand. HKID h has slot h - 1
@@ -53,6 +55,11 @@ Decides n (Load v q k) (x ∷ xs) r = Decides n (k (look v x)) xs r
 Decides n (Test b out t) xs r = (b ≡ true → Decides n t xs r) × (b ≡ false → r ≡ Err (stop.Refused out))
 Decides n (End a fs cs) xs r = MatchResult r (λ v. (a.reply ≡ v.reply) × (v.changes ≡ fs ++ cs)) (λ e. ⊥)
 Decides n (Since a cs) xs r = MatchResult r (λ v. (a.reply ≡ v.reply) × (v.changes ≡ cs)) (λ e. ⊥)
+
+-- all is told, of a leaf that answers nothing, or what comes next
+abbrev pub DecidesAs : (pages : ℕ) → Tree → (told : List ℕ) → Result (Unit {0}) Stop → Type 0
+DecidesAs n tree told (Ok u) = Decides n tree told (Ok (record { reply = Done value.Nothing; changes = changes_of (feed tree told) }))
+DecidesAs n tree told (Err e) = Decides n tree told (Err e)
 
 -- the need that a tree with its conditions tested comes to
 abbrev pub Wants : ℕ → Tree → Need → Type 0

@@ -39,6 +39,12 @@ StopEarly most told (stop.Load at) = told < most
 StopEarly most told (stop.Lock name at mode) = told < most
 StopEarly most told (stop.Refused reply) = Unit {0}
 
+-- where it wants a lock, less than so many, and where it wants a word, less than so many
+abbrev pub TriesEarly : (tries most told : ℕ) → Stop → Type 0
+TriesEarly tries most told (stop.Load at) = told < most
+TriesEarly tries most told (stop.Lock name at mode) = told < tries
+TriesEarly tries most told (stop.Refused reply) = Unit {0}
+
 abbrev pub DecidesEarly : (most told : ℕ) → Result Verdict Stop → Type 0
 DecidesEarly most told (Ok v) = Unit {0}
 DecidesEarly most told (Err e) = StopEarly most told e

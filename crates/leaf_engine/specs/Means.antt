@@ -14,7 +14,7 @@ use Rattle.td_words.specs.declared.replies.Reply.TheVariants.{Done, Exited}
 use Rattle.td_words.specs.Packing.{Entry}
 use Rattle.td_words.specs.Place.{WordPlace, IsIn, Word}
 use Rattle.flat_core.specs.World.{World}
-use Rattle.flat_core.specs.Processor.{LockId, Held, Translation, Guest, Entering, Note, LoadNote, RtmrNote}
+use Rattle.flat_core.specs.Processor.{LockId, Held, Translation, Guest, Entering, Note, LoadNote, RtmrNote, ReportNote}
 use Rattle.flat_core.specs.Row.{Item, Check, Try, Row, OperationRow}
 use Rattle.flat_core.specs.Digests.{digest_bytes}
 use Rattle.flat_core.specs.Effects.{tell_words, leave_guest}
@@ -60,11 +60,12 @@ abbrev pub exit_item : Item (Option Outcome) → Item Reply
 exit_item (Check b out) = Check b (exit_of out)
 exit_item (Try l m) = Try l m
 
--- an operation that is completed answers what it read or stored
+-- an operation that is completed answers what it read or stored; no reply shows a report
 abbrev pub operation_reply : List Note → List ℕ → Option Outcome → Reply
 operation_reply notes told (Some out) = Exited out
 operation_reply (LoadNote line gpa word ∷ notes) told None = Done (value.Number word)
 operation_reply (RtmrNote line index words ∷ notes) told None = Done (value.Digest (digest_bytes words))
+operation_reply (ReportNote line facts ∷ notes) told None = Done value.Nothing
 operation_reply [] (x ∷ xs) None = Done (value.Number x)
 operation_reply [] [] None = Done value.Nothing
 
@@ -193,12 +194,26 @@ EachWord P p = (i : ℕ) → i < 512 → P (Word p i)
 abbrev pub MayFill : Machine → Grip → World → Change → Type 0
 MayFill m g w (Put q x) = IsIn m q × Fills g w q
 MayFill m g w (Clear p) = (p < m.pages) × EachWord (Fills g w) p
-MayFill m g w (Copy p q) = (p < m.pages) × (q < m.pages) × (p ≢ q) × EachWord (λ r. Reads g w r Whole) p × EachWord (Fills g w) q
+MayFill m g w (Copy p q) = (p < m.pages) × (q < m.pages) × (p ≢ q) × EachWord (Fills g w) q
 MayFill m g w _ = ⊥
+
+-- the words that it copies stay until the act, as a load does
+abbrev pub MayTake : Grip → World → Change → Type 0
+MayTake h w (Copy p q) = EachWord (λ r. Reads h w r Whole) p
+MayTake h w _ = Unit {0}
+
+abbrev pub MayTakeAll : Grip → World → List Change → Type 0
+MayTakeAll h w [] = Unit {0}
+MayTakeAll h w (c ∷ cs) = MayTake h w c × MayTakeAll h w cs
 
 abbrev pub MayFillAll : Machine → Grip → World → List Change → Type 0
 MayFillAll m g w [] = Unit {0}
 MayFillAll m g w (c ∷ cs) = MayFill m g w c × MayFillAll m g w cs
+
+-- the stores before the act, by what it acts under, and the words that they copy, by what is cached as well
+abbrev pub FillsAllowed : Machine → (act wide : Grip) → World → List Change → Type 0
+FillsAllowed m g h w [] = Unit {0}
+FillsAllowed m g h w (c ∷ cs) = MayFillAll m g w (c ∷ cs) × MayTakeAll h w (c ∷ cs)
 
 abbrev pub IsHkid : Machine → ℕ → Type 0
 IsHkid m h = (1 ≤ h) × (h ≤ m.hkids)
@@ -252,7 +267,7 @@ pub record AnswersAs (k : Work) (w : World) (a : Answer) : Type 0 where
 -- the changes are allowed, and are the act
 pub record Acts (m : Machine) (c : Instant) (k : Work) (hs : List Held) (answer : Answer) (fills changes : List Change) : Type 0 where
   pub answers : AnswersAs k c.state.world answer
-  pub fills_allowed : MayFillAll m (k.grasp c hs) c.state.world fills
+  pub fills_allowed : FillsAllowed m (k.grasp c hs) (grasp_of c hs) c.state.world fills
   pub respects : Respects (k.grasp c hs) c.state.world (k.act c.state.world)
   pub locks_stay : LocksStay c.state.world (k.act c.state.world) hs
   pub shows : let mem = changed_all changes (changed_all fills c.memory) in Shows m mem.words mem.slots (acted k c.state)

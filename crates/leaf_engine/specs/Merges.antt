@@ -69,6 +69,7 @@ IsOperation (op.Load r gpa) = r < 8
 IsOperation (op.Store r gpa) = r < 8
 IsOperation (op.Accept gpa) = gpa < 2 ^ 47
 IsOperation (op.Rtmr i) = i < 4
+IsOperation op.Report = Unit {0}
 IsOperation (op.Vmcall r) = r < 8
 
 -- and so are a step's

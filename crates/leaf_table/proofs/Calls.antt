@@ -25,6 +25,7 @@ use Rattle.access_core.specs.HostMeanings.{host_read-means, host_write-means}
 use Rattle.access_core.specs.OperationMeanings.{set-means, add-means as sum-means, vmcall-means, shared_load-means, shared_store-means}
 use Rattle.access_core.specs.AcceptMeanings.{accept-means}
 use Rattle.access_core.specs.RtmrMeanings.{rtmr-means, running-controls}
+use Rattle.access_core.specs.ReportMeanings.{report-means}
 use Rattle.access_core.specs.ReachTrees.{access_tree}
 use Rattle.access_core.specs.ReachMeanings.{accesses-mean}
 use Rattle.access_core.specs.WalkTrees.{walk_tree}
@@ -33,6 +34,7 @@ use Rattle.mem_remove.specs.MetadataMeanings.{rdmd-means}
 use Rattle.mem_remove.specs.TrackMeanings.{track-means}
 use Rattle.mem_remove.specs.BlockMeanings.{range_block-means, range_unblock-means}
 use Rattle.mem_remove.specs.RemoveMeanings.{page_remove-means}
+use Rattle.relocate_core.specs.RelocateMeanings.{page_relocate-means}
 use Rattle.mem_remove.specs.SeptRemoveMeanings.{sept_remove-means}
 use Rattle.export_core.specs.StreamMeanings.{stream_create-means}
 use Rattle.export_core.specs.BlockMeanings.{block_write-means}
@@ -103,6 +105,7 @@ of-place g p (call.MemSeptRemove tdr gpa level) = refl
 of-place g p (call.MemPageAdd tdr gpa page source) = refl
 of-place g p (call.MemPageAug tdr gpa page) = refl
 of-place g p (call.MemPageRemove tdr gpa) = refl
+of-place g p (call.MemPageRelocate tdr gpa page) = refl
 of-place g p (call.MemRangeBlock tdr gpa level) = refl
 of-place g p (call.MemRangeUnblock tdr gpa level) = refl
 of-place g p (call.MemTrack tdr) = refl
@@ -152,6 +155,7 @@ of-row o g same p (call.MemSeptRemove tdr gpa level) = refl
 of-row o g same p (call.MemPageAdd tdr gpa page source) = refl
 of-row o g same p (call.MemPageAug tdr gpa page) = refl
 of-row o g same p (call.MemPageRemove tdr gpa) = refl
+of-row o g same p (call.MemPageRelocate tdr gpa page) = refl
 of-row o g same p (call.MemRangeBlock tdr gpa level) = refl
 of-row o g same p (call.MemRangeUnblock tdr gpa level) = refl
 of-row o g same p (call.MemTrack tdr) = refl
@@ -202,6 +206,7 @@ means g p (call.MemSeptRemove tdr gpa level) m = sept_remove-means p tdr gpa lev
 means g p (call.MemPageAdd tdr gpa page source) m = page_add-means p tdr gpa page source m
 means g p (call.MemPageAug tdr gpa page) m = page_aug-means p tdr gpa page m
 means g p (call.MemPageRemove tdr gpa) m = page_remove-means p tdr gpa m
+means g p (call.MemPageRelocate tdr gpa page) m = page_relocate-means p tdr gpa page m
 means g p (call.MemRangeBlock tdr gpa level) m = range_block-means p tdr gpa level m
 means g p (call.MemRangeUnblock tdr gpa level) m = range_unblock-means p tdr gpa level m
 means g p (call.MemTrack tdr) m = track-means p tdr
@@ -237,6 +242,7 @@ step-place g p t v line (Operates (op.Load r gpa)) = refl
 step-place g p t v line (Operates (op.Store r gpa)) = refl
 step-place g p t v line (Operates (op.Accept gpa)) = refl
 step-place g p t v line (Operates (op.Rtmr i)) = refl
+step-place g p t v line (Operates op.Report) = refl
 step-place g p t v line (Operates (op.Vmcall r)) = refl
 step-place g p t v line (Accesses access r gpa page) = refl
 step-place g p t v line (Loads access gpa level page) = refl
@@ -257,6 +263,7 @@ step-row o g same p t v line (Operates (op.Load r gpa)) = λ row e. shared-row (
 step-row o g same p t v line (Operates (op.Store r gpa)) = λ row e. shared-row (is_private gpa) t v Write r gpa _ row e
 step-row o g same p t v line (Operates (op.Accept gpa)) = λ row e. same-row t v _ row e
 step-row o g same p t v line (Operates (op.Rtmr i)) = λ row e. same-row t v _ row e
+step-row o g same p t v line (Operates op.Report) = λ row e. same-row t v _ row e
 step-row o g same p t v line (Operates (op.Vmcall r)) = λ row e. same-row t v _ row e
 step-row o g same p t v line (Accesses access r gpa page) = refl
 step-row o g same p t v line (Loads access gpa level page) = refl
@@ -313,6 +320,7 @@ step-means g p t v line (Operates (op.Load r gpa)) m i = shared_load-means p t v
 step-means g p t v line (Operates (op.Store r gpa)) m i = shared_store-means p t v r gpa i
 step-means g p t v line (Operates (op.Accept gpa)) m i = accept-means p t v gpa m i
 step-means g p t v line (Operates (op.Rtmr x)) m i = rtmr-means p t v line x i
+step-means g p t v line (Operates op.Report) m i = report-means p t v line
 step-means g p t v line (Operates (op.Vmcall r)) m i = vmcall-means p t v r i
 step-means g p t v line (Accesses access r gpa page) m i = access-means p t v line access r gpa page i.0
 step-means g p t v line (Loads access gpa level page) m i = walk-means p t v access gpa level page m i.1 i.0

@@ -1,6 +1,7 @@
 -- What each leaf comes to: it tries at most as many locks as its row, and its answer goes by its reply.
 use Rattle.std.proofs.Common.{◌≡◌, ◌∙◌, ℕ, zero, suc, ◌+◌, ◌-◌, ◌/◌, ◌%◌, ◌^◌, ◌<◌, ◌≤◌, ◌==◌, ◌&&◌, nat_lt, if◌then◌else◌, Bool, true, false, Option, Some, None, List, [], ◌∷◌, ◌++◌, length, refl, ap, sym, subst, arith}
 use Rattle.std.proofs.lemmas.Bool.{lt-ltb}
+use Rattle.report_core.specs.declared.facts.Facts.{Facts}
 use Rattle.td_words.specs.declared.machines.Machine.{Machine}
 use Rattle.td_words.specs.declared.calls.Call.{Call}
 use Rattle.td_words.specs.declared.calls.Call.TheVariants as call
@@ -24,7 +25,7 @@ use Rattle.td_words.specs.declared.replies.Reply.TheVariants.{Done, Exited}
 use Rattle.td_words.specs.declared.replies.Value.TheVariants as value
 use Rattle.flat_core.specs.Opening.{Incoming}
 use Rattle.flat_core.specs.Inputs.{Input, input_in}
-use Rattle.flat_core.specs.Processor.{OfPage, RtmrNote}
+use Rattle.flat_core.specs.Processor.{OfPage, RtmrNote, ReportNote}
 use Rattle.flat_core.specs.Digests.{digest_word, digest_bytes, six_words}
 use Rattle.flat_core.specs.Guest.{goes_on}
 use Rattle.flat_core.proofs.Mrtd.{digest_read}
@@ -47,6 +48,7 @@ use Rattle.access_core.specs.HostTrees.{read_word}
 use Rattle.access_core.specs.OperationTrees.{with_notes, with_position}
 use Rattle.access_core.specs.AcceptTrees.{or_violation, passed_tree, accepted, accept_found}
 use Rattle.access_core.specs.RtmrTrees.{with_words, rtmr_at, register_at, extension, extended, extend_held}
+use Rattle.access_core.specs.ReportTrees.{mrtd_at, rtmrs_at, facts_told, report_end, report_held}
 use Rattle.access_core.specs.WalkTrees.{goes_on_by, page_by}
 use Rattle.access_core.specs.WalkMeanings.{walks-are-told}
 use Rattle.key_table.specs.CacheTrees.{mark_keys}
@@ -65,6 +67,7 @@ use Rattle.mem_remove.specs.NamedTrees.{taken_tree, named_tree}
 use Rattle.mem_remove.specs.TrackedTrees.{blocked_told, tracked_from, tracked_tree}
 use Rattle.mem_remove.specs.RangeTrees.{block_rest, unblock_rest, unblock_changes}
 use Rattle.mem_remove.specs.RemoveTrees.{is_used, scan_tree, given_tree, remove_rest, sept_remove_rest}
+use Rattle.relocate_core.specs.RelocateTrees.{relocate_rest, relocate_end}
 use Rattle.flat_core.specs.BundleRows.{exportable}
 use Rattle.flat_core.specs.ExportRows.{live_ops, writable_states, write_blocked_states, restoring_ops, restored_states}
 use Rattle.export_core.specs.OpenedTrees.{opened_tree}
@@ -91,7 +94,8 @@ use Rattle.import_pages.specs.PageImportTrees.{to_fill_tree, found_rest, end_by,
 use Rattle.mem_build.specs.PageAugTrees.{page_aug_mapping}
 use Rattle.mem_build.specs.PageAddTrees.{page_add_tree, pages_tree, addition_end}
 use Rattle.mem_build.specs.ExtendTrees.{words_tree, measured_tree, measure_tree}
-use Rattle.leaf_table.specs.Ends.{Ends, call_ends, is_page_seen, step_ends, step_tries, with_bundles, MakesOne, EndsBy, EndsAs, BeginsUnderOther}
+use Rattle.leaf_engine.specs.Besides.{reported}
+use Rattle.leaf_table.specs.Ends.{Ends, call_ends, is_page_seen, step_ends, step_tries, with_bundles, with_report, MakesOne, EndsBy, EndsAs, BeginsUnderOther}
 use Rattle.leaf_table.specs.Given.{Given}
 use Rattle.leaf_table.specs.Table.{task_of, step_task}
 use Rattle.leaf_table.proofs.Ending.{only-ends}
@@ -105,15 +109,16 @@ TriesAtMost n (End a fs cs) = a ≡ only a.reply
 TriesAtMost n (Since a cs) = a ≡ only a.reply
 
 -- an end that answers a reply alone
-plain-end : (o : Option ℕ) (a b : Answer) → a ≡ only a.reply → only a.reply ≡ b → EndsBy o a b
-plain-end o a b plain same = subst (λ (z : Answer). EndsBy o z b) (sym plain) (only-ends o a.reply b same)
+plain-end : (o line : Option ℕ) (a b : Answer) → a ≡ only a.reply → only a.reply ≡ b → EndsBy o a (with_report line (reported a.notes) b)
+plain-end o line a b plain same =
+    subst (λ (z : Answer). EndsBy o z (with_report line (reported z.notes) b)) (sym plain) (only-ends o a.reply b same)
 
 pub plain-ends : (e : Ends) → ((r : Reply) → only r ≡ e.answer r) → ((r : Reply) → e.fits r ≡ true) → (n : ℕ) (t : Tree) → TriesAtMost n t → EndsAs e n t
 plain-ends e h f n (Lock l q m t) few = (few.0, plain-ends e h f (n - 1) t few.1)
 plain-ends e h f n (Load v q k) few = λ x. plain-ends e h f n (k (look v x)) (few (look v x))
 plain-ends e h f n (Test b r t) few = (h r, f r, λ y. plain-ends e h f n t few)
-plain-ends e h f n (End a fs cs) few = (plain-end e.makes a (e.answer a.reply) few (h a.reply), f a.reply)
-plain-ends e h f n (Since a cs) few = (plain-end e.makes a (e.answer a.reply) few (h a.reply), f a.reply)
+plain-ends e h f n (End a fs cs) few = (plain-end e.makes e.reports a (e.answer a.reply) few (h a.reply), f a.reply)
+plain-ends e h f n (Since a cs) few = (plain-end e.makes e.reports a (e.answer a.reply) few (h a.reply), f a.reply)
 
 read-few : (n page i : ℕ) (host : Bool) → TriesAtMost n (read_word page i host)
 read-few n page i true = λ word. refl
@@ -208,6 +213,29 @@ from-few n false tdcs blocked epoch further few = few
 pub tracked-few : (n tdcs page : ℕ) (further : Tree) → TriesAtMost n further → TriesAtMost n (tracked_tree tdcs page further)
 tracked-few n tdcs page further few = λ pamt epoch. from-few n (blocked_told pamt + 1 == epoch) tdcs (blocked_told pamt) epoch further few
 
+-- of an entry whose page moves, which tries the page that it takes as well
+moved-few : (pages t gpa page : ℕ) → TriesAtMost 6 (named_tree pages t gpa 0 removed_states (relocate_rest t (index_at 0 gpa) page))
+moved-few pages t gpa page = (
+  omega arith,
+  λ pamt life count tdcs. (
+    omega arith,
+    λ op. (
+      omega arith,
+      (
+        omega arith,
+        find-few 2 pages t gpa 0 (λ (f : Found). taken_tree f.entry removed_states (relocate_rest t (index_at 0 gpa) page (record { tdcs = page_told pages tdcs; page = f.page; entry = f.entry })))
+            (λ f. (
+              omega arith,
+              (
+                omega arith,
+                λ host. tracked-few 0 (page_told pages tdcs) f.entry.page (relocate_end t (index_at 0 gpa) page (record { tdcs = page_told pages tdcs; page = f.page; entry = f.entry })) refl,
+              ),
+            )),
+      ),
+    ),
+  ),
+)
+
 either-few : (n : ℕ) (b : Bool) (x y : Tree) → TriesAtMost n x → TriesAtMost n y → TriesAtMost n (if b then x else y)
 either-few n true x y few others = few
 either-few n false x y few others = others
@@ -265,15 +293,18 @@ MakesAtMost w n (Test b r t) = MakesAtMost w n t
 MakesAtMost w n (End a fs cs) = (a ≡ with_bundles a.bundles (only a.reply)) × MakesOne w a.bundles
 MakesAtMost w n (Since a cs) = (a ≡ with_bundles a.bundles (only a.reply)) × MakesOne w a.bundles
 
-making-end : (o : Option ℕ) (w : ℕ) (a b : Answer) → o ≡ Some w → (a ≡ with_bundles a.bundles (only a.reply)) × MakesOne w a.bundles → only a.reply ≡ b → EndsBy o a b
-making-end o w a b makes made same = subst (λ (z : Option ℕ). EndsBy z a b) (sym makes) (made.0 ∙ ap (with_bundles a.bundles) same, made.1)
+making-end : (o line : Option ℕ) (w : ℕ) (a b : Answer) → o ≡ Some w → (a ≡ with_bundles a.bundles (only a.reply)) × MakesOne w a.bundles → only a.reply ≡ b → EndsBy o a (with_report line (reported a.notes) b)
+making-end o line w a b makes made same =
+    let none : reported a.notes ≡ None = ap (λ (z : Answer). reported z.notes) made.0 in
+    subst (λ (f : Option Facts). EndsBy o a (with_report line f b)) (sym none)
+    (subst (λ (z : Option ℕ). EndsBy z a b) (sym makes) (made.0 ∙ ap (with_bundles a.bundles) same, made.1))
 
-making-ends : (e : Ends) (w : ℕ) → e.makes ≡ Some w → ((r : Reply) → only r ≡ e.answer r) → ((r : Reply) → e.fits r ≡ true) → (n : ℕ) (t : Tree) → MakesAtMost w n t → EndsAs e n t
+pub making-ends : (e : Ends) (w : ℕ) → e.makes ≡ Some w → ((r : Reply) → only r ≡ e.answer r) → ((r : Reply) → e.fits r ≡ true) → (n : ℕ) (t : Tree) → MakesAtMost w n t → EndsAs e n t
 making-ends e w makes h f n (Lock l q m t) few = (few.0, making-ends e w makes h f (n - 1) t few.1)
 making-ends e w makes h f n (Load v q k) few = λ x. making-ends e w makes h f n (k (look v x)) (few (look v x))
 making-ends e w makes h f n (Test b r t) few = (h r, f r, λ y. making-ends e w makes h f n t few)
-making-ends e w makes h f n (End a fs cs) few = (making-end e.makes w a (e.answer a.reply) makes few (h a.reply), f a.reply)
-making-ends e w makes h f n (Since a cs) few = (making-end e.makes w a (e.answer a.reply) makes few (h a.reply), f a.reply)
+making-ends e w makes h f n (End a fs cs) few = (making-end e.makes e.reports w a (e.answer a.reply) makes few (h a.reply), f a.reply)
+making-ends e w makes h f n (Since a cs) few = (making-end e.makes e.reports w a (e.answer a.reply) makes few (h a.reply), f a.reply)
 
 -- walks over streams, and over the words of a payload
 pages-make : (w n pages tdcs number left : ℕ) (ps : ArrayVec ℕ) (k : ArrayVec ℕ → Tree) → ((qs : ArrayVec ℕ) → MakesAtMost w n (k qs)) → MakesAtMost w n (pages_from pages tdcs number left ps k)
@@ -368,7 +399,7 @@ unfolding page_words
 page_words-make w n page from zero k few = few [] refl
 page_words-make w n page from (suc left) k few = λ x. page_words-make w n page (suc from) left (λ xs. k (x ∷ xs)) (λ xs long. few (x ∷ xs) (omega (arith, long)))
 
-page-make : (gpa stream slot : ℕ) (x : Exporting) → MakesAtMost 512 0 (page_words_tree gpa stream slot x)
+pub page-make : (gpa stream slot : ℕ) (x : Exporting) → MakesAtMost 512 0 (page_words_tree gpa stream slot x)
 page-make gpa k slot x = page_words-make 512 0 x.page 0 512 (page_export_end gpa k slot x) (λ xs long. (refl, omega (arith, long)))
 
 named_rest-makes : (pages stream : ℕ) (o : OpState) (n : Named) (k : Exporting → Tree) → ((x : Exporting) → MakesAtMost 512 0 (k x)) → MakesAtMost 512 1 (named_rest pages stream o n k)
@@ -448,6 +479,7 @@ few_tries g p (call.MemPageAdd tdr gpa page source) h = page_add-few p.machine t
 few_tries g p (call.MemPageAug tdr gpa page) h = map-few p.machine.pages augmented_ops [] (page_aug_mapping tdr gpa page)
 few_tries g p (call.MemPageRemove tdr gpa) h =
     named-few p.machine.pages tdr gpa 0 removed_states (remove_rest tdr (index_at 0 gpa)) (λ n. tracked-few 0 n.tdcs n.entry.page (given_tree tdr n.page (index_at 0 gpa) n.entry.page) (λ children. refl))
+few_tries g p (call.MemPageRelocate tdr gpa page) h = moved-few p.machine.pages tdr gpa page
 few_tries g p (call.MemRangeBlock tdr gpa level) h = named-few p.machine.pages tdr gpa level open_states (block_rest tdr level (index_at level gpa)) (λ n. λ epoch. refl)
 few_tries g p (call.MemRangeUnblock tdr gpa level) h =
     named-few p.machine.pages tdr gpa level blocked_states (unblock_rest (index_at level gpa)) (λ n. tracked-few 0 n.tdcs n.entry.page (done [] (unblock_changes n.page (index_at level gpa) n.entry.page n.entry.state)) refl)
@@ -568,6 +600,7 @@ ends_as g p (call.MemSeptRemove tdr gpa level) = plain-ends (call_ends p.machine
 ends_as g p (call.MemPageAdd tdr gpa page source) = plain-ends (call_ends p.machine (call.MemPageAdd tdr gpa page source)) (λ r. refl) (λ r. refl) (most_tries (call.MemPageAdd tdr gpa page source)) (task_of g p (call.MemPageAdd tdr gpa page source)).tree (few_tries g p (call.MemPageAdd tdr gpa page source) refl)
 ends_as g p (call.MemPageAug tdr gpa page) = plain-ends (call_ends p.machine (call.MemPageAug tdr gpa page)) (λ r. refl) (λ r. refl) (most_tries (call.MemPageAug tdr gpa page)) (task_of g p (call.MemPageAug tdr gpa page)).tree (few_tries g p (call.MemPageAug tdr gpa page) refl)
 ends_as g p (call.MemPageRemove tdr gpa) = plain-ends (call_ends p.machine (call.MemPageRemove tdr gpa)) (λ r. refl) (λ r. refl) (most_tries (call.MemPageRemove tdr gpa)) (task_of g p (call.MemPageRemove tdr gpa)).tree (few_tries g p (call.MemPageRemove tdr gpa) refl)
+ends_as g p (call.MemPageRelocate tdr gpa page) = plain-ends (call_ends p.machine (call.MemPageRelocate tdr gpa page)) (λ r. refl) (λ r. refl) (most_tries (call.MemPageRelocate tdr gpa page)) (task_of g p (call.MemPageRelocate tdr gpa page)).tree (few_tries g p (call.MemPageRelocate tdr gpa page) refl)
 ends_as g p (call.MemRangeBlock tdr gpa level) = plain-ends (call_ends p.machine (call.MemRangeBlock tdr gpa level)) (λ r. refl) (λ r. refl) (most_tries (call.MemRangeBlock tdr gpa level)) (task_of g p (call.MemRangeBlock tdr gpa level)).tree (few_tries g p (call.MemRangeBlock tdr gpa level) refl)
 ends_as g p (call.MemRangeUnblock tdr gpa level) = plain-ends (call_ends p.machine (call.MemRangeUnblock tdr gpa level)) (λ r. refl) (λ r. refl) (most_tries (call.MemRangeUnblock tdr gpa level)) (task_of g p (call.MemRangeUnblock tdr gpa level)).tree (few_tries g p (call.MemRangeUnblock tdr gpa level) refl)
 ends_as g p (call.MemTrack tdr) = plain-ends (call_ends p.machine (call.MemTrack tdr)) (λ r. refl) (λ r. refl) (most_tries (call.MemTrack tdr)) (task_of g p (call.MemTrack tdr)).tree (few_tries g p (call.MemTrack tdr) refl)
@@ -624,6 +657,7 @@ begins_other g p (call.MemSeptRemove tdr gpa level) = refl
 begins_other g p (call.MemPageAdd tdr gpa page source) = page_add-begins p.machine tdr gpa page source
 begins_other g p (call.MemPageAug tdr gpa page) = refl
 begins_other g p (call.MemPageRemove tdr gpa) = refl
+begins_other g p (call.MemPageRelocate tdr gpa page) = refl
 begins_other g p (call.MemRangeBlock tdr gpa level) = refl
 begins_other g p (call.MemRangeUnblock tdr gpa level) = refl
 begins_other g p (call.MemTrack tdr) = refl
@@ -675,6 +709,13 @@ rtmr-ends e v line i d h =
     with-ends e 1 (rtmr_at d i) 0 6 (λ old. with_words (register_at v) 0 6 (λ registers. with_position v (λ at. extended v line d i at (extension old registers))))
     (λ old. with-ends e 1 (register_at v) 0 6 (λ registers. with_position v (λ at. extended v line d i at (extension old registers))) (λ registers. λ at. h old registers))
 
+-- a report notes what it was told
+report-ends : (e : Ends) (v line d : ℕ) → ((f : Facts) → let a = with_notes (Done value.Nothing) (ReportNote line f ∷ []) [] in EndsBy e.makes a (with_report e.reports (Some f) (e.answer a.reply)) × (e.fits a.reply ≡ true)) → EndsAs e 1 (report_held v line d)
+report-ends e v line d h =
+    with-ends e 1 (mrtd_at d) 0 6 (λ mrtd. with_words (rtmrs_at d) 0 24 (λ rtmrs. with_words (register_at v) 0 8 (λ registers. with_position v (λ at. report_end v line at (facts_told mrtd rtmrs registers)))))
+    (λ mrtd. with-ends e 1 (rtmrs_at d) 0 24 (λ rtmrs. with_words (register_at v) 0 8 (λ registers. with_position v (λ at. report_end v line at (facts_told mrtd rtmrs registers))))
+    (λ rtmrs. with-ends e 1 (register_at v) 0 8 (λ registers. with_position v (λ at. report_end v line at (facts_told mrtd rtmrs registers))) (λ registers. λ at. h (facts_told mrtd rtmrs registers))))
+
 page-small : (b : Bool) (x e : Entry) → x.page < 65536 → (if b then Some x else None) ≡ Some e → e.page < 65536
 page-small true x e small is = (let same : x ≡ e = cc in subst (λ (z : Entry). z.page < 65536) same small)
 page-small false x e small is = cc
@@ -722,6 +763,8 @@ step_ends_as g p t v line (Operates (op.Rtmr i)) =
         refl,
       )),
     )
+step_ends_as g p t v line (Operates op.Report) =
+    λ word. (omega arith, report-ends (step_ends t line (Operates op.Report)) v line (page_told p.machine.pages word) (λ f. (refl, refl)))
 step_ends_as g p t v line (Operates (op.Vmcall r)) = λ at x. (refl, refl)
 step_ends_as g p t v line (Accesses Read r gpa page) = λ at x. (refl, refl)
 step_ends_as g p t v line (Accesses Write r gpa page) = λ at x. (refl, refl)
@@ -736,6 +779,7 @@ step_begins_other g p t v line (Operates (op.Load r gpa)) = refl
 step_begins_other g p t v line (Operates (op.Store r gpa)) = refl
 step_begins_other g p t v line (Operates (op.Accept gpa)) = λ word. refl
 step_begins_other g p t v line (Operates (op.Rtmr i)) = λ word. refl
+step_begins_other g p t v line (Operates op.Report) = λ word. refl
 step_begins_other g p t v line (Operates (op.Vmcall r)) = λ at x. refl
 step_begins_other g p t v line (Accesses Read r gpa page) = λ at x. refl
 step_begins_other g p t v line (Accesses Write r gpa page) = λ at x. refl

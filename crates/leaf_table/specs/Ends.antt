@@ -1,6 +1,7 @@
 -- What the leaf of a call, or of a step of a guest, comes to: how many locks it tries at most, and what it answers besides its
 -- reply, by that reply.
 use Rattle.std.specs.Prelude.{◌≡◌, ℕ, ◌-◌, ◌≤◌, Bool, true, false, ◌&&◌, nat_lt, if◌then◌else◌, Option, Some, None, List, [], ◌∷◌, length}
+use Rattle.report_core.specs.declared.facts.Facts.{Facts}
 use Rattle.td_words.specs.declared.names.Access.TheVariants.{Read}
 use Rattle.td_words.specs.declared.machines.Machine.{Machine}
 use Rattle.td_words.specs.declared.calls.Call.{Call}
@@ -11,22 +12,24 @@ use Rattle.td_words.specs.declared.replies.Value.TheVariants as value
 use Rattle.td_words.specs.declared.replies.Reply.{Reply}
 use Rattle.td_words.specs.declared.replies.Reply.TheVariants.{Done, Refused, Exited}
 use Rattle.flat_core.specs.World.{Made}
-use Rattle.flat_core.specs.Processor.{name_of, LoadNote, RtmrNote}
+use Rattle.flat_core.specs.Processor.{name_of, LoadNote, RtmrNote, ReportNote}
 use Rattle.flat_core.specs.Digests.{digest_word, six_words}
 use Rattle.flat_core.specs.Table.{most_tries}
 use Rattle.flat_core.specs.Translations.{drop_td}
 use Rattle.word_rules.specs.Views.{look}
 use Rattle.leaf_engine.specs.Trees.{Answer, only, Tree, Lock, Load, Test, End, Since}
+use Rattle.leaf_engine.specs.Besides.{reported}
 use Rattle.leaf_engine.specs.Guests.{Step, Operates, Accesses, Loads, Leaves, is_epoch_name}
 use Rattle.access_core.specs.OperationTrees.{with_notes}
 use Rattle.access_core.specs.WalkTrees.{goes_on_by, page_by, walked}
 use Rattle.vcpu_control.specs.FlushTrees.{flush_answer}
 
--- at most how many locks it tries; whether it makes a bundle, and of at most how many payload words; its answer by its reply,
--- but for that bundle; and which replies it has
+-- at most how many locks it tries; whether it makes a bundle, and of at most how many payload words; whether it reports facts,
+-- and at which line; its answer by its reply, but for that bundle and that report; and which replies it has
 pub record Ends : Type 0 where
   pub tries : ℕ
   pub makes : Option ℕ
+  pub reports : Option ℕ
   pub answer : Reply → Answer
   pub fits : Reply → Bool
 
@@ -61,7 +64,7 @@ call_makes (call.ImportAbort tdr slot) = Some 0
 call_makes _ = None
 
 abbrev pub call_ends : Machine → Call → Ends
-call_ends m c = record { tries = most_tries c; makes = call_makes c; answer = call_answer c; fits = call_fits m c }
+call_ends m c = record { tries = most_tries c; makes = call_makes c; reports = None; answer = call_answer c; fits = call_fits m c }
 
 -- Steps of a guest: a load is noted, and so is an RTMR's extension; a shared store and VMCALL tell a word; the load of an entry
 -- may let a translation be cached.
@@ -91,13 +94,24 @@ abbrev pub step_tries : Step → ℕ
 step_tries (Operates o) = 2
 step_tries _ = 0
 
+-- a report's facts come beside its reply
+abbrev pub step_reports : (line : ℕ) → Step → Option ℕ
+step_reports line (Operates op.Report) = Some line
+step_reports line _ = None
+
 -- and makes no bundle
 abbrev pub step_ends : (tdr line : ℕ) → Step → Ends
-step_ends t line s = record { tries = step_tries s; makes = None; answer = step_answer t line s; fits = step_fits s }
+step_ends t line s = record { tries = step_tries s; makes = None; reports = step_reports line s; answer = step_answer t line s; fits = step_fits s }
 
 -- an answer with these bundles
 abbrev pub with_bundles : List Made → Answer → Answer
 with_bundles ms a = record { reply = a.reply; cached = a.cached; enters = a.enters; notes = a.notes; tells = a.tells; bundles = ms }
+
+-- an answer that notes a report of these facts besides
+abbrev pub with_report : (line : Option ℕ) → Option Facts → Answer → Answer
+with_report line None a = a
+with_report None (Some f) a = a
+with_report (Some line) (Some f) a = record { reply = a.reply; cached = a.cached; enters = a.enters; notes = ReportNote line f ∷ []; tells = a.tells; bundles = a.bundles }
 
 -- the bundles that a leaf makes: none, or at most one, of at most so many payload words
 abbrev pub MakesOne : ℕ → List Made → Type 0
@@ -109,7 +123,7 @@ abbrev pub AreMade : Option ℕ → List Made → Type 0
 AreMade None ms = ms ≡ []
 AreMade (Some n) ms = MakesOne n ms
 
--- an end answers what goes by its reply, but for the bundle, if it makes one
+-- an end answers what goes by its reply and its report, but for the bundle, if it makes one
 abbrev pub EndsBy : Option ℕ → Answer → Answer → Type 0
 EndsBy None a b = a ≡ with_bundles [] b
 EndsBy (Some n) a b = (a ≡ with_bundles a.bundles b) × MakesOne n a.bundles
@@ -119,8 +133,8 @@ abbrev pub EndsAs : Ends → ℕ → Tree → Type 0
 EndsAs e n (Lock l q m t) = (1 ≤ n) × EndsAs e (n - 1) t
 EndsAs e n (Load v q k) = (x : ℕ) → EndsAs e n (k (look v x))
 EndsAs e n (Test b r t) = (only r ≡ e.answer r) × (e.fits r ≡ true) × (b ≡ true → EndsAs e n t)
-EndsAs e n (End a fs cs) = EndsBy e.makes a (e.answer a.reply) × (e.fits a.reply ≡ true)
-EndsAs e n (Since a cs) = EndsBy e.makes a (e.answer a.reply) × (e.fits a.reply ≡ true)
+EndsAs e n (End a fs cs) = EndsBy e.makes a (with_report e.reports (reported a.notes) (e.answer a.reply)) × (e.fits a.reply ≡ true)
+EndsAs e n (Since a cs) = EndsBy e.makes a (with_report e.reports (reported a.notes) (e.answer a.reply)) × (e.fits a.reply ≡ true)
 
 -- The first lock that a tree tries isn't an E, and it enters no guest before.
 abbrev pub BeginsUnderOther : Tree → Type 0

@@ -20,6 +20,8 @@ use Rattle.import_pages.specs.PageImportStages.{rest_of as import_rest_of}
 use Rattle.import_pages.specs.PageImportMeanings.{page_import-means}
 use Rattle.import_states.specs.TdImportTrees.{td_import_tree, import_td_task}
 use Rattle.import_states.specs.TdImportMeanings.{import_td-means}
+use Rattle.access_core.specs.ReportTrees.{report_task, report_tree}
+use Rattle.access_core.specs.ReportMeanings.{report-means}
 use Rattle.leaf_table.specs.Plans.{plan_task, plans-mean}
 use Rattle.leaf_table.specs.declared.leaves.AnyLeaf.{AnyLeaf}
 use Rattle.leaf_table.specs.declared.leaves.AnyLeaf.TheVariants as leaf
@@ -80,6 +82,14 @@ leaf_seen (leaf.PageExport l) = record {
   bound = 2 * (26 - length l.told.items) + 2 * (512 - length l.words) + (3 - l.written) - (if l.waits then 1 else 0);
   tries = 26 - length l.told.items;
 }
+leaf_seen (leaf.Report l) = record {
+  task = report_task l.place l.tdr l.vp l.line;
+  rest = feed (report_tree l.place.machine l.tdr l.vp l.line) l.told.items;
+  written = l.written;
+  waits = l.waits;
+  bound = 2 * (41 - length l.told.items) + (1 - l.written) - (if l.waits then 1 else 0);
+  tries = 2 - length l.told.items;
+}
 leaf_seen (leaf.ImportTd l) = record {
   task = import_td_task l.place l.input l.tdr l.slot;
   rest = feed (td_import_tree l.place.machine (input_in l.input) l.tdr l.slot) l.told.items;
@@ -104,5 +114,6 @@ leaves-mean (leaf.Extend l) = extend-means l.place l.tdr l.gpa l.machine
 leaves-mean (leaf.SeptRemove l) = sept_remove-means l.place l.tdr l.gpa l.level l.machine
 leaves-mean (leaf.StateTd l) = td_state-means l.place l.tdr l.slot
 leaves-mean (leaf.PageExport l) = page_export-means l.place l.tdr l.gpa l.stream l.slot l.machine
+leaves-mean (leaf.Report l) = report-means l.place l.tdr l.vp l.line
 leaves-mean (leaf.ImportTd l) = import_td-means l.place l.input l.tdr l.slot
 leaves-mean (leaf.PageImport l) = page_import-means l.place l.input l.tdr l.slot l.page l.machine

@@ -36,6 +36,7 @@ use Rattle.mem_remove.specs.MetadataTrees.{rdmd_task}
 use Rattle.mem_remove.specs.TrackTrees.{track_task, track_changes}
 use Rattle.mem_remove.specs.RangeTrees.{range_block_task, block_changes, range_unblock_task, unblock_changes}
 use Rattle.mem_remove.specs.RemoveTrees.{page_remove_task, remove_changes}
+use Rattle.relocate_core.specs.RelocateTrees.{page_relocate_task, all_changes}
 use Rattle.export_core.specs.StreamTrees.{stream_create_task, stream_list}
 use Rattle.export_core.specs.WriteTrees.{block_write_task, unblock_write_task}
 use Rattle.stream_parts.specs.AloneTrees.{op_changes}
@@ -74,6 +75,7 @@ use Rattle.mem_remove.specs.MetadataMeanings.{rdmd-means}
 use Rattle.mem_remove.specs.TrackMeanings.{track-means}
 use Rattle.mem_remove.specs.BlockMeanings.{range_block-means, range_unblock-means}
 use Rattle.mem_remove.specs.RemoveMeanings.{page_remove-means}
+use Rattle.relocate_core.specs.RelocateMeanings.{page_relocate-means}
 use Rattle.export_core.specs.StreamMeanings.{stream_create-means}
 use Rattle.export_core.specs.BlockMeanings.{block_write-means}
 use Rattle.export_core.specs.WriteMeanings.{unblock_write-means}
@@ -129,6 +131,7 @@ plan_task (plan.SeptRd l) = sept_read_task l.place l.tdr l.gpa l.level
 plan_task (plan.PageAdd l) = page_add_task l.place l.given.tdr l.given.gpa l.given.page l.given.source
 plan_task (plan.PageAug l) = page_aug_task l.place l.tdr l.gpa l.page
 plan_task (plan.PageRemove l) = page_remove_task l.place l.tdr l.gpa
+plan_task (plan.PageRelocate l) = page_relocate_task l.place l.tdr l.gpa l.page
 plan_task (plan.RangeBlock l) = range_block_task l.place l.tdr l.gpa l.level
 plan_task (plan.RangeUnblock l) = range_unblock_task l.place l.tdr l.gpa l.level
 plan_task (plan.Track l) = track_task l.place l.tdr
@@ -184,6 +187,7 @@ plan_changes (plan.SeptRd l) told a = []
 plan_changes (plan.PageAdd l) told a = added_changes l.place.machine (addition l.given.tdr l.given.gpa l.given.page l.given.source a)
 plan_changes (plan.PageAug l) told a = map_changes l.place.machine.pages (page_aug_mapping l.tdr l.gpa l.page) a.page a.children
 plan_changes (plan.PageRemove l) told a = remove_changes l.tdr a.page (index_at 0 l.gpa) a.named a.children
+plan_changes (plan.PageRelocate l) told a = all_changes l.tdr a.page (index_at 0 l.gpa) a.state a.named l.page
 plan_changes (plan.RangeBlock l) told a = block_changes l.tdr l.level a.page (index_at l.level l.gpa) a.named a.state a.epoch
 plan_changes (plan.RangeUnblock l) told a = unblock_changes a.page (index_at l.level l.gpa) a.named a.state
 plan_changes (plan.Track l) told a = track_changes a.page a.epoch
@@ -242,6 +246,7 @@ plan_shown (plan.SeptRd l) told a = true
 plan_shown (plan.PageAdd l) told a = is_page l.place l.given.tdr && is_page l.place l.given.page && is_page l.place l.given.source && not (l.given.source == l.given.page) && is_page l.place a.page
 plan_shown (plan.PageAug l) told a = is_page l.place l.tdr && is_page l.place l.page && is_page l.place a.page
 plan_shown (plan.PageRemove l) told a = is_page l.place l.tdr && is_page l.place a.page && is_page l.place a.named
+plan_shown (plan.PageRelocate l) told a = is_page l.place l.tdr && is_page l.place l.page && is_page l.place a.page && is_page l.place a.named && not (l.page == a.named)
 plan_shown (plan.RangeBlock l) told a = is_page l.place l.tdr && nat_le l.level 3 && is_page l.place a.page && is_page l.place a.named
 plan_shown (plan.RangeUnblock l) told a = nat_le l.level 3 && is_page l.place a.page && is_page l.place a.named
 plan_shown (plan.Track l) told a = is_page l.place a.page && nat_lt a.epoch (2 ^ 32 - 1)
@@ -297,6 +302,7 @@ plans-mean (plan.SeptRd l) = sept_read-means l.place l.tdr l.gpa l.level l.machi
 plans-mean (plan.PageAdd l) = page_add-means l.place l.given.tdr l.given.gpa l.given.page l.given.source l.machine
 plans-mean (plan.PageAug l) = page_aug-means l.place l.tdr l.gpa l.page l.machine
 plans-mean (plan.PageRemove l) = page_remove-means l.place l.tdr l.gpa l.machine
+plans-mean (plan.PageRelocate l) = page_relocate-means l.place l.tdr l.gpa l.page l.machine
 plans-mean (plan.RangeBlock l) = range_block-means l.place l.tdr l.gpa l.level l.machine
 plans-mean (plan.RangeUnblock l) = range_unblock-means l.place l.tdr l.gpa l.level l.machine
 plans-mean (plan.Track l) = track-means l.place l.tdr

@@ -16,12 +16,14 @@ use Rattle.access_core.specs.HostTrees.{host_read_task, host_write_task}
 use Rattle.access_core.specs.OperationTrees.{set_task, add_task as sum_task, vmcall_task, shared_load_task, shared_store_task}
 use Rattle.access_core.specs.AcceptTrees.{accept_task}
 use Rattle.access_core.specs.RtmrTrees.{rtmr_task}
+use Rattle.access_core.specs.ReportTrees.{report_task}
 use Rattle.access_core.specs.ReachTrees.{access_tree}
 use Rattle.access_core.specs.WalkTrees.{walk_tree}
 use Rattle.mem_remove.specs.MetadataTrees.{rdmd_task}
 use Rattle.mem_remove.specs.TrackTrees.{track_task}
 use Rattle.mem_remove.specs.RangeTrees.{range_block_task, range_unblock_task}
 use Rattle.mem_remove.specs.RemoveTrees.{page_remove_task, sept_remove_task}
+use Rattle.relocate_core.specs.RelocateTrees.{page_relocate_task}
 use Rattle.export_core.specs.StreamTrees.{stream_create_task}
 use Rattle.export_core.specs.WriteTrees.{block_write_task, unblock_write_task}
 use Rattle.export_core.specs.PauseTrees.{pause_task, abort_task}
@@ -85,6 +87,7 @@ task_of g p (call.MemSeptRemove tdr gpa level) = sept_remove_task p tdr gpa leve
 task_of g p (call.MemPageAdd tdr gpa page source) = page_add_task p tdr gpa page source
 task_of g p (call.MemPageAug tdr gpa page) = page_aug_task p tdr gpa page
 task_of g p (call.MemPageRemove tdr gpa) = page_remove_task p tdr gpa
+task_of g p (call.MemPageRelocate tdr gpa page) = page_relocate_task p tdr gpa page
 task_of g p (call.MemRangeBlock tdr gpa level) = range_block_task p tdr gpa level
 task_of g p (call.MemRangeUnblock tdr gpa level) = range_unblock_task p tdr gpa level
 task_of g p (call.MemTrack tdr) = track_task p tdr
@@ -120,6 +123,7 @@ operation_task g p t v line (op.Load r gpa) = shared_load_task p t v line r gpa
 operation_task g p t v line (op.Store r gpa) = shared_store_task p t v r gpa
 operation_task g p t v line (op.Accept gpa) = accept_task p t v gpa
 operation_task g p t v line (op.Rtmr i) = rtmr_task p t v line i
+operation_task g p t v line op.Report = report_task p t v line
 operation_task g p t v line (op.Vmcall r) = vmcall_task p t v r
 
 -- The page that a translation or an upper entry names is the machine's wherever the step is made; any other is read as page 0.

@@ -3,6 +3,7 @@
 ghost use Rattle.std.specs.Prelude.{◌≡◌, ◌<◌, true, false, length};
 ghost use Rattle.td_words.specs.Limits.{IsMachine};
 ghost use Rattle.bundles.specs.Made.{made_in};
+ghost use Rattle.leaf_engine.specs.Besides.{reported};
 ghost use Rattle.leaf_engine.specs.Trees.{answer_of};
 ghost use Rattle.leaf_engine.specs.Turns.{IsFresh};
 ghost use Rattle.leaf_table.specs.Plans.{plan_task};
@@ -16,7 +17,7 @@ use crate::given::Given;
 use crate::plans::AnyPlan;
 use crate::steps::Step;
 use access_core::{
-    Accept, Add, HostRead, HostWrite, PrivateLoad, PrivateStore, Rtmr, Set, SharedLoad,
+    Accept, Add, HostRead, HostWrite, PrivateLoad, PrivateStore, Report, Rtmr, Set, SharedLoad,
     SharedStore, Vmcall, WalkLoad,
 };
 use bundles::Bundle;
@@ -34,13 +35,15 @@ use leaf_parts::page_told;
 use mem_build::{Extend, PageAdd, PageAug, SeptAdd, SeptRd};
 use mem_remove::{PageRemove, RangeBlock, RangeUnblock, Rdmd, SeptRemove, Track};
 use mrtd_measure::Measure;
+use relocate_core::PageRelocate;
+use report_core::Facts;
 use td_control::{AddCx, Create, Finalize, Init, KeyConfig, Rd};
 use td_words::{Access, Call, GuestOp};
 use vcpu_control::{Enter, Exit, VpCreate, VpFlush, VpInit};
 
 /// A leaf of any call that is built, or of any step of a guest: one that goes by a plan, or
-/// that of MR.EXTEND, of MEM.SEPT.REMOVE, of EXPORT.STATE.TD or of EXPORT.MEM, which are told more
-/// words, or of IMPORT.STATE.TD or of IMPORT.MEM, which make more writes. That of EXPORT.MEM has the
+/// that of MR.EXTEND, of MEM.SEPT.REMOVE, of EXPORT.STATE.TD, of EXPORT.MEM or of a guest's report, which
+/// are told more words, or of IMPORT.STATE.TD or of IMPORT.MEM, which make more writes. That of EXPORT.MEM has the
 /// room for a page's words.
 #[derive(Drop)]
 pub enum AnyLeaf<'a> {
@@ -49,6 +52,7 @@ pub enum AnyLeaf<'a> {
     SeptRemove(SeptRemove),
     StateTd(StateTd),
     PageExport(PageExport),
+    Report(Report),
     ImportTd(ImportTd<'a>),
     PageImport(PageImport<'a>),
 }
@@ -75,6 +79,7 @@ impl<'a> Leaf for AnyLeaf<'a> {
             AnyLeaf::SeptRemove(leaf) => leaf.need(),
             AnyLeaf::StateTd(leaf) => leaf.need(),
             AnyLeaf::PageExport(leaf) => leaf.need(),
+            AnyLeaf::Report(leaf) => leaf.need(),
             AnyLeaf::ImportTd(leaf) => leaf.need(),
             AnyLeaf::PageImport(leaf) => leaf.need(),
         }
@@ -87,6 +92,7 @@ impl<'a> Leaf for AnyLeaf<'a> {
             AnyLeaf::SeptRemove(leaf) => leaf.tell(word),
             AnyLeaf::StateTd(leaf) => leaf.tell(word),
             AnyLeaf::PageExport(leaf) => leaf.tell(word),
+            AnyLeaf::Report(leaf) => leaf.tell(word),
             AnyLeaf::ImportTd(leaf) => leaf.tell(word),
             AnyLeaf::PageImport(leaf) => leaf.tell(word),
         }
@@ -99,6 +105,7 @@ impl<'a> Leaf for AnyLeaf<'a> {
             AnyLeaf::SeptRemove(leaf) => leaf.write(hasher),
             AnyLeaf::StateTd(leaf) => leaf.write(hasher),
             AnyLeaf::PageExport(leaf) => leaf.write(hasher),
+            AnyLeaf::Report(leaf) => leaf.write(hasher),
             AnyLeaf::ImportTd(leaf) => leaf.write(hasher),
             AnyLeaf::PageImport(leaf) => leaf.write(hasher),
         }
@@ -120,6 +127,23 @@ impl<'a> AnyLeaf<'a> {
             AnyLeaf::SeptRemove(_) => None,
             AnyLeaf::StateTd(leaf) => leaf.bundle(),
             AnyLeaf::PageExport(leaf) => leaf.bundle(),
+            AnyLeaf::Report(_) => None,
+            AnyLeaf::ImportTd(_) => None,
+            AnyLeaf::PageImport(_) => None,
+        }
+    }
+
+    /// The facts that it has reported, once it has come to its act.
+    pub fn facts(&self) -> Option<Facts>
+        ensures { result ≡ reported (answer_of (leaf_seen self.now).rest).notes }
+    {
+        match self {
+            AnyLeaf::ByPlan(_) => None,
+            AnyLeaf::Extend(_) => None,
+            AnyLeaf::SeptRemove(_) => None,
+            AnyLeaf::StateTd(_) => None,
+            AnyLeaf::PageExport(_) => None,
+            AnyLeaf::Report(leaf) => leaf.facts(),
             AnyLeaf::ImportTd(_) => None,
             AnyLeaf::PageImport(_) => None,
         }
@@ -224,6 +248,9 @@ fn roomless_leaf<'a>(place: Place, call: &Call, given: Given<'a>) -> AnyLeaf<'a>
         }
         Call::MemPageRemove { tdr, gpa } => {
             by_plan(AnyPlan::PageRemove(PageRemove::plan(place, tdr, gpa)))
+        }
+        Call::MemPageRelocate { tdr, gpa, page } => {
+            by_plan(AnyPlan::PageRelocate(PageRelocate::plan(place, tdr, gpa, page)))
         }
         Call::MemRangeBlock { tdr, gpa, level } => {
             by_plan(AnyPlan::RangeBlock(RangeBlock::plan(place, tdr, gpa, level)))
@@ -382,6 +409,7 @@ fn operation_leaf<'a>(
         ))),
         GuestOp::Accept { gpa } => by_plan(AnyPlan::Accept(Accept::plan(place, tdr, vp, gpa))),
         GuestOp::Rtmr { index } => by_plan(AnyPlan::Rtmr(Rtmr::plan(place, tdr, vp, line, index))),
+        GuestOp::Report => AnyLeaf::Report(Report::leaf(place, tdr, vp, line)),
         GuestOp::Vmcall { register } => {
             by_plan(AnyPlan::Vmcall(Vmcall::plan(place, tdr, vp, register)))
         }

@@ -19,6 +19,7 @@ use key_table::{CacheWb, FlushDone, FreeId, Reclaim};
 use leaf_engine::{Act, Hand, Plan, Stop, Told, Verdict, Write};
 use mem_build::{PageAdd, PageAug, SeptAdd, SeptRd};
 use mem_remove::{PageRemove, RangeBlock, RangeUnblock, Rdmd, Track};
+use relocate_core::PageRelocate;
 use td_control::{AddCx, Create, Finalize, Init, KeyConfig, Rd};
 use vcpu_control::{Enter, Exit, VpCreate, VpFlush, VpInit};
 
@@ -46,6 +47,7 @@ pub enum AnyPlan<'a> {
     PageAdd(PageAdd),
     PageAug(PageAug),
     PageRemove(PageRemove),
+    PageRelocate(PageRelocate),
     RangeBlock(RangeBlock),
     RangeUnblock(RangeUnblock),
     Track(Track),
@@ -111,6 +113,7 @@ impl<'a> Plan for AnyPlan<'a> {
             AnyPlan::PageAdd(plan) => plan.decide(told),
             AnyPlan::PageAug(plan) => plan.decide(told),
             AnyPlan::PageRemove(plan) => plan.decide(told),
+            AnyPlan::PageRelocate(plan) => plan.decide(told),
             AnyPlan::RangeBlock(plan) => plan.decide(told),
             AnyPlan::RangeUnblock(plan) => plan.decide(told),
             AnyPlan::Track(plan) => plan.decide(told),
@@ -168,6 +171,7 @@ impl<'a> Plan for AnyPlan<'a> {
             AnyPlan::PageAdd(plan) => plan.write(act, told, number, hand),
             AnyPlan::PageAug(plan) => plan.write(act, told, number, hand),
             AnyPlan::PageRemove(plan) => plan.write(act, told, number, hand),
+            AnyPlan::PageRelocate(plan) => plan.write(act, told, number, hand),
             AnyPlan::RangeBlock(plan) => plan.write(act, told, number, hand),
             AnyPlan::RangeUnblock(plan) => plan.write(act, told, number, hand),
             AnyPlan::Track(plan) => plan.write(act, told, number, hand),

@@ -32,6 +32,7 @@ mnemonics =
     ∷ (codes "MEM.PAGE.ADD", call.MemPageAdd, 4, 4)
     ∷ (codes "MEM.PAGE.AUG", call.MemPageAug, 3, 3)
     ∷ (codes "MEM.PAGE.REMOVE", call.MemPageRemove, 2, 2)
+    ∷ (codes "MEM.PAGE.RELOCATE", call.MemPageRelocate, 3, 3)
     ∷ (codes "MEM.RANGE.BLOCK", call.MemRangeBlock, 3, 3)
     ∷ (codes "MEM.RANGE.UNBLOCK", call.MemRangeUnblock, 3, 3)
     ∷ (codes "MEM.TRACK", call.MemTrack, 1, 1)

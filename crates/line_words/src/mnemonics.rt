@@ -32,6 +32,7 @@ pub enum CallName {
     MemPageAdd,
     MemPageAug,
     MemPageRemove,
+    MemPageRelocate,
     MemRangeBlock,
     MemRangeUnblock,
     MemTrack,
@@ -65,7 +66,7 @@ pub struct Mnemonic {
 }
 
 /// EXPORT.ABORT has a form with a slot and one without; every other call has one form.
-const MNEMONICS: [(&str, CallName, usize, usize); 46] = [
+const MNEMONICS: [(&str, CallName, usize, usize); 47] = [
     ("HOST.READ", CallName::HostRead, 2, 2),
     ("HOST.WRITE", CallName::HostWrite, 3, 3),
     ("PHYMEM.PAGE.RDMD", CallName::PhymemPageRdmd, 1, 1),
@@ -90,6 +91,7 @@ const MNEMONICS: [(&str, CallName, usize, usize); 46] = [
     ("MEM.PAGE.ADD", CallName::MemPageAdd, 4, 4),
     ("MEM.PAGE.AUG", CallName::MemPageAug, 3, 3),
     ("MEM.PAGE.REMOVE", CallName::MemPageRemove, 2, 2),
+    ("MEM.PAGE.RELOCATE", CallName::MemPageRelocate, 3, 3),
     ("MEM.RANGE.BLOCK", CallName::MemRangeBlock, 3, 3),
     ("MEM.RANGE.UNBLOCK", CallName::MemRangeUnblock, 3, 3),
     ("MEM.TRACK", CallName::MemTrack, 1, 1),

@@ -14,18 +14,14 @@ use Rattle.flat_core.specs.Opening.{Opening}
 use Rattle.flat_core.specs.Row.{Item, Passes}
 use Rattle.flat_core.specs.Conditions.{is_host}
 use Rattle.flat_core.specs.KeyRows.{reclaim_conditions}
-use Rattle.flat_core.specs.MemRows.{removed_states}
-use Rattle.flat_core.specs.Tracking.{tracked_page}
-use Rattle.flat_core.specs.Tree.{number_at, entry_at, empty_below}
+use Rattle.flat_core.specs.Tree.{entry_at}
 use Rattle.flat_core.specs.Inputs.{Input, input_in, tag_holds}
 use Rattle.flat_core.specs.ImportRows.{page_to_fill, fill_page}
-use Rattle.flat_core.specs.Lawful.{Lawful, IsAlive, is_free}
+use Rattle.flat_core.specs.Lawful.{Lawful, IsAlive}
 use Rattle.flat_core.specs.Table.{row_of}
 use Rattle.flat_core.proofs.Maps.{unlisted, node_named}
-use Rattle.flat_core.proofs.Ranges.{named_alive, page_removed, sept_removed}
-use Rattle.flat_core.proofs.Passed.{sept_passed, remove_passed, sept_remove_passed}
 use Rattle.flat_core.proofs.Parts.{IsLive}
-use Rattle.flat_core.proofs.Shapes.{Aspect, aspect_of, changes_root, Shape, notes, fills, takes, reclaims, unmaps, begins, changes_life, changes_op, changes_vp, enters, flushes, changes_entry, advances}
+use Rattle.flat_core.proofs.Shapes.{Aspect, aspect_of, changes_root, Takes, Shape, notes, fills, takes, reclaims, unmaps, begins, changes_life, changes_op, changes_vp, enters, flushes, changes_entry, advances, ActShape, one, moves, unmaps_kept}
 use Rattle.flat_core.proofs.ShapeOf.{shape_of}
 use Rattle.flat_core.proofs.Tests.{by_test, host_kind}
 use Rattle.lock_words.specs.LockWords.{TdStands}
@@ -60,10 +56,13 @@ module _ (o : Opening) (me : ℕ) (c : Call) (w w' : World) (la : Lawful o.machi
   by-world : (v : World) → w' ≡ v → v.pages.kinds t ≡ w.pages.kinds t → v.tds.lives t ≡ w.tds.lives t → IsAlive w'.pages w'.tds t
   by-world v e k l = by-aspect (aspect_of v) (ap aspect_of e) k l
 
+  takes-go-on : Takes w w' → IsAlive w'.pages w'.tds t
+  takes-go-on x = let n : (t == x.page) ≡ false = apart-host w t x.page a x.host in by-aspect _ x.rest (rw n refl) refl
+
   goes-on : Shape me c w w' → IsAlive w'.pages w'.tds t
   goes-on (notes x) = by-aspect _ x.rest refl refl
   goes-on (fills x) = by-aspect _ x.rest refl refl
-  goes-on (takes x) = let n : (t == x.page) ≡ false = apart-host w t x.page a x.host in by-aspect _ x.rest (rw n refl) refl
+  goes-on (takes x held) = takes-go-on x
   goes-on (reclaims x) = absurd (let no : true ≡ false = sym x.call ∙ off in cc)
   goes-on (unmaps x) =
       let node = node_named o.machine w la x.tdr x.level x.number x.alive x.removed.used in
@@ -77,6 +76,10 @@ module _ (o : Opening) (me : ℕ) (c : Call) (w w' : World) (la : Lawful o.machi
   goes-on (flushes x) = by-world _ x.is refl refl
   goes-on (changes_entry x) = by-aspect _ x.rest refl refl
   goes-on (advances x) = by-world _ x.is refl refl
+
+act-goes-on : (o : Opening) (me : ℕ) (c : Call) (w w' : World) → Lawful o.machine w → (t : ℕ) → IsAlive w.pages w.tds t → changes_root c ≡ false → ActShape me c w w' → IsAlive w'.pages w'.tds t
+act-goes-on o me c w w' la t a off (one x) = goes-on o me c w w' la t a off x
+act-goes-on o me c w w' la t a off (moves v x y held) = takes-go-on o me c v w' (unmaps_kept o.machine c w v la x) t (goes-on o me c w v la t a off (unmaps x)) off y
 
 pub acts-go-on : (o : Opening) (me : ℕ) (c : Call) (w : World) (t : ℕ) → let row = row_of o me c in
     Lawful o.machine w → Passes (row.items w) → TdStands w t → TdStands (row.act w) t ⊎ (first_try (row.items w) ≡ held_as t Exclusive)
@@ -107,6 +110,6 @@ acts-go-on o me (call.ImportMem tdr slot page) w t la ps st =
     let gpa : ℕ = x.header.gpa in
     let s : EntryState = (entry_at w tdr 0 gpa).state in
     inl (same-td (fill_page tdr gpa page x.words s w) _ t (filled-on w t tdr gpa page x.words (tag_holds x ∷ []) st s (search)) refl refl refl)
-acts-go-on o me (call.ExportTrack tdr slot zero) w t la ps st = inl (record { alive = goes-on o me _ w _ la t st.alive refl (shape_of o me (call.ExportTrack tdr slot zero) w ps); has_tdcs = st.has_tdcs })
-acts-go-on o me (call.ExportTrack tdr slot (suc n)) w t la ps st = inl (record { alive = goes-on o me _ w _ la t st.alive refl (shape_of o me (call.ExportTrack tdr slot (suc n)) w ps); has_tdcs = st.has_tdcs })
-acts-go-on o me c w t la ps st = inl (record { alive = goes-on o me c w _ la t st.alive refl (shape_of o me c w ps); has_tdcs = st.has_tdcs })
+acts-go-on o me (call.ExportTrack tdr slot zero) w t la ps st = inl (record { alive = act-goes-on o me _ w _ la t st.alive refl (shape_of o me (call.ExportTrack tdr slot zero) w ps); has_tdcs = st.has_tdcs })
+acts-go-on o me (call.ExportTrack tdr slot (suc n)) w t la ps st = inl (record { alive = act-goes-on o me _ w _ la t st.alive refl (shape_of o me (call.ExportTrack tdr slot (suc n)) w ps); has_tdcs = st.has_tdcs })
+acts-go-on o me c w t la ps st = inl (record { alive = act-goes-on o me c w _ la t st.alive refl (shape_of o me c w ps); has_tdcs = st.has_tdcs })

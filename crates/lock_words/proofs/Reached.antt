@@ -283,7 +283,7 @@ module _ (w : World) where
       operation_row o t v line (λ y. SameTds (tell_words (y.tells w) (y.act w)))
       (λ r x. same-tds _ refl refl refl) (λ r s. same-tds _ refl refl refl) (λ r gpa. same-tds _ refl refl refl) (λ r gpa. same-tds _ refl refl refl)
       (λ gpa. accepted (λ z. SameTds (tell_words [] (pass_operation v z))) (is_pending_at w t gpa) t gpa w (λ pends. same-tds _ refl refl refl) (λ stays. same-tds _ refl refl refl))
-      (λ i. same-tds _ refl refl refl) (λ r. same-tds _ refl refl refl) op x e
+      (λ i. same-tds _ refl refl refl) (same-tds _ refl refl refl) (λ r. same-tds _ refl refl refl) op x e
   operation-tds o t v line op x (Attempts l m) e = λ u st. st
   operation-tds o t v line op x (Undoes l) e = λ u st. st
   operation-tds o t v line op x (Refuses r) e = λ u st. st
@@ -308,7 +308,7 @@ TriesOf t (Try l m ∷ items) = IsOfGuest t l × TriesOf t items
 operation-tries : (o : Opening) (t v line : ℕ) (op : GuestOp) (row : OperationRow) (w : World) → operation_of o t v line op ≡ ByRow row → TriesOf t (row.items w)
 operation-tries o t v line op y w is =
     operation_row o t v line (λ x. TriesOf t (x.items w))
-    (λ r x. tt) (λ r s. tt) (λ r gpa. (tt, tt)) (λ r gpa. (tt, tt)) (λ gpa. (refl, (tt, tt))) (λ i. (refl, tt)) (λ r. tt) op y is
+    (λ r x. tt) (λ r s. tt) (λ r gpa. (tt, tt)) (λ r gpa. (tt, tt)) (λ gpa. (refl, (tt, tt))) (λ i. (refl, tt)) (refl, tt) (λ r. tt) op y is
 
 next-of-guest : (t : ℕ) (items : List (Item (Option Outcome))) (k : ℕ) (l : LockId) → TriesOf t items → tried_in (next items k) ≡ Some l → IsOfGuest t l
 next-of-guest t [] k l h e = cc

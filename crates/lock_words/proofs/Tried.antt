@@ -24,7 +24,7 @@ use Rattle.flat_core.specs.Row.{Item, Check, Try, Attempts, Succeeds, next, Pass
 use Rattle.flat_core.specs.Conditions.{all_ops, begun_ops, growing_ops, later_ops, running_ops, not_elsewhere, td_row, page_exclusive, tree_shared, tree_exclusive, epoch_shared, epoch_exclusive, keys_exclusive, host_page, td_page, vps_ready, vp_room, vp_in, augmented_ops, blocking_ops}
 use Rattle.flat_core.specs.Tracking.{tracked_page, epoch_room, previous_epoch_left}
 use Rattle.flat_core.specs.KeyRows.{reclaim_conditions}
-use Rattle.flat_core.specs.MemRows.{named_row, open_states, blocked_states, removed_states}
+use Rattle.flat_core.specs.MemRows.{named_row, open_states, blocked_states, removed_states, another_page}
 use Rattle.flat_core.specs.ExportRows.{stream_ops, live_ops, abortable_ops, restoring_ops, stream_room, writable_states, write_blocked_states, restored_states, opened_row}
 use Rattle.flat_core.specs.Sessions.{stream_page, stream_counter, bundles_so_far, other_epoch, has_stream, counter_room, session_room, all_restored, td_state_left, vp_state_left}
 use Rattle.flat_core.specs.BundleRows.{session_ops, paused_ops, exportable, tracked_in, token_ops, token_conditions}
@@ -123,6 +123,8 @@ rows-fit o me (call.MemSeptRd tdr gpa level) w =
 rows-fit o me (call.MemSeptRemove tdr gpa level) w =
     λ a b c d. named-fits w tdr gpa level (entry.NlBlocked ∷ []) (empty_below w tdr gpa level ∷ tracked_page w tdr (entry_at w tdr level gpa).page ∷ []) (λ x y. tt)
 rows-fit o me (call.MemPageRemove tdr gpa) w = λ a b c. named-fits w tdr gpa 0 removed_states (tracked_page w tdr (entry_at w tdr 0 gpa).page ∷ []) (λ x. tt)
+rows-fit o me (call.MemPageRelocate tdr gpa page) w =
+    λ a b c d e. named-fits w tdr gpa 0 removed_states (another_page w tdr gpa page ∷ page_exclusive page ∷ host_page w page ∷ tracked_page w tdr (entry_at w tdr 0 gpa).page ∷ []) (λ x. ((tt, tt), λ y z. tt))
 rows-fit o me (call.MemRangeBlock tdr gpa level) w = λ a b c d. named-fits w tdr gpa level open_states [] tt
 rows-fit o me (call.MemRangeUnblock tdr gpa level) w = λ a b c d. named-fits w tdr gpa level blocked_states (tracked_page w tdr (entry_at w tdr level gpa).page ∷ []) (λ x. tt)
 rows-fit o me (call.MemTrack tdr) w = λ a. head-fits w tdr Shared augmented_ops (epoch_exclusive tdr ∷ epoch_room w tdr ∷ previous_epoch_left w tdr ∷ []) (λ st. ((refl, st), λ x y. tt))

@@ -25,8 +25,7 @@ use Rattle.act_rules.proofs.Rows.{page-added}
 use Rattle.leaf_engine.specs.declared.needs.Place.{Place}
 use Rattle.leaf_engine.specs.Changes.{changes_where}
 use Rattle.leaf_engine.specs.Trees.{Tree, Load, done}
-use Rattle.leaf_engine.specs.Means.{Instant, Means, MeansRow, Work, work_of, OfCall, hold}
-use Rattle.leaf_parts.specs.Arguments.{AllHold}
+use Rattle.leaf_engine.specs.Means.{Instant, Means, MeansRow, Work, work_of, OfCall, hold, grasp_of}
 use Rattle.leaf_parts.specs.HostPages.{host_page_tree}
 use Rattle.leaf_parts.proofs.Aside.{turned}
 use Rattle.leaf_parts.proofs.Begun.{page_lock, op_lock, IsTd}
@@ -116,7 +115,7 @@ module _ (m : Machine) (c : Instant) (t gpa p q : ℕ) (limits : IsMachine m) (i
         private-filled m c y words (page_fills full) refl in_page host (page-set m c.memory c.state p (v.words q) (λ i. c.memory.words (place.Word q i)) (λ i few. host-word m c sh q in_source source i few) sh host) in
         map-end m c held y table may words (page_fills full) copied (add_page m t gpa p q) (measure_changes full.hkid gpa) refl refl refl
         (record { reply_is = refl; cached_is = refl; enters_is = refl; notes_are = refl; tells_are = refl; bundles_are = refl })
-        ((in_source, in_page, not-same, (λ i b. host-reads (hold c held) v q i source source-alone), λ i b. host-fills (hold c held) v p i host page-alone), tt)
+        (((in_source, in_page, not-same, λ i b. host-fills (hold c held) v p i host page-alone), tt), ((λ i b. host-reads (grasp_of c held) v q i source source-alone), tt))
         (page-added (hold c held) v t gpa p (v.words q) (page_record gpa) host page-alone (record { tdr = locks.tdr; op = locks.op }) tree-alone)
         (page-added-shown m c.state c.memory t gpa p q table sh la x (map-shown m c held y table may words (page_fills full) copied))
         ((la.keys.in_range t x.alive, owes-swap), ((la.keys.in_range t x.alive, owes-swap), tt))

@@ -1,6 +1,6 @@
 -- Words that show a state in which a page was added show that it was measured, once its record was appended to what the TD's
 -- hasher has measured.
-use Rattle.std.proofs.Common.{◌≡◌, ℕ, true, false, ◌==◌, ◌++◌, Some, refl}
+use Rattle.std.proofs.Common.{◌≡◌, ℕ, ◌++◌, Some, refl}
 use Rattle.std.proofs.lemmas.Bool.{eq-eqb}
 use Rattle.mrtd_measure.specs.Records.{page_record}
 use Rattle.td_words.specs.declared.names.OpState.TheVariants as op

@@ -1,5 +1,5 @@
 -- The leaf that adds a private page for a guest to accept means its row.
-use Rattle.std.proofs.Common.{◌≡◌, ℕ, ◌^◌, ◌<◌, true, ◌==◌, [], ◌++◌, refl, arith}
+use Rattle.std.proofs.Common.{ℕ, ◌^◌, ◌==◌, [], ◌++◌, refl, arith}
 use Rattle.std.proofs.lemmas.Bool.{eq-eqb, ltb-true, not-true}
 use Rattle.td_words.specs.declared.machines.Machine.{Machine}
 use Rattle.td_words.specs.Limits.{IsMachine}

@@ -1,5 +1,5 @@
 -- The leaf that adds a secure EPT page means its row.
-use Rattle.std.proofs.Common.{◌≡◌, ℕ, zero, suc, ◌+◌, ◌*◌, ◌^◌, ◌<◌, ◌≤◌, true, false, ◌==◌, nat_lt, [], ◌∷◌, ◌++◌, refl, sym, subst, inl, arith}
+use Rattle.std.proofs.Common.{◌≡◌, ℕ, zero, suc, ◌+◌, ◌*◌, ◌^◌, ◌<◌, ◌≤◌, true, false, ◌==◌, [], ◌∷◌, ◌++◌, refl, sym, subst, arith}
 use Rattle.std.specs.Prelude.{nat_le}
 use Rattle.std.proofs.lemmas.Bool.{eq-eqb, ne_eqb, ltb-true, leb-true, not-true, and_parts}
 use Rattle.td_words.specs.declared.names.PageKind.TheVariants as kind
@@ -76,7 +76,7 @@ sept_add-means q t gpa level page limits = record {
       let least : 1 ≤ level = leb-true 1 level (and_parts (nat_le 1 level) (nat_le level 3) a.1.1.0).0 in
       let locks : HoldsTree (map_locks x ++ c.kept) t = holds-map x c.kept can.apart in record {
         filled = cleared m c t gpa level page limits.pages.1 at.lawful at.shown y.alive least can.level (is-free (entry_at w t level gpa).state free) host;
-        allowed = ((can.page, λ i b. host-fills (hold c (map_locks x)) w page i host (rw (eq-eqb page page refl) refl)), tt);
+        allowed = (((can.page, λ i b. host-fills (hold c (map_locks x)) w page i host (rw (eq-eqb page page refl) refl)), tt), (tt, tt));
         respects = sept-added (hold c (map_locks x)) w t gpa level page host (rw (eq-eqb page page refl) refl) (record { tdr = locks.tdr; op = locks.op }) (rw (eq-eqb t t refl) refl);
       }));
 }

@@ -3,3 +3,4 @@ pub mod TrackedDecided
 pub mod TrackDecided
 pub mod RemoveDecided
 pub mod SeptSteps
+pub mod Clear

@@ -260,7 +260,7 @@ fn blocked_state(state: EntryState) -> EntryState
 }
 
 /// What an entry becomes that is unblocked.
-fn unblocked_state(state: EntryState) -> EntryState
+pub fn unblocked_state(state: EntryState) -> EntryState
     ensures { result ≡ unblocked_state state }
 {
     match state {
@@ -272,7 +272,7 @@ fn unblocked_state(state: EntryState) -> EntryState
 }
 
 /// The word of an entry for a page, in a state without a mark.
-fn entry_of(state: EntryState, page: u16) -> u64
+pub fn entry_of(state: EntryState, page: u16) -> u64
     ensures { result ≡ entry_word (record { state = state; page = page; mark = 0 }) }
 {
     let entry = Entry {

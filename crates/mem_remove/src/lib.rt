@@ -15,10 +15,10 @@ mod sept_removals;
 mod tracked_blocks;
 mod trackings;
 
-pub use blocks::{RangeBlock, RangeUnblock};
+pub use blocks::{RangeBlock, RangeUnblock, entry_of, unblocked_state};
 pub use metadata_reads::Rdmd;
-pub use named_entries::{Named, epoch_lock, taken};
-pub use removals::PageRemove;
+pub use named_entries::{Named, epoch_lock, find_named, taken};
+pub use removals::{PageRemove, REMOVED};
 pub use sept_removals::SeptRemove;
 pub use tracked_blocks::tracked;
 pub use trackings::Track;

@@ -18,7 +18,7 @@ use td_words::places::TDR_CHILDREN;
 use td_words::{EntryState, Machine, Status, pamt_address, word_address};
 
 /// The states of an entry whose private page may be removed.
-const REMOVED: [EntryState; 2] = [EntryState::Blocked, EntryState::PendingBlocked];
+pub const REMOVED: [EntryState; 2] = [EntryState::Blocked, EntryState::PendingBlocked];
 
 /// MEM.PAGE.REMOVE TDR GPA: a private page is the host's again, once nobody can use a translation to
 /// it.

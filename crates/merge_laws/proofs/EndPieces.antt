@@ -29,12 +29,13 @@ use Rattle.leaf_engine.specs.declared.needs.Write.{Write}
 use Rattle.leaf_engine.specs.declared.needs.Write.TheVariants as write
 use Rattle.leaf_engine.specs.Changes.{Memory, Change, Put, PutHash, Raise, Clear, Copy, Swap, changed, changed_all, Hand}
 use Rattle.leaf_engine.specs.Trees.{Tree, Lock, Load, Test, End, Since, feed}
-use Rattle.leaf_engine.specs.Means.{Task, Instant, work_of, hold, MayAct, MayFillAll, MayOweAll, IsHkid}
+use Rattle.leaf_engine.specs.Means.{Task, Instant, work_of, hold, grasp_of, MayAct, MayFillAll, MayOweAll, IsHkid}
 use Rattle.leaf_engine.specs.Items.{IsWritten, IsChanged}
 use Rattle.leaf_engine.specs.Turns.{Standing}
 use Rattle.leaf_engine.specs.Follows.{granted, Comes}
 use Rattle.leaf_engine.specs.OwnLists.{Piece, Unmarked, joined, WordLp}
 use Rattle.leaf_engine.proofs.Following.{leaves-follow-rows}
+use Rattle.leaf_engine.proofs.Showing.{allowed-fills}
 use Rattle.leaf_engine.proofs.Changing.{word_put, slot_put}
 use Rattle.merge_laws.proofs.Stores.{Due, last_at, or_else, laid-none, stores_of, all_stores, changed-is, or-test}
 use Rattle.merge_laws.proofs.Swaps.{SwapDue, last_put, swaps_of}
@@ -104,10 +105,10 @@ end-may o trees s mem t pos p d now reply run run' e a st en =
     by (Load v q k) co = tt
     by (Test b r x) co = tt
     by (End r fs []) (inl co) = subst (λ (z : List Change). MayFillAll m act s.world z) (sym co.2) tt
-    by (End r fs []) (inr co) = fills-may fs co.1.fills_allowed
+    by (End r fs []) (inr co) = fills-may fs (allowed-fills m ((work_of d.meaning).grasp inst hs) (grasp_of inst hs) s.world fs co.1.fills_allowed)
     by (End r fs (c1 ∷ ds)) (inl co) = (let bad = co.3 in cc)
     by (End r fs (c1 ∷ ds)) (inr co) = (
-      fills-may fs co.1.fills_allowed,
+      fills-may fs (allowed-fills m ((work_of d.meaning).grasp inst hs) (grasp_of inst hs) s.world fs co.1.fills_allowed),
       (
         subst (λ (g : Grip). MayAct m g s.world (changed_all fs mem) c1) act-is co.2.0,
         subst (λ (g : Grip). MayOweAll m g after (changed c1 (changed_all fs mem)) ds) own-is co.2.1,

@@ -24,13 +24,14 @@ use Rattle.leaf_engine.specs.declared.events.Stage.TheVariants as stages
 use Rattle.leaf_engine.specs.declared.needs.Need.TheVariants as need
 use Rattle.leaf_engine.specs.Changes.{Hand, Memory, Change, Put, PutHash, Raise, Clear, Copy, Swap, changed, changed_all}
 use Rattle.leaf_engine.specs.Trees.{Answer, only, Tree, Lock, Load, Test, End, Since, answer_of, feed}
-use Rattle.leaf_engine.specs.Means.{Task, Instant, Work, IsAt, work_of, hold, Acts, MayAct, MayFillAll, MayChangeBy, MayOweAll, acted, LocksStay, AnswersAs, IsHkid}
+use Rattle.leaf_engine.specs.Means.{Task, Instant, Work, IsAt, work_of, hold, grasp_of, Acts, MayAct, MayFillAll, MayChangeBy, MayOweAll, acted, LocksStay, AnswersAs, IsHkid}
 use Rattle.leaf_engine.specs.Decides.{Wants, IsHand}
 use Rattle.leaf_engine.specs.Tables.{IsMemory}
 use Rattle.leaf_engine.specs.Turns.{Standing}
 use Rattle.leaf_engine.specs.Follows.{granted, Current, Comes}
 use Rattle.leaf_engine.specs.Shown.{EndsRow, move_due}
 use Rattle.leaf_engine.proofs.Following.{leaves-follow-rows}
+use Rattle.leaf_engine.proofs.Showing.{allowed-fills}
 use Rattle.merge_laws.proofs.Stores.{Due, last_at, later, or_else, stores_of, all_stores, EachDue, OwesAt, FillsAt, last-each, last-append, or-later, changed-is, one-is, filled-stores, looks-owed, looks-filled}
 use Rattle.merge_laws.proofs.Swaps.{SwapDue, last_put, swaps_of, all_swaps, SwapsMay, swaps-same, one-slot, changed-slots, owed-swaps}
 use Rattle.merge_laws.proofs.Keeping.{Keeps, keeps-each, keeps-same, owed-keeps}
@@ -383,13 +384,13 @@ module _ (ls : Laws) (o : Opening) (trees : Trees) (s : State) (mem : Memory) (t
       → HasPut (act_puts cs (changed_all fs mem)) → (one : ItsAct) × (one.owes ≡ act_owes cs (changed_all fs mem)) × (one.swaps ≡ act_swaps cs (changed_all fs mem))
   end-acts r fs [] h q an ac may hf same slots =
       let rs : Respects act s.world (work.act s.world) = subst (λ (g : Grip). Respects g s.world (work.act s.world)) act-is ac.respects in
-      let fills : MayFillAll machine act s.world fs = subst (λ (g : Grip). MayFillAll machine g s.world fs) act-is ac.fills_allowed in
+      let fills : MayFillAll machine act s.world fs = subst (λ (g : Grip). MayFillAll machine g s.world fs) act-is (allowed-fills machine (work.grasp its_moment locks) (grasp_of its_moment locks) s.world fs ac.fills_allowed) in
       succeeded-act fs [] [] [] [] [] h (ap (λ (z : Answer). z.reply) an ∙ q) (subst (λ (z : Answer). AnswersAs work s.world z) (sym an) ac.answers) ac.shows ac.locks_stay rs
       (λ xs v x apart in_x reads. fill-looks ls machine xs act s.world mem fs x v apart in_x fills reads) (λ x. refl) fills tt tt hf same slots
       (λ k. ap (λ (f : ℕ → Hand). f k) (fills-rest machine act s.world fs mem fills).0) (λ k x e. cc) tt
   end-acts r fs (c1 ∷ cs) h q an ac may hf same slots =
       let rs : Respects act s.world (work.act s.world) = subst (λ (g : Grip). Respects g s.world (work.act s.world)) act-is ac.respects in
-      let fills : MayFillAll machine act s.world fs = subst (λ (g : Grip). MayFillAll machine g s.world fs) act-is ac.fills_allowed in
+      let fills : MayFillAll machine act s.world fs = subst (λ (g : Grip). MayFillAll machine g s.world fs) act-is (allowed-fills machine (work.grasp its_moment locks) (grasp_of its_moment locks) s.world fs ac.fills_allowed) in
       let mem1 : Memory = changed_all fs mem in
       let first' : MayAct machine act s.world mem1 c1 = subst (λ (g : Grip). MayAct machine g s.world mem1 c1) act-is may.0 in
       let owes' : MayOweAll machine own_grip (work.act s.world) (changed c1 mem1) cs = subst (λ (g : Grip). MayOweAll machine g (work.act s.world) (changed c1 mem1) cs) own-is may.1 in

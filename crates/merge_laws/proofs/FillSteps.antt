@@ -35,11 +35,11 @@ use Rattle.merge_laws.proofs.Stores.{Due, due, last_at, later, or_else, laid-non
 use Rattle.merge_laws.proofs.Swaps.{last_put}
 use Rattle.merge_laws.proofs.Owing.{owed-items}
 use Rattle.merge_laws.proofs.SlotSteps.{slots-stay}
-use Rattle.merge_laws.proofs.Filling.{Todo, Puts, Takes, all_todos, AreTodos, dues_of, EachTodo, dues-same, fills-due}
+use Rattle.merge_laws.proofs.Filling.{Todo, Puts, Takes, all_todos, AreTodos, dues_of, EachTodo, EachTaken, dues-alike, fills-due}
 use Rattle.lock_words.specs.Grips.{grip_of}
 use Rattle.leaf_engine.specs.Means.{work_of}
-use Rattle.merge_laws.proofs.Others.{act-part, grips-apart, FillMay, fill-may}
-use Rattle.merge_laws.proofs.Holding.{lock_grip_of, IsPart, turned-round}
+use Rattle.merge_laws.proofs.Others.{act-part, grips-apart, FillMay, fill-may, FillTakes, fill-takes}
+use Rattle.merge_laws.proofs.Holding.{lock_grip_of, IsPart, same-part, turned-round}
 use Rattle.merge_laws.proofs.Standing.{AreLeft, AreLeftLoaded, Trees, Does, act_grip, TurnsTo, Laws, Fill, Position, seen_by, back, FillHolds, RestFilling, on_table, Stands}
 use Rattle.merge_laws.proofs.Own.{at-other, apart-from, none-due}
 use Rattle.merge_laws.proofs.Ending.{AtEnd, filled_of, first_of, owes_of, puts_of, swaps_left, HasFilled, fills-rest}
@@ -97,7 +97,7 @@ fill-store ls o trees s mem t pos p f d ts a left h =
         left = inl (stored-left (all_todos f.fills) f.left d ts left h.left);
         stores =
             append_assoc f.made (d ∷ []) (dues_of ts (seen_by (f.made ++ d ∷ []) mem.words))
-            ∙ (ap (λ (z : List Due). f.made ++ d ∷ z) (dues-same m act s.world ts (seen_by (f.made ++ d ∷ []) mem.words) (put_word (seen_by f.made mem.words) d.at d.word) may.1 (λ q in_q reads. seen-more f.made d mem.words q))
+            ∙ (ap (λ (z : List Due). f.made ++ d ∷ z) (dues-alike m act s.world ts (seen_by (f.made ++ d ∷ []) mem.words) (put_word (seen_by f.made mem.words) d.at d.word) may.1 (λ q in_q. seen-more f.made d mem.words q))
             ∙ (ap (λ (z : List Todo). f.made ++ dues_of z (seen_by f.made mem.words)) (sym left) ∙ h.stores));
         there = there;
         undo = undo;
@@ -165,11 +165,11 @@ never-spared KeepsRights = refl
 
 -- one word that it copies is loaded, as it sees it
 fill-seen : (ls : Laws) (o : Opening) (trees : Trees) (s : State) (mem : Memory) (t : Table) (pos : ℕ → Position) (p : ℕ) (f : Fill) (q : WordPlace) → AtTurn o trees s mem t pos p f.does f.run
-    → FillHere o trees s mem t pos p f → IsIn o.machine q → Reads (act_grip s mem p f.does) s.world q Whole → on_table o.machine t q ≡ seen_by f.made mem.words q
+    → FillHere o trees s mem t pos p f → IsIn o.machine q → Reads (grip_of s p) s.world q Whole → on_table o.machine t q ≡ seen_by f.made mem.words q
 fill-seen ls o trees s mem t pos p f q a h in_q reads = by (last_at f.made q) refl
   where
-    act : Grip
-    act = act_grip s mem p f.does
+    all : Grip
+    all = grip_of s p
 
     by : (x : Option ℕ) → last_at f.made q ≡ x → on_table o.machine t q ≡ seen_by f.made mem.words q
     by (Some x) e = h.there q x in_q e ∙ sym (ap (λ (z : Option ℕ). or_else z (mem.words q)) e)
@@ -183,10 +183,10 @@ fill-seen ls o trees s mem t pos p f q a h in_q reads = by (last_at f.made q) re
             test : (b : Bool) → (k == p) ≡ b → last_at (pos k).owes q ≡ None
             test true z = (let k-is : k ≡ p = eqb-true k p z in ap (λ (y : ℕ). last_at (pos y).owes q) k-is ∙ (h.undo q ∙ ap (λ (y : Option ℕ). back y (mem.words q)) e))
             test false z =
-                none-due ls o trees s mem t pos p q act (act-part o s mem p f.does a.here) a.are a.known a.all a.inside
+                none-due ls o trees s mem t pos p q all (same-part all) a.are a.known a.all a.inside
                 (record {
-                  owes = λ g x apart owes. (ls.words act g s.world (turned-round g act apart)).reads_owes q Whole x (never-spared x) reads owes;
-                  fills = λ g apart fills. (ls.words g act s.world apart).fills_reads q Whole fills reads;
+                  owes = λ g x apart owes. (ls.words all g s.world (turned-round g all apart)).reads_owes q Whole x (never-spared x) reads owes;
+                  fills = λ g apart fills. (ls.words g all s.world apart).fills_reads q Whole fills reads;
                 }) k j z
 
 -- the act behind its fills
@@ -313,6 +313,9 @@ fill-piece ls o trees s mem t pos p f end_ piece ps a h rest an = by rest.stores
     act : Grip
     act = act_grip s mem p f.does
 
+    fill-takes-here : FillTakes (grip_of s p) s.world f
+    fill-takes-here = fill-takes o trees s mem t pos p f a.known a.all a.here (on_table m t) (f.does.within f.run) (pos p).owes h
+
     fill-may-here : FillMay m act s.world mem.words f
     fill-may-here = fill-may o trees s mem t pos p f a.known a.all a.here (on_table m t) (f.does.within f.run) (pos p).owes h
 
@@ -344,7 +347,8 @@ fill-piece ls o trees s mem t pos p f end_ piece ps a h rest an = by rest.stores
         let xs' : List Taken = Stepped w' b ∷ xs in
         let h' : Unmarked y ∷ (map Unmarked xs' ++ tail) ≡ piece ∷ ps = ap (λ (z : WordStep). Unmarked (Stepped z x) ∷ (map Unmarked xs' ++ tail)) (sym are.0) ∙ sym e in
         let may : EachTodo m act s.world (Takes fr at ∷ ts) = subst (λ (z : List Todo). EachTodo m act s.world z) q fill-may-here.left in
-        let seen : x ≡ seen_by f.made mem.words fr = answers-as t (Unmarked y) piece (map Unmarked xs' ++ tail) ps h' an ∙ fill-seen ls o trees s mem t pos p f fr a h may.0.0.0 may.0.0.1 in
+        let taken : EachTaken (λ r. Reads (grip_of s p) s.world r Whole) (Takes fr at ∷ ts) = subst (λ (z : List Todo). EachTaken (λ r. Reads (grip_of s p) s.world r Whole) z) q fill-takes-here.left in
+        let seen : x ≡ seen_by f.made mem.words fr = answers-as t (Unmarked y) piece (map Unmarked xs' ++ tail) ps h' an ∙ fill-seen ls o trees s mem t pos p f fr a h may.0.0 taken.0 in
         let f' : Fill = record f { left = Puts (due at x) ∷ ts } in
         let now : Position = filling_at (pos p).owes f' in
         came-as o trees p s t pos (Unmarked y) piece (map Unmarked xs' ++ tail) ps end_ h'

@@ -18,7 +18,7 @@ use Rattle.step_core.specs.Pages.{clearing, copying}
 use Rattle.leaf_engine.specs.Changes.{Memory, Change, Put, PutHash, Raise, Clear, Copy, Swap, changed, is_plain}
 use Rattle.leaf_engine.specs.declared.needs.Write.{Write}
 use Rattle.leaf_engine.specs.Decides.{write_of, hand_for, IsHand}
-use Rattle.leaf_engine.specs.Means.{MayFill, MayFillAll}
+use Rattle.leaf_engine.specs.Means.{MayFill, MayFillAll, MayTakeAll}
 use Rattle.leaf_engine.specs.Items.{IsWritten, IsChanged, AreChanged}
 use Rattle.leaf_engine.specs.OwnLists.{Piece, Unmarked, items_of, items_in, marked_behind}
 use Rattle.merge_laws.proofs.Stores.{Due, due, or_else, words_from, words-else, stores_of, all_stores, one-is, none-is}
@@ -64,22 +64,37 @@ dues_of (Takes f q ∷ ts) a = due q (a f) ∷ dues_of ts (put_word a q (a f))
 abbrev pub EachTodo : Machine → Grip → World → List Todo → Type 0
 EachTodo m g w [] = Unit {0}
 EachTodo m g w (Puts d ∷ ts) = (IsIn m d.at × Fills g w d.at) × EachTodo m g w ts
-EachTodo m g w (Takes f q ∷ ts) = ((IsIn m f × Reads g w f Whole) × IsIn m q × Fills g w q) × EachTodo m g w ts
+EachTodo m g w (Takes f q ∷ ts) = (IsIn m f × IsIn m q × Fills g w q) × EachTodo m g w ts
+
+-- what each word is that is copied
+abbrev pub EachTaken : (WordPlace → Type 0) → List Todo → Type 0
+EachTaken P [] = Unit {0}
+EachTaken P (Puts d ∷ ts) = EachTaken P ts
+EachTaken P (Takes f q ∷ ts) = P f × EachTaken P ts
+
+any-taken : (ts : List Todo) → EachTaken (λ q. Unit {0}) ts
+any-taken [] = tt
+any-taken (Puts d ∷ ts) = any-taken ts
+any-taken (Takes f q ∷ ts) = (tt, any-taken ts)
 
 both_same : (t : Bool) {x y z u : ℕ} → x ≡ y → z ≡ u → (if t then x else z) ≡ (if t then y else u)
 both_same true e f = e
 both_same false e f = f
 
 -- they make the same stores of memories that are the same where they read
-pub dues-same : (m : Machine) (g : Grip) (w : World) (ts : List Todo) (a b : WordPlace → ℕ) → EachTodo m g w ts → ((q : WordPlace) → IsIn m q → Reads g w q Whole → a q ≡ b q) → dues_of ts a ≡ dues_of ts b
-dues-same m g w [] a b e same = refl
-dues-same m g w (Puts d ∷ ts) a b e same =
+pub dues-same : (m : Machine) (g : Grip) (w : World) (P : WordPlace → Type 0) (ts : List Todo) (a b : WordPlace → ℕ) → EachTodo m g w ts → EachTaken P ts → ((q : WordPlace) → IsIn m q → P q → a q ≡ b q) → dues_of ts a ≡ dues_of ts b
+dues-same m g w P [] a b e k same = refl
+dues-same m g w P (Puts d ∷ ts) a b e k same =
     ap (λ (ds : List Due). d ∷ ds)
-    (dues-same m g w ts (put_word a d.at d.word) (put_word b d.at d.word) e.1 (λ r i reads. both_same (same_place r d.at) refl (same r i reads)))
-dues-same m g w (Takes f q ∷ ts) a b e same =
-    let taken : a f ≡ b f = same f e.0.0.0 e.0.0.1 in
-    let rest = dues-same m g w ts (put_word a q (a f)) (put_word b q (b f)) e.1 (λ r i reads. both_same (same_place r q) taken (same r i reads)) in
+    (dues-same m g w P ts (put_word a d.at d.word) (put_word b d.at d.word) e.1 k (λ r i reads. both_same (same_place r d.at) refl (same r i reads)))
+dues-same m g w P (Takes f q ∷ ts) a b e k same =
+    let taken : a f ≡ b f = same f e.0.0 k.0 in
+    let rest = dues-same m g w P ts (put_word a q (a f)) (put_word b q (b f)) e.1 k.1 (λ r i reads. both_same (same_place r q) taken (same r i reads)) in
     ap (λ (x : ℕ). due q x ∷ dues_of ts (put_word a q (a f))) taken ∙ ap (λ (ds : List Due). due q (b f) ∷ ds) rest
+
+-- and of memories that are the same
+pub dues-alike : (m : Machine) (g : Grip) (w : World) (ts : List Todo) (a b : WordPlace → ℕ) → EachTodo m g w ts → ((q : WordPlace) → IsIn m q → a q ≡ b q) → dues_of ts a ≡ dues_of ts b
+dues-alike m g w ts a b e same = dues-same m g w (λ q. Unit {0}) ts a b e (any-taken ts) (λ q i u. same q i)
 
 each-append : (m : Machine) (g : Grip) (w : World) (ts us : List Todo) → EachTodo m g w ts → EachTodo m g w us → EachTodo m g w (ts ++ us)
 each-append m g w [] us a b = b
@@ -91,7 +106,7 @@ unfolding zeros_to
 each-zeros m g w p zero h = tt
 each-zeros m g w p (suc n) h = each-append m g w (zeros_to p n) (Puts (due (Word p n) 0) ∷ []) (each-zeros m g w p n (λ i l. h i (omega arith))) (h n (omega arith), tt)
 
-each-takes : (m : Machine) (g : Grip) (w : World) (p q i n : ℕ) → ((j : ℕ) → j < i + n → (IsIn m (Word p j) × Reads g w (Word p j) Whole) × IsIn m (Word q j) × Fills g w (Word q j))
+each-takes : (m : Machine) (g : Grip) (w : World) (p q i n : ℕ) → ((j : ℕ) → j < i + n → IsIn m (Word p j) × IsIn m (Word q j) × Fills g w (Word q j))
     → EachTodo m g w (takes_from p q i n)
 unfolding takes_from
 each-takes m g w p q i zero h = tt
@@ -107,8 +122,34 @@ fills-todo m g w (Clear p ∷ fs) may =
     each-append m g w (zeros_to p 512) (all_todos fs) (each-zeros m g w p 512 (λ i l. ((may.0.0, l), may.0.1 i l))) (fills-todo m g w fs may.1)
 fills-todo m g w (Copy p q ∷ fs) may =
     each-append m g w (takes_from p q 0 512) (all_todos fs)
-    (each-takes m g w p q 0 512 (λ j l. (((may.0.0, l), may.0.3 j l), (may.0.1, l), may.0.4 j l))) (fills-todo m g w fs may.1)
+    (each-takes m g w p q 0 512 (λ j l. ((may.0.0, l), (may.0.1, l), may.0.3 j l))) (fills-todo m g w fs may.1)
 fills-todo m g w (Swap h made ∷ fs) may = absurd may.0
+
+-- and what it copies
+
+taken-append : (P : WordPlace → Type 0) (ts us : List Todo) → EachTaken P ts → EachTaken P us → EachTaken P (ts ++ us)
+taken-append P [] us a b = b
+taken-append P (Puts d ∷ ts) us a b = taken-append P ts us a b
+taken-append P (Takes f q ∷ ts) us a b = (a.0, taken-append P ts us a.1 b)
+
+taken-zeros : (P : WordPlace → Type 0) (p n : ℕ) → EachTaken P (zeros_to p n)
+unfolding zeros_to
+taken-zeros P p zero = tt
+taken-zeros P p (suc n) = taken-append P (zeros_to p n) (Puts (due (Word p n) 0) ∷ []) (taken-zeros P p n) tt
+
+taken-words : (P : WordPlace → Type 0) (p q i n : ℕ) → ((j : ℕ) → j < i + n → P (Word p j)) → EachTaken P (takes_from p q i n)
+unfolding takes_from
+taken-words P p q i zero h = tt
+taken-words P p q i (suc n) h = (h i (omega arith), taken-words P p q (i + 1) n (λ j l. h j (omega arith)))
+
+pub fills-taken : (h : Grip) (w : World) (fs : List Change) → MayTakeAll h w fs → EachTaken (λ q. Reads h w q Whole) (all_todos fs)
+fills-taken h w [] may = tt
+fills-taken h w (Put q x ∷ fs) may = fills-taken h w fs may.1
+fills-taken h w (PutHash q x ∷ fs) may = fills-taken h w fs may.1
+fills-taken h w (Raise q more ∷ fs) may = fills-taken h w fs may.1
+fills-taken h w (Clear p ∷ fs) may = taken-append (λ q. Reads h w q Whole) (zeros_to p 512) (all_todos fs) (taken-zeros (λ q. Reads h w q Whole) p 512) (fills-taken h w fs may.1)
+fills-taken h w (Copy p q ∷ fs) may = taken-append (λ q. Reads h w q Whole) (takes_from p q 0 512) (all_todos fs) (taken-words (λ q. Reads h w q Whole) p q 0 512 may.0) (fills-taken h w fs may.1)
+fills-taken h w (Swap k made ∷ fs) may = fills-taken h w fs may.1
 
 -- the stores that a page's words are put by
 
@@ -156,8 +197,8 @@ change-due inj m g w c fs mem pl each one rest =
     dues-append (todos_of c) (all_todos fs) mem.words
     ∙ (ap (λ (ds : List Due). ds ++ dues_of (all_todos fs) (stored ds mem.words)) one
     ∙ ap (λ (ds : List Due). stores_of c mem ++ ds)
-    (dues-same m g w (all_todos fs) (stored (stores_of c mem) mem.words) (changed c mem).words each
-    (λ r i reads. stored-is (stores_of c mem) mem.words r ∙ sym (one-is m c mem r i)) ∙ rest))
+    (dues-alike m g w (all_todos fs) (stored (stores_of c mem) mem.words) (changed c mem).words each
+    (λ r i. stored-is (stores_of c mem) mem.words r ∙ sym (one-is m c mem r i)) ∙ rest))
 
 pub fills-due : PlacesInjective → (m : Machine) (g : Grip) (w : World) (fs : List Change) (mem : Memory) → MayFillAll m g w fs → dues_of (all_todos fs) mem.words ≡ all_stores fs mem
 fills-due inj m g w [] mem may = refl

@@ -21,19 +21,20 @@ use Rattle.lock_words.specs.LockWords.{put_word, IsNext}
 use Rattle.leaf_engine.specs.declared.events.HeldLock.{HeldLock}
 use Rattle.leaf_engine.specs.declared.events.Stage.{Stage}
 use Rattle.leaf_engine.specs.declared.events.Stage.TheVariants as stages
-use Rattle.leaf_engine.specs.Changes.{Hand, Memory, Change}
+use Rattle.leaf_engine.specs.Changes.{Hand, Memory, Change, Put, PutHash, Raise, Clear, Copy, Swap}
 use Rattle.leaf_engine.specs.Trees.{Tree, Lock, Load, Test, End, Since, feed, settle}
 use Rattle.leaf_engine.specs.Follows.{granted, Comes}
-use Rattle.leaf_engine.specs.Means.{Task, Instant, IsAt, Work, work_of, hold, grasp_of, MayFillAll, Loads}
+use Rattle.leaf_engine.specs.Means.{Task, Instant, IsAt, Work, work_of, hold, grasp_of, MayFillAll, MayTakeAll, Loads}
 use Rattle.leaf_engine.specs.Decides.{IsHand}
 use Rattle.leaf_engine.specs.Turns.{Standing}
 use Rattle.leaf_engine.specs.Calls.{IsLockAt, AreLocks, IsStage, IsShown}
 use Rattle.leaf_engine.specs.OwnLists.{WordLp}
 use Rattle.leaf_engine.proofs.Decided.{settled}
 use Rattle.leaf_engine.proofs.Following.{leaves-follow-rows}
+use Rattle.leaf_engine.proofs.Showing.{allowed-fills, allowed-takes}
 use Rattle.merge_laws.proofs.Virtual.{table_of, holds-memory}
 use Rattle.merge_laws.proofs.Stores.{Due, last_at, or_else, EachDue, FillsAt, last-each}
-use Rattle.merge_laws.proofs.Filling.{Todo, Puts, Takes, all_todos, EachTodo, dues_of, fills-todo, dues-same}
+use Rattle.merge_laws.proofs.Filling.{Todo, Puts, Takes, all_todos, EachTodo, EachTaken, dues_of, fills-todo, fills-taken, dues-same}
 use Rattle.merge_laws.proofs.Keeping.{keeps-same}
 use Rattle.merge_laws.proofs.Holding.{bare, locks_at, lock_grip_of, IsOlder, whole, IsPart, same-part, parts-apart, older-part, locks-part, with-part, grasp-part, hold-part, part-meets, lock-stays, EachTold, StaysOrActs, stays-or-acts, told-reads, told-older, still-current}
 use Rattle.merge_laws.proofs.Standing.{Laws, Trees, AreTrees, Known, HandOf, Does, task_for, moment, act_grip, RunsAt, DoesHere, on_table, Fill, Position, seen_by, back, AreLeft, AreLeftLoaded, FillHolds, Pending, Holds, Stands}
@@ -177,7 +178,45 @@ fills-allowed o trees s mem t pos p f known st here a at owes h =
     by : (fs cs : List Change) → f.fills ≡ fs → Comes o.machine c (work_of d.meaning) hs (End f.answer fs cs) (next ((work_of d.meaning).items s.world) (length hs)) → MayFillAll o.machine (act_grip s mem p d) s.world fs
     by fs cs e (inl co) = subst (λ (z : List Change). MayFillAll o.machine (act_grip s mem p d) s.world z) (sym co.2) tt
     by fs cs e (inr co) =
-        subst (λ (z : List Held). MayFillAll o.machine ((work_of d.meaning).grasp c z) s.world fs) (h.runs.at.told h.trying).locks co.1.fills_allowed
+        subst (λ (z : List Held). MayFillAll o.machine ((work_of d.meaning).grasp c z) s.world fs) (h.runs.at.told h.trying).locks
+        (allowed-fills o.machine ((work_of d.meaning).grasp c hs) (grasp_of c hs) s.world fs co.1.fills_allowed)
+
+-- and what it copies, by all that the processor has
+
+taken-part : (g all : Grip) (w : World) (fs : List Change) → IsPart g all → MayTakeAll g w fs → MayTakeAll all w fs
+taken-part g all w [] part may = tt
+taken-part g all w (Put q x ∷ fs) part may = (tt, taken-part g all w fs part may.1)
+taken-part g all w (PutHash q x ∷ fs) part may = (tt, taken-part g all w fs part may.1)
+taken-part g all w (Raise q more ∷ fs) part may = (tt, taken-part g all w fs part may.1)
+taken-part g all w (Clear p ∷ fs) part may = (tt, taken-part g all w fs part may.1)
+taken-part g all w (Copy p q ∷ fs) part may = (λ i l. part-meets g all _ _ part (may.0 i l), taken-part g all w fs part may.1)
+taken-part g all w (Swap k made ∷ fs) part may = (tt, taken-part g all w fs part may.1)
+
+pub takes-allowed : (o : Opening) (trees : Trees) (s : State) (mem : Memory) (t : Table) (pos : ℕ → Position) (p : ℕ) (f : Fill) → Known o s → Stands o trees s mem t pos → DoesHere o s p f.does
+    → (a : WordPlace → ℕ) (at : WordLp) (owes : List Due) → FillHolds o trees p s.world mem.words a (s.lps p) at owes f → MayTakeAll (grip_of s p) s.world f.fills
+takes-allowed o trees s mem t pos p f known st here a at owes h =
+    by f.fills f.changes refl
+    (subst (λ (x : Tree). Comes o.machine c (work_of d.meaning) hs x (next ((work_of d.meaning).items s.world) (length hs))) (told-end o p d s.world mem.words f.run (End f.answer f.fills f.changes) h.runs h.trying h.rest refl)
+    (leaves-follow-rows (task_for o p d) c told here.means (at-moment o trees s mem t pos p d f.run known st here h.runs h.trying) (h.runs.at.told h.trying).current))
+  where
+    d : Does
+    d = f.does
+
+    c : Instant
+    c = moment s mem p d
+
+    told : List ℕ
+    told = (h.runs.at.told h.trying).told
+
+    hs : List Held
+    hs = granted d.tree told []
+
+    by : (fs cs : List Change) → f.fills ≡ fs → Comes o.machine c (work_of d.meaning) hs (End f.answer fs cs) (next ((work_of d.meaning).items s.world) (length hs)) → MayTakeAll (grip_of s p) s.world fs
+    by fs cs e (inl co) = subst (λ (z : List Change). MayTakeAll (grip_of s p) s.world z) (sym co.2) tt
+    by fs cs e (inr co) =
+        taken-part (grasp_of c d.far.held) (grip_of s p) s.world fs (with-part s p (d.far.held ++ d.kept) ([], sym here.locks))
+        (subst (λ (z : List Held). MayTakeAll (grasp_of c z) s.world fs) (h.runs.at.told h.trying).locks
+        (allowed-takes o.machine ((work_of d.meaning).grasp c hs) (grasp_of c hs) s.world fs co.1.fills_allowed))
 
 -- those that are made, and those that are left
 pub record FillMay (m : Machine) (g : Grip) (w : World) (words : WordPlace → ℕ) (f : Fill) : Type 0 where
@@ -198,6 +237,29 @@ todo-dues : (m : Machine) (g : Grip) (w : World) (ts : List Todo) (a : WordPlace
 todo-dues m g w [] a e = tt
 todo-dues m g w (Puts d ∷ ts) a e = (e.0, todo-dues m g w ts (put_word a d.at d.word) e.1)
 todo-dues m g w (Takes f q ∷ ts) a e = ((e.0.1, e.0.2), todo-dues m g w ts (put_word a q (a f)) e.1)
+
+taken-right : (P : WordPlace → Type 0) (xs ys : List Todo) → EachTaken P (xs ++ ys) → EachTaken P ys
+taken-right P [] ys e = e
+taken-right P (Puts d ∷ xs) ys e = taken-right P xs ys e
+taken-right P (Takes a b ∷ xs) ys e = taken-right P xs ys e.1
+
+-- the words that it copies, of those that are left, and of all
+pub record FillTakes (g : Grip) (w : World) (f : Fill) : Type 0 where
+  pub left : EachTaken (λ q. Reads g w q Whole) f.left
+  pub all : EachTaken (λ q. Reads g w q Whole) (all_todos f.fills)
+
+pub fill-takes : (o : Opening) (trees : Trees) (s : State) (mem : Memory) (t : Table) (pos : ℕ → Position) (p : ℕ) (f : Fill) → Known o s → Stands o trees s mem t pos → DoesHere o s p f.does
+    → (a : WordPlace → ℕ) (at : WordLp) (owes : List Due) → FillHolds o trees p s.world mem.words a (s.lps p) at owes f → FillTakes (grip_of s p) s.world f
+fill-takes o trees s mem t pos p f known st here a at owes h = record { left = left h.left; all = all }
+  where
+    all : EachTaken (λ (q : WordPlace). Reads (grip_of s p) s.world q Whole) (all_todos f.fills)
+    all = fills-taken (grip_of s p) s.world f.fills (takes-allowed o trees s mem t pos p f known st here a at owes h)
+
+    left : AreLeft (all_todos f.fills) f.left ⊎ AreLeftLoaded (all_todos f.fills) f.left → EachTaken (λ (q : WordPlace). Reads (grip_of s p) s.world q Whole) f.left
+    left (inl l) = taken-right (λ (q : WordPlace). Reads (grip_of s p) s.world q Whole) l.done f.left (subst (λ (z : List Todo). EachTaken (λ (q : WordPlace). Reads (grip_of s p) s.world q Whole) z) l.is all)
+    left (inr l) =
+        let e = taken-right (λ (q : WordPlace). Reads (grip_of s p) s.world q Whole) l.done (Takes l.from l.at ∷ l.further) (subst (λ (z : List Todo). EachTaken (λ (q : WordPlace). Reads (grip_of s p) s.world q Whole) z) l.is all) in
+        subst (λ (z : List Todo). EachTaken (λ (q : WordPlace). Reads (grip_of s p) s.world q Whole) z) (sym l.left_is) e.1
 
 pub fill-may : (o : Opening) (trees : Trees) (s : State) (mem : Memory) (t : Table) (pos : ℕ → Position) (p : ℕ) (f : Fill) → Known o s → Stands o trees s mem t pos → DoesHere o s p f.does
     → (a : WordPlace → ℕ) (at : WordLp) (owes : List Due) → FillHolds o trees p s.world mem.words a (s.lps p) at owes f → FillMay o.machine (act_grip s mem p f.does) s.world mem.words f
@@ -315,8 +377,8 @@ others-stay ls o trees s mem t pos k w' words' a' g' are known st i guest-stays 
       rest = h.rest;
       left = h.left;
       stores =
-          ap (λ (ds : List Due). f.made ++ ds) (dues-same o.machine g s.world f.left (seen_by f.made words') (seen_by f.made mem.words) may.left (λ q in_q reads. ap (or_else (last_at f.made q)) (same-words q in_q reads)))
-          ∙ (h.stores ∙ sym (dues-same o.machine g s.world (all_todos f.fills) words' mem.words may.all same-words));
+          ap (λ (ds : List Due). f.made ++ ds) (dues-same o.machine g s.world (λ (q : WordPlace). Reads (grip_of s k) s.world q Whole) f.left (seen_by f.made words') (seen_by f.made mem.words) may.left takes.left (λ q in_q reads. ap (or_else (last_at f.made q)) (same-words q in_q reads)))
+          ∙ (h.stores ∙ sym (dues-same o.machine g s.world (λ (q : WordPlace). Reads (grip_of s k) s.world q Whole) (all_todos f.fills) words' mem.words may.all takes.all same-words));
       there = λ r x in_r e. sym (lv.filled g r (act-part o s mem k f.does here) in_r (last-each ls.places (FillsAt o.machine g s.world) f.made r x may.made e).1).0 ∙ h.there r x in_r e;
       undo = λ r. h.undo r ∙ by r (last_at f.made r) refl;
     }
@@ -330,8 +392,11 @@ others-stay ls o trees s mem t pos k w' words' a' g' are known st i guest-stays 
         may : FillMay o.machine g s.world mem.words f
         may = fill-may o trees s mem t pos k f known st here (on_table o.machine t) (pos k).at (pos k).owes h
 
-        same-words : (q : WordPlace) → IsIn o.machine q → Reads g s.world q Whole → words' q ≡ mem.words q
-        same-words q in_q reads = lv.looks g Whole q (act-part o s mem k f.does here) in_q reads
+        takes : FillTakes (grip_of s k) s.world f
+        takes = fill-takes o trees s mem t pos k f known st here (on_table o.machine t) (pos k).at (pos k).owes h
+
+        same-words : (q : WordPlace) → IsIn o.machine q → Reads (grip_of s k) s.world q Whole → words' q ≡ mem.words q
+        same-words q in_q reads = lv.looks (grip_of s k) Whole q (same-part (grip_of s k)) in_q reads
 
         by : (r : WordPlace) (x : Option ℕ) → last_at f.made r ≡ x → back (last_at f.made r) (mem.words r) ≡ back (last_at f.made r) (words' r)
         by r None e = rw e refl

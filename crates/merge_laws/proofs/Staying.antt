@@ -102,7 +102,7 @@ operation-controls o t0 v0 line op row e =
     operation_row o t0 v0 line (λ row. (w : World) (t : ℕ) → (tell_words (row.tells w) (row.act w)).tds.controls t ≡ w.tds.controls t)
     (λ r x w t. refl) (λ r q w t. refl) (λ r gpa w t. refl) (λ r gpa w t. refl)
     (λ gpa w t. accepted (λ z. (tell_words [] (pass_operation v0 z)).tds.controls t ≡ w.tds.controls t) (is_pending_at w t0 gpa) t0 gpa w (λ h. refl) (λ h. refl))
-    (λ i w t. refl) (λ r w t. refl) op row e
+    (λ i w t. refl) (λ w t. refl) (λ r w t. refl) op row e
 
 reach-controls : (t0 v0 r gpa page : ℕ) (access : Access) (w : World) (t : ℕ) → (world_after (Reaches t0 v0 access r gpa page) w).tds.controls t ≡ w.tds.controls t
 reach-controls t0 v0 r gpa page Read w t = refl

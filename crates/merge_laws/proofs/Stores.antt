@@ -232,7 +232,7 @@ filled-stores m g w mem (Clear p ∷ fs) may = each-append (FillsAt m g w) (word
     (words-each (FillsAt m g w) p 512 (λ i. 0) (λ i l. ((may.0.0, l), may.0.1 i l)))
     (filled-stores m g w (changed (Clear p) mem) fs may.1)
 filled-stores m g w mem (Copy p q ∷ fs) may = each-append (FillsAt m g w) (words_from q 512 (λ i. mem.words (Word p i))) (all_stores fs (changed (Copy p q) mem))
-    (words-each (FillsAt m g w) q 512 (λ i. mem.words (Word p i)) (λ i l. ((may.0.1, l), may.0.4 i l)))
+    (words-each (FillsAt m g w) q 512 (λ i. mem.words (Word p i)) (λ i l. ((may.0.1, l), may.0.3 i l)))
     (filled-stores m g w (changed (Copy p q) mem) fs may.1)
 filled-stores m g w mem (Swap h made ∷ fs) may = absurd may.0
 
@@ -296,5 +296,5 @@ looks-filled inj m g w mem (Clear p ∷ fs) r v i may keeps =
     ∙ page-looks m v mem.words p (λ j. 0) r i (λ j x l. keeps mem.words (Word p j) x (may.0.1 j l))
 looks-filled inj m g w mem (Copy p q ∷ fs) r v i may keeps =
     looks-filled inj m g w (changed (Copy p q) mem) fs r v i may.1 keeps
-    ∙ page-looks m v mem.words q (λ j. mem.words (Word p j)) r i (λ j x l. keeps mem.words (Word q j) x (may.0.4 j l))
+    ∙ page-looks m v mem.words q (λ j. mem.words (Word p j)) r i (λ j x l. keeps mem.words (Word q j) x (may.0.3 j l))
 looks-filled inj m g w mem (Swap h made ∷ fs) r v i may keeps = absurd may.0

@@ -208,6 +208,7 @@ operation_aborts o t v line op row w is h = operation_row o t v line (λ x. Abor
     (λ y. same_aborts w _ refl h)
     (λ y. same_aborts w _ refl h))
     (λ i. same_aborts w _ refl h)
+    (same_aborts w _ refl h)
     (λ r. same_aborts w _ refl h) op row is
 
 pub reach_aborts : (t v : ℕ) (access : Access) (r gpa page : ℕ) (w : World) → AbortsHold w → AbortsHold (reach t v access r gpa page w)

@@ -86,6 +86,7 @@ operation_beside o t v line op row w is = operation_row o t v line (λ x. IsBesi
     (λ y. accept_beside t v gpa w (is_pending (entry_at w t 0 gpa).state y))
     (λ y. untouched w _ refl))
     (λ i. untouched w _ refl)
+    (untouched w _ refl)
     (λ r. untouched w _ refl) op row is
 
 pub left_beside : (v : ℕ) (w : World) → IsBeside w (leave_guest v w)

@@ -403,7 +403,7 @@ fill_tag w t gpa page x entry.Free ps = search
 fill_tag w t gpa page x _ ps = search
 
 -- the counter of a bundle that is taken is the one that is due
-is_due : (due n : ℕ) → (n == due && nat_lt due (2 ^ 32 - 1)) ≡ true → n ≡ due
+pub is_due : (due n : ℕ) → (n == due && nat_lt due (2 ^ 32 - 1)) ≡ true → n ≡ due
 is_due due n h = eqb-true n due (and_parts (n == due) _ h).0
 
 -- what a token asks of the op state and the migration epoch

@@ -28,3 +28,4 @@ pub mod Started
 pub mod Destination
 pub mod Grows
 pub mod Hosts
+pub mod Once

@@ -350,6 +350,7 @@ operation_calm o t v line op row w is runs = operation_row o t v line (λ x. IsC
     (λ y. calm_running w _ t runs refl refl (λ x n z. rw z refl))
     (λ y. calm_of w _ refl refl refl))
     (λ i. calm_of w _ refl refl refl)
+    (calm_of w _ refl refl refl)
     (λ r. calm_of w _ refl refl refl) op row is
 
 pub reach_calm : (t v : ℕ) (access : Access) (r gpa page : ℕ) (w : World) → list_any (λ a. op_number a == op_number (w.tds.ops t)) running_ops ≡ true → IsCalm w (reach t v access r gpa page w)

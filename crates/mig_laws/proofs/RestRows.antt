@@ -322,6 +322,7 @@ module _ (o : Opening) (w : World) (l : Lawful o.machine w) (t v : ℕ) (runs : 
       (λ y. guest_rests _ refl refl refl (λ x a. record { kind = a.kind; life = a.life }) (λ x z. refl) (λ x n z. rw z refl) (λ q z. refl) (λ q i z. refl) (λ q z. rw z refl))
       (λ y. guest_rests _ refl refl refl (λ x a. record { kind = a.kind; life = a.life }) (λ x z. refl) (λ x n z. refl) (λ q z. refl) (λ q i z. refl) (λ q z. rw z refl)))
       (λ i. guest_rests _ refl refl refl (λ x a. record { kind = a.kind; life = a.life }) (λ x y. rw y refl) (λ x n y. refl) (λ q z. refl) (λ q j z. refl) (λ q z. rw z refl))
+      (guest_rests _ refl refl refl (λ x a. record { kind = a.kind; life = a.life }) (λ x y. refl) (λ x n y. refl) (λ q z. refl) (λ q i z. refl) (λ q z. rw z refl))
       (λ r. guest_rests _ refl refl refl (λ x a. record { kind = a.kind; life = a.life }) (λ x y. refl) (λ x n y. refl) (λ q z. refl) (λ q i z. refl) (λ q z. rw z refl)) op row is
 
   pub reach_rests : (access : Access) (r gpa at : ℕ) → IsAtRest w (reach t v access r gpa at w)

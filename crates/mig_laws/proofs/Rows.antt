@@ -1,6 +1,7 @@
 -- Each act that makes no bundle leaves the TDs that are exported as this crate asks.
 use Rattle.std.proofs.Common.{◌≡◌, refl, sym, ◌∙◌, ap, subst, ℕ, ◌+◌, ◌<◌, ◌≤◌, List, [], ◌∷◌, length, Some, None, Bool, true, false, ◌==◌, arith}
 use Rattle.std.specs.List.{list_any}
+use Rattle.std.proofs.Math.Nat.{le_trans}
 use Rattle.std.proofs.lemmas.Bool.{eqb-true, eq-eqb, ne_eqb, lt-ltb}
 use Rattle.td_words.specs.declared.names.PageKind.{PageKind}
 use Rattle.td_words.specs.declared.names.PageKind.TheVariants as kind
@@ -36,7 +37,7 @@ use Rattle.flat_core.proofs.Maps.{node_named}
 use Rattle.flat_core.proofs.Exports.{free_unmarked}
 use Rattle.flat_core.proofs.Ranges.{live_exporting, named_alive, write_passed, entry_alive, write_remarks, block_restates}
 use Rattle.flat_core.proofs.Streams.{stream_owned}
-use Rattle.flat_core.proofs.Passed.{vp_of, block_passed, unblock_passed, remove_passed, sept_remove_passed}
+use Rattle.flat_core.proofs.Passed.{vp_of, block_passed, unblock_passed, remove_passed, relocate_passed, sept_remove_passed}
 use Rattle.flat_bundles.proofs.Fills.{fill_either}
 use Rattle.mig_laws.specs.Ivs.{IsExporting}
 use Rattle.mig_laws.proofs.Stays.{counted_more, tracked_still, entered_now, left_now, entered_elsewhere, Stays, IsBeside, own, same_page, session_stays, same_entered, same_counters, all_stays, shape, beside, goes_same, apart}
@@ -266,6 +267,13 @@ module _ (o : Opening) (me : ℕ) (w : World) (l : Lawful o.machine w) where
       apart w v t (λ a. never_exporting blocking_ops (w.tds.ops t) (refl, refl, refl) q.op a.standing) refl refl
       (λ x y a. other_stays w v x (row_alive o me (call.MemPageRemove t gpa) w ps (λ u h e. cc) x a.alive) a refl refl refl refl
       (λ n s. lower w.pages.blocked page _) (λ n. rw y refl) (λ n. rw y refl))
+  row-beside (call.MemPageRelocate t gpa page) ps none =
+      let v : World = After (call.MemPageRelocate t gpa page) in
+      let left = (entry_at w t 0 gpa).page in
+      let q = (relocate_passed o.machine w t gpa page ps).named in
+      apart w v t (λ a. never_exporting blocking_ops (w.tds.ops t) (refl, refl, refl) q.op a.standing) refl refl
+      (λ x y a. other_stays w v x (row_alive o me (call.MemPageRelocate t gpa page) w ps (λ u h e. cc) x a.alive) a refl refl refl refl
+      (λ n s. le_trans (lower (put w.pages.blocked left 0) page _) (lower w.pages.blocked left _)) (λ n. rw y refl) (λ n. refl))
   row-beside (call.MemRangeBlock t gpa level) ps none =
       let v : World = After (call.MemRangeBlock t gpa level) in
       let page = (entry_at w t level gpa).page in

@@ -65,7 +65,7 @@ source_kept = record {
   event = λ o bundles s p h. (memories_kept.event o bundles s p h.0, event_source o bundles s p h.0.0 h.0.1 h.1);
 }
 
-always_source : HoldsInRuns (λ o s. (IsGuarded o s × ArePagesKnown s.world) × SourceHolds s.world)
+pub always_source : HoldsInRuns (λ o s. (IsGuarded o s × ArePagesKnown s.world) × SourceHolds s.world)
 always_source = in_runs (λ o s. (IsGuarded o s × ArePagesKnown s.world) × SourceHolds s.world) source_kept
 
 -- where the three fit their bytes, one IV is one of each

@@ -506,6 +506,7 @@ operation_plain o w t v line op row is = operation_row o t v line (λ x. IsPlain
     (λ y. (refl, notes_same w _ refl refl refl refl refl))
     (λ y. (refl, notes_same w _ refl refl refl refl refl)))
     (λ i. (refl, notes_same w _ refl refl refl refl refl))
+    (refl, notes_same w _ refl refl refl refl refl)
     (λ r. (refl, notes_same w _ refl refl refl refl refl)) op row is
 
 reach_plain : (t v : ℕ) (access : Access) (r gpa at : ℕ) (w : World) → IsPlain w (reach t v access r gpa at w)

@@ -182,6 +182,7 @@ module _ (o : Opening) (w : World) (l : Lawful o.machine w) (t v : ℕ) (runs : 
       (λ y. guest_still _ refl refl refl refl (λ x z. refl) (λ q i z. refl) (λ q z. rw z refl))
       (λ y. guest_still _ refl refl refl refl (λ x z. refl) (λ q i z. refl) (λ q z. rw z refl)))
       (λ i. guest_still _ refl refl refl refl (λ y z. rw z refl) (λ q j z. refl) (λ q z. rw z refl))
+      (guest_still _ refl refl refl refl (λ y z. refl) (λ q i z. refl) (λ q z. rw z refl))
       (λ r. guest_still _ refl refl refl refl (λ y z. refl) (λ q i z. refl) (λ q z. rw z refl)) op row is
 
   pub reach_still : (access : Access) (r gpa at : ℕ) → IsStill w (reach t v access r gpa at w)

@@ -15,6 +15,7 @@ use Rattle.td_words.specs.Slots.{output_slot}
 use Rattle.flat_core.specs.World.{World, ClearHeader, Made, put}
 use Rattle.flat_core.specs.Opening.{Opening}
 use Rattle.flat_core.specs.Row.{Passes}
+use Rattle.flat_core.specs.Conditions.{blocking_ops}
 use Rattle.flat_core.specs.Digests.{six_words}
 use Rattle.flat_core.specs.Tree.{page_of_gpa, number_at, entry_at}
 use Rattle.flat_core.specs.Effects.{put_in, set_op, begin_memory, restate}
@@ -31,7 +32,7 @@ use Rattle.flat_core.proofs.Exports.{free_unmarked}
 use Rattle.flat_core.proofs.Ranges.{block_restates, unblock_restates, page_removed, sept_removed, paused_exporting, abortable_exporting}
 use Rattle.flat_core.proofs.ImportKeeps.{td_state_importing, vp_state_importing}
 use Rattle.flat_core.proofs.Streams.{stream_among, stream_owned}
-use Rattle.flat_core.proofs.Passed.{TdPassed, td_alive, sept_passed, block_passed, unblock_passed, remove_passed, sept_remove_passed}
+use Rattle.flat_core.proofs.Passed.{TdPassed, td_alive, sept_passed, block_passed, unblock_passed, remove_passed, relocate_passed, sept_remove_passed}
 use Rattle.flat_bundles.proofs.Fills.{fill_either}
 use Rattle.mig_laws.specs.Ivs.{IsExporting, IvsHold}
 use Rattle.mig_laws.specs.Source.{is_page_at}
@@ -419,6 +420,11 @@ module _ (o : Opening) (me : ℕ) (w : World) (l : Lawful o.machine w) (i : IvsH
       let e = entry_at w t 0 gpa in
       let q = remove_passed o.machine w t gpa ps in
       entry_numbers (After (call.MemPageRemove t gpa)) t 0 (number_at 0 gpa) _ refl refl refl refl (unmarked e (page_removed e.state q.state).unmarked) x
+  numbers (call.MemPageRelocate t gpa page) ps none x a =
+      let q = (relocate_passed o.machine w t gpa page ps).named in
+      by_test (x == t)
+      (λ y. absurd (never_exporting blocking_ops (w.tds.ops t) (refl, refl, refl) q.op (subst (λ (u : ℕ). is_exporting (w.tds.ops u) ≡ true) (eqb-true x t y) a.standing)))
+      (λ y. record { counter = λ k m. refl; epoch = refl; mark = λ j e. rw y refl; started = λ e. e })
   numbers (call.MemRangeBlock t gpa level) ps none x a =
       let e = entry_at w t level gpa in
       let q = block_passed o.machine w t gpa level ps in

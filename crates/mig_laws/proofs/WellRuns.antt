@@ -66,6 +66,7 @@ operation_well o t v line op row w is h = operation_row o t v line (λ x. WellHo
     (λ y. accept_well t v gpa w (is_pending (entry_at w t 0 gpa).state y) h)
     (λ y. seen_well w _ refl h))
     (λ i. seen_well w _ refl h)
+    (seen_well w _ refl h)
     (λ r. seen_well w _ refl h) op row is
 
 reached_well : (t v : ℕ) (access : Access) (r gpa page : ℕ) (w : World) → WellHolds w → WellHolds (reach t v access r gpa page w)

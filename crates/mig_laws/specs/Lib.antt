@@ -9,3 +9,4 @@ pub mod Imports
 pub mod Started
 pub mod Grows
 pub mod Hosts
+pub mod Once

@@ -19,9 +19,9 @@ ghost use Rattle.mig_laws.specs.Started.{EveryRunIsASource, MissingAreUnsent, So
 /// Why it is so is kept by each event at which no tag is forged, whatever else has come in by then. Of a TD
 /// that is being imported, as many bundles of each stream as it has counted were imported, none of a later
 /// migration epoch than it is in; each page that it was given has the last imported payload of that page;
-/// MRTD and the number of virtual processors are those of the session's first bundle, and RTMRs, registers
-/// and positions those of the bundles that were imported. From POST_IMPORT on all was imported that the
-/// session made before its start token.
+/// MRTD and the number of virtual processors that are expected are those of the session's first bundle, and
+/// RTMRs, registers and positions those of the bundles that were imported. In POST_IMPORT all was imported
+/// that the session made before its start token.
 pub fn image_law()
     ensures kept { DestinationIsKept }
     ensures runs { ImageLaw }

@@ -1,6 +1,7 @@
 //! Laws of a migration's source, as contracts of functions that do nothing.
 
 ghost use Rattle.mig_laws.specs.Ivs.{NoIvComesTwice};
+ghost use Rattle.mig_laws.specs.Once.{NoBundleIsTakenTwice, TakenAreSpent};
 ghost use Rattle.mig_laws.specs.Paused.{PausesAreKept, StartedAreSentAsPaused};
 ghost use Rattle.mig_laws.specs.Source.{SourceIsKept, EveryPageHoldsItsPayload, EverySentIsTracked, NoStoreReachesSent};
 ghost use Rattle.mig_laws.specs.States.{StatesSentAreAsPaused, StatesAreKept, PositionsAreKept};
@@ -46,4 +47,14 @@ pub fn state_law()
     ensures kept { StatesAreKept }
     ensures positions { PositionsAreKept }
     ensures runs { StatesSentAreAsPaused }
+{}
+
+/// A run takes no bundle of types 0 to 5 twice, whoever made it and whether its tag was forged or not. No two events of a
+/// run take in bundles of one session with the same stream and counter, and no two begin one session: a
+/// session that begins is later than any before, and each stream takes the counter that is due, and no
+/// other. One event keeps it, whatever bundles have come in: the session of what was taken isn't above the
+/// last one that was imported, and each import that stands under it has counted it.
+pub fn once_law()
+    ensures kept { TakenAreSpent }
+    ensures runs { NoBundleIsTakenTwice }
 {}

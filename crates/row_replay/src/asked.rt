@@ -8,8 +8,8 @@ use std::test::Fail;
 use std::thread::Threads;
 
 /// A row as it is asked for: its command lines, with a semicolon between two, which name the script s, the keys
-/// k, the secrets z and the container c, and for what is saved the container b and the guest file g; its
-/// machine; and the row, which each of these lines runs.
+/// k, the report key r, the secrets z and the container c, and for what is saved the container b and the guest
+/// file g; its machine; and the row, which each of these lines runs.
 pub type Asked<'a> = (&'a str, &'a str, Row<'a>);
 
 /// The words with which a secrets file begins, of which the others are 0, and rows.

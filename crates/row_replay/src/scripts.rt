@@ -77,10 +77,10 @@ fn secrets_file(alloc: Global, words: &[u64]) -> Result<Vec<u8>, Fail> {
     Ok(bytes)
 }
 
-// The bytes of a key file, 0 to 63.
-fn key_file(alloc: Global) -> Result<Vec<u8>, Fail> {
+// The bytes of a key file, from 0 on.
+fn key_file(alloc: Global, length: u8) -> Result<Vec<u8>, Fail> {
     let mut bytes = Vec::new(alloc);
-    for byte in 0u8..64 {
+    for byte in 0u8..length {
         bytes.push(byte)?;
     }
     Ok(bytes)
@@ -93,15 +93,16 @@ fn file(alloc: Global, name: &str, bytes: Vec<u8>) -> Result<NamedFile, Fail> {
     })
 }
 
-/// What stands beside a script s and keys k of bytes 0 to 63, where it is given: the words with which the
-/// secrets file z begins, whose others are 0, and the container c. The file z4095 is z without its last byte.
+/// What stands beside a script s, keys k of bytes 0 to 63 and a report key r of bytes 0 to 47, where it is given:
+/// the words with which the secrets file z begins, whose others are 0, and the container c. The file z4095 is z
+/// without its last byte.
 #[derive(Clone, Copy)]
 pub struct Beside<'a> {
     pub secrets: Option<&'a [u64]>,
     pub bundles: Option<&'a [u8]>,
 }
 
-/// No file beside a script but its keys.
+/// No file beside a script but its keys and its report key.
 pub const ALONE: Beside<'static> = Beside {
     secrets: None,
     bundles: None,
@@ -129,7 +130,8 @@ fn files_of(
 ) -> Result<MemFiles, Fail> {
     let mut files = Vec::new(alloc);
     files.push(file(alloc, "s", text.as_bytes().to_vec(alloc)?)?)?;
-    files.push(file(alloc, "k", key_file(alloc)?)?)?;
+    files.push(file(alloc, "k", key_file(alloc, 64)?)?)?;
+    files.push(file(alloc, "r", key_file(alloc, 48)?)?)?;
     if let Some(words) = beside.secrets {
         let bytes = secrets_file(alloc, words)?;
         let mut cut = bytes.clone()?;

@@ -24,6 +24,7 @@ fits (op.Load r gpa) h = h.0
 fits (op.Store r gpa) h = h.0
 fits (op.Accept gpa) h = h.0
 fits (op.Rtmr i) h = h
+fits op.Report h = tt
 fits (op.Vmcall r) h = h
 
 -- what holds of each list, and of an empty one, holds of the first list of a virtual processor

@@ -1,13 +1,15 @@
 -- A guest's note is told as it was kept.
-use Rattle.std.proofs.Common.{lit<, ◌≡◌, refl, sym, ◌∙◌, ap, subst, ℕ, zero, suc, ◌+◌, ◌*◌, ◌<◌, ◌≤◌, List, [], ◌∷◌, ◌++◌, length, get_or, take, drop, arith}
+use Rattle.std.proofs.Common.{lit<, ◌≡◌, refl, sym, ◌∙◌, ap, subst, ℕ, zero, suc, ◌+◌, ◌*◌, ◌<◌, ◌≤◌, List, [], ◌∷◌, ◌++◌, length, get_or, take, drop, slice_get, arith}
 use Rattle.std.specs.Int.{w64, to_le_bytes}
 use Rattle.std.proofs.lemmas.Nat.{le_bytes_8}
 use Rattle.std.proofs.lemmas.List.{length-take-le, length-drop, take-append-drop, drop-drop, drop_all}
 use Rattle.flat_core.specs.Digests.{digest_word, digest_bytes, six_words}
-use Rattle.flat_core.specs.GuestText.{note_told}
+use Rattle.flat_core.specs.GuestText.{note_text}
+use Rattle.report_core.specs.declared.facts.Facts.{Facts}
+use Rattle.report_text.specs.Lines.{rtmr_line, report_line, kept_line, note_line}
 use Rattle.report_text.specs.declared.guest.GuestNote.{GuestNote}
 use Rattle.report_text.specs.declared.guest.GuestNote.TheVariants as note
-use Rattle.leaf_dispatch.specs.Guests.{note_seen}
+use Rattle.leaf_dispatch.specs.Guests.{note_seen, facts_at, IsPlaced}
 
 abbrev AreBytes : List ℕ → Type 0
 AreBytes bs = (i : ℕ) → get_or bs i 0 < 256
@@ -43,6 +45,18 @@ digest-back bs long small =
     ap (λ (x : List ℕ). word 0 ++ x) one ∙ word-back bs 0 (omega (arith, long)) small
 
 -- each of its bytes is below 256
-pub note-back : (n : GuestNote) (line index : ℕ) (digest : List ℕ) → n ≡ note.Rtmr line index digest → length digest ≡ 48 → ((i : ℕ) → get_or digest i 0 < 256) → note_told (note_seen n) ≡ n
-note-back n line index digest is long small =
-    subst (λ (z : GuestNote). note_told (note_seen z) ≡ z) (sym is) (ap (λ (bytes : List ℕ). note.Rtmr line index bytes) (digest-back digest long small))
+pub digest-told : (key : List ℕ) (reports : List Facts) (p : ℕ) (n : GuestNote) (line index : ℕ) (digest : List ℕ) → n ≡ note.Rtmr line index digest → length digest ≡ 48 → ((i : ℕ) → get_or digest i 0 < 256)
+    → note_line key reports p n ≡ note_text key p (note_seen reports n)
+digest-told key reports p n line index digest is long small =
+    subst (λ (z : GuestNote). note_line key reports p z ≡ note_text key p (note_seen reports z)) (sym is) (ap (rtmr_line p line index) (sym (digest-back digest long small)))
+
+-- the facts at a place are kept there
+kept-there : (key : List ℕ) (p line : ℕ) (reports : List Facts) (place : ℕ) → place < length reports → kept_line key p line (slice_get reports place) ≡ report_line key p line (facts_at reports place)
+kept-there key p line [] place inside = absurd (omega (arith, inside))
+kept-there key p line (f ∷ fs) zero inside = refl
+kept-there key p line (f ∷ fs) (suc place) inside = kept-there key p line fs place (omega (arith, inside))
+
+pub report-told : (key : List ℕ) (reports : List Facts) (p : ℕ) (n : GuestNote) (line place : ℕ) → n ≡ note.Report line place → IsPlaced (length reports) n → note_line key reports p n ≡ note_text key p (note_seen reports n)
+report-told key reports p n line place is placed =
+    subst (λ (z : GuestNote). note_line key reports p z ≡ note_text key p (note_seen reports z)) (sym is)
+    (kept-there key p line reports place (subst (IsPlaced (length reports)) is placed))

@@ -22,9 +22,8 @@ use Rattle.flat_core.specs.Event as flat
 use Rattle.flat_core.specs.Table.{row_of}
 use Rattle.flat_core.specs.Run.{play, run, bundles_in, to_the_end}
 use Rattle.bundle_texts.specs.Ordered.{FitContainer}
-use Rattle.report_text.specs.Lines.{reply_lines, note_line}
-use Rattle.report_text.specs.declared.guest.GuestNote.{GuestNote}
-use Rattle.flat_core.specs.GuestText.{note_told, notes_from, notes_of, guest_text}
+use Rattle.report_text.specs.Lines.{reply_lines}
+use Rattle.flat_core.specs.GuestText.{note_text, notes_from, notes_of, guest_text}
 use Rattle.flat_core.specs.HostText.{lines_from, text_of, host_text}
 use Rattle.flat_core.proofs.Induction.{counts_stay, play_append}
 use Rattle.step_core.specs.Words.{after_step}
@@ -379,19 +378,14 @@ same-lines (suc n) p f (s ∷ ss) e h =
     ap (λ (rs : List Reply). reply_lines p 1 rs ++ lines_from n (p + 1) f) here
     ∙ ap (λ zs. reply_lines p 1 (seen_of s).replies ++ zs) (same-lines n (p + 1) f ss (omega (arith, e)) (λ q i. ap (λ (k : ℕ). (f k).replies) (omega arith) ∙ h (suc q) (omega arith)))
 
-told-lines : (p : ℕ) (ns : List Note) → map (λ n. note_line p (note_told n)) ns ≡ map (note_line p) (map note_told ns)
-told-lines p [] = refl
-told-lines p (n ∷ ns) = ap (λ (zs : List (List ℕ)). note_line p (note_told n) ∷ zs) (told-lines p ns)
-
-pub same-notes : (n p : ℕ) (f : ℕ → Lp) (lps : List LpState) → length lps ≡ n → ((q : ℕ) → q < n → (f (p + q)).notes ≡ (seen_at lps q).beside.notes) → notes_from n p f ≡ notes_seen p lps
-same-notes zero p f [] e h = refl
-same-notes zero p f (s ∷ ss) e h = absurd (omega (arith, e))
-same-notes (suc n) p f [] e h = absurd (omega (arith, e))
-same-notes (suc n) p f (s ∷ ss) e h =
+pub same-notes : (key : List ℕ) (n p : ℕ) (f : ℕ → Lp) (lps : List LpState) → length lps ≡ n → ((q : ℕ) → q < n → (f (p + q)).notes ≡ (seen_at lps q).beside.notes) → notes_from key n p f ≡ notes_seen key p lps
+same-notes key zero p f [] e h = refl
+same-notes key zero p f (s ∷ ss) e h = absurd (omega (arith, e))
+same-notes key (suc n) p f [] e h = absurd (omega (arith, e))
+same-notes key (suc n) p f (s ∷ ss) e h =
     let here : (f p).notes ≡ (seen_of s).beside.notes = ap (λ (k : ℕ). (f k).notes) (omega arith) ∙ h 0 (omega arith) in
-    ap (λ (ns : List Note). map (λ n. note_line p (note_told n)) ns ++ notes_from n (p + 1) f) here
-    ∙ ap (λ (ls : List (List ℕ)). ls ++ notes_from n (p + 1) f) (told-lines p (seen_of s).beside.notes)
-    ∙ ap (λ zs. map (note_line p) (map note_told (seen_of s).beside.notes) ++ zs) (same-notes n (p + 1) f ss (omega (arith, e)) (λ q i. ap (λ (k : ℕ). (f k).notes) (omega arith) ∙ h (suc q) (omega arith)))
+    ap (λ (ns : List Note). map (note_text key p) ns ++ notes_from key n (p + 1) f) here
+    ∙ ap (λ zs. map (note_text key p) (seen_of s).beside.notes ++ zs) (same-notes key n (p + 1) f ss (omega (arith, e)) (λ q i. ap (λ (k : ℕ). (f k).notes) (omega arith) ∙ h (suc q) (omega arith)))
 
 -- one processor more
 pub first-next : (m : Machine) (given : Given) (codes : List CodeSeen) (lps : List LpState) (lists : List (Vec Call)) (i : ℕ) (v : Vec Call) (s : LpState) (cs : List Call) → i < length lists → v ≡ get_or lists i v → cs ≡ v.items
@@ -416,14 +410,14 @@ lines-next lps i d text lines all rs inside replied printed so_far =
     ∙ (ap (λ x. text ++ x) (sym (concat-append (reply_lines i 1 (seen_of (get_or lps i d)).replies) rest)) ∙ (ap (λ (x : List LpState). text ++ concat (lines_seen i x)) (sym here) ∙ so_far)))
 
 -- the notes of one processor more
-pub notes-next : (lps : List LpState) (i : ℕ) (d : LpState) (text lines all : List ℕ) (ns : List GuestNote) → i < length lps → ns ≡ map note_told (seen_of (get_or lps i d)).beside.notes → lines ≡ concat (map (note_line i) ns)
-    → text ++ concat (notes_seen i (drop i lps)) ≡ all → (text ++ lines) ++ concat (notes_seen (i + 1) (drop (i + 1) lps)) ≡ all
-notes-next lps i d text lines all ns inside noted printed so_far =
+pub notes-next : (key : List ℕ) (lps : List LpState) (i : ℕ) (d : LpState) (text lines all : List ℕ) (ns : List Note) → i < length lps → ns ≡ (seen_of (get_or lps i d)).beside.notes → lines ≡ concat (map (note_text key i) ns)
+    → text ++ concat (notes_seen key i (drop i lps)) ≡ all → (text ++ lines) ++ concat (notes_seen key (i + 1) (drop (i + 1) lps)) ≡ all
+notes-next key lps i d text lines all ns inside noted printed so_far =
     let here : drop i lps ≡ get_or lps i d ∷ drop (i + 1) lps = rw add-one (drop-cons lps i d inside) in
-    let rest : List (List ℕ) = notes_seen (i + 1) (drop (i + 1) lps) in
+    let rest : List (List ℕ) = notes_seen key (i + 1) (drop (i + 1) lps) in
     append_assoc text lines (concat rest)
-    ∙ (ap (λ x. text ++ (x ++ concat rest)) (printed ∙ ap (λ (x : List GuestNote). concat (map (note_line i) x)) noted)
-    ∙ (ap (λ x. text ++ x) (sym (concat-append (map (note_line i) (map note_told (seen_of (get_or lps i d)).beside.notes)) rest)) ∙ (ap (λ (x : List LpState). text ++ concat (notes_seen i x)) (sym here) ∙ so_far)))
+    ∙ (ap (λ x. text ++ (x ++ concat rest)) (printed ∙ ap (λ (x : List Note). concat (map (note_text key i) x)) noted)
+    ∙ (ap (λ x. text ++ x) (sym (concat-append (map (note_text key i) (seen_of (get_or lps i d)).beside.notes) rest)) ∙ (ap (λ (x : List LpState). text ++ concat (notes_seen key i x)) (sym here) ∙ so_far)))
 
 -- the bench of a table that was started
 pub first-bench : (b : BenchSeen) (m : Machine) (id : TableId) → b.machine ≡ m → b.pass ≡ first_pass id → b ≡ only_bench m id []
@@ -498,12 +492,12 @@ module _ (ls : TurnsAreEvents) (o : Opening) (schedule : List ℕ) (lps : List L
       ap concat (sym lines) ∙ ap text_of same
 
   -- what the guests noted stands beside the processors' lines
-  pub notes-all : concat (notes_seen 0 lps) ≡ guest_text o schedule
+  pub notes-all : (key : List ℕ) → concat (notes_seen key 0 lps) ≡ guest_text key o schedule
   unfolding guest_text notes_of
-  notes-all =
-      let lines : notes_from end.lp_count 0 end.lps ≡ notes_seen 0 lps =
-      same-notes end.lp_count 0 end.lps lps (l.count ∙ sym count) (λ q i. ap (λ (k : ℕ). (end.lps k).notes) (omega arith) ∙ ap (λ (x : Beside). x.notes) (there.beside q (omega (arith, count, i)))) in
-      ap concat (sym lines) ∙ ap notes_of same
+  notes-all key =
+      let lines : notes_from key end.lp_count 0 end.lps ≡ notes_seen key 0 lps =
+      same-notes key end.lp_count 0 end.lps lps (l.count ∙ sym count) (λ q i. ap (λ (k : ℕ). (end.lps k).notes) (omega arith) ∙ ap (λ (x : Beside). x.notes) (there.beside q (omega (arith, count, i)))) in
+      ap concat (sym lines) ∙ ap (notes_of key) same
 
   pub fit : FitContainer (bundles_in (run o schedule))
   fit = fit-run ls.bundles o schedule op.slots op.apart

@@ -62,9 +62,9 @@ module _ (o : Opening) (schedule : List ℕ) (lps : List LpState) (count : lengt
   unfolding host_text text_of
   prints there = ap concat (sym (same-lines end.lp_count 0 end.lps lps (count ∙ sym counted) (λ q i. ap (λ (k : ℕ). (end.lps k).replies) (omega arith) ∙ there q (omega (arith, counted, i)))))
 
-  pub notes : ((q : ℕ) → q < length o.calls → (end.lps q).notes ≡ (seen_at lps q).beside.notes) → concat (notes_seen 0 lps) ≡ guest_text o schedule
+  pub notes : (key : List ℕ) → ((q : ℕ) → q < length o.calls → (end.lps q).notes ≡ (seen_at lps q).beside.notes) → concat (notes_seen key 0 lps) ≡ guest_text key o schedule
   unfolding guest_text notes_of
-  notes there = ap concat (sym (same-notes end.lp_count 0 end.lps lps (count ∙ sym counted) (λ q i. ap (λ (k : ℕ). (end.lps k).notes) (omega arith) ∙ there q (omega (arith, counted, i)))))
+  notes key there = ap concat (sym (same-notes key end.lp_count 0 end.lps lps (count ∙ sym counted) (λ q i. ap (λ (k : ℕ). (end.lps k).notes) (omega arith) ∙ there q (omega (arith, counted, i)))))
 
 -- the items of a merge are the processors'
 
@@ -231,11 +231,11 @@ module _ (ls : TurnsAreEvents) (threads : ThreadsAreRuns) (o : Opening) (op : Is
   over p lt = empty-list (is_now p).processor.lines.now (ran p lt).ended
 
   -- where a run ends where the processors are, it prints their lines
-  printed : (schedule : List ℕ) → IsWhere o now (run o schedule) → (concat (lines_seen 0 (processors_of after)) ≡ host_text o schedule) × (concat (notes_seen 0 (processors_of after)) ≡ guest_text o schedule)
-  printed schedule there =
+  printed : (key schedule : List ℕ) → IsWhere o now (run o schedule) → (concat (lines_seen 0 (processors_of after)) ≡ host_text o schedule) × (concat (notes_seen key 0 (processors_of after)) ≡ guest_text key o schedule)
+  printed key schedule there =
       let count : length (processors_of after) ≡ length o.calls = length-map after (λ a. a.processor) ∙ counted-after in (
         prints o schedule (processors_of after) count (λ q lt. there.replies q lt ∙ ap (λ (x : WordLp). x.replies) (sym (processor-is q lt))),
-        notes o schedule (processors_of after) count (λ q lt. ap (λ (x : Beside). x.notes) (there.beside q lt) ∙ ap (λ (x : WordLp). x.beside.notes) (sym (processor-is q lt))),
+        notes o schedule (processors_of after) count key (λ q lt. ap (λ (x : Beside). x.notes) (there.beside q lt) ∙ ap (λ (x : WordLp). x.beside.notes) (sym (processor-is q lt))),
       )
 
   same-made : (q : ℕ) → q < length o.calls → (now q).beside.bundles ≡ ended_in (seen_at (processors_of after) q)
@@ -251,17 +251,17 @@ module _ (ls : TurnsAreEvents) (threads : ThreadsAreRuns) (o : Opening) (op : Is
   pub fits-lanes : FitContainer (bundles_seen (processors_of after))
   fits-lanes = fits-there o (order one-run.made) now (processors_of after) (length-map after (λ a. a.processor) ∙ counted-after) same-made one-run.lps.bundles (fit (order one-run.made))
 
-  module _ (forward backward : List ℕ) (out_bundles guest_out : Option (List ℕ)) (t : Texts)
-      (told : TellAll out_bundles guest_out (concat (lines_seen 0 (processors_of after))) (container_text forward backward (bundles_seen (processors_of after))) (concat (notes_seen 0 (processors_of after))) t) where
-    tells-run : (schedule : List ℕ) → IsWhere o now (run o schedule) → TellAll out_bundles guest_out (host_text o schedule) (bundles_text forward backward o schedule) (guest_text o schedule) t
+  module _ (forward backward report_key : List ℕ) (out_bundles guest_out : Option (List ℕ)) (t : Texts)
+      (told : TellAll out_bundles guest_out (concat (lines_seen 0 (processors_of after))) (container_text forward backward (bundles_seen (processors_of after))) (concat (notes_seen report_key 0 (processors_of after))) t) where
+    tells-run : (schedule : List ℕ) → IsWhere o now (run o schedule) → TellAll out_bundles guest_out (host_text o schedule) (bundles_text forward backward o schedule) (guest_text report_key o schedule) t
     tells-run schedule there =
-        let p = printed schedule there in (
+        let p = printed report_key schedule there in (
           told.0 ∙ p.0,
           told.1 ∙ ap (where_named out_bundles) (sealed schedule there forward backward),
           told.2 ∙ ap (where_named guest_out) p.1,
         )
 
-    pub of-threads : AreOfThreads o forward backward out_bundles guest_out t
+    pub of-threads : AreOfThreads o forward backward report_key out_bundles guest_out t
     of-threads = record {
       own = λ p. joined (one-run.merge.own p);
       lists = λ p lt. record { turns = one-run.merge.own p; last = now p; lead = one-run.merge.turns p lt; over = over p lt; is = refl };

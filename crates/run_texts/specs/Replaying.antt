@@ -11,11 +11,11 @@ use Rattle.flat_core.specs.Run.{play, run, to_the_end, bundles_in, told_in}
 use Rattle.flat_core.specs.Bounds.{RunsEnd}
 use Rattle.flat_core.specs.Laws.{OthersStay, AreMerged}
 use Rattle.flat_core.specs.HostText.{host_text}
-use Rattle.flat_core.specs.GuestText.{note_told, guest_text}
+use Rattle.flat_core.specs.GuestText.{note_text, guest_text}
 use Rattle.flat_bundles.specs.Bundles.{BundlesAreOfLines}
 use Rattle.flat_bundles.specs.Ended.{own_of, ended_bundles}
 use Rattle.bundle_texts.specs.Ordered.{FitContainer}
-use Rattle.report_text.specs.Lines.{reply_lines, note_line}
+use Rattle.report_text.specs.Lines.{reply_lines}
 use Rattle.step_core.specs.Words.{word_count}
 use Rattle.step_core.specs.Items.{Table, PlaysTo}
 use Rattle.step_core.specs.declared.items.Taken.{Taken}
@@ -64,19 +64,20 @@ abbrev pub lines_seen : ℕ → List LpState → List (List ℕ)
 lines_seen p [] = []
 lines_seen p (s ∷ ss) = reply_lines p 1 (seen_of s).replies ++ lines_seen (p + 1) ss
 
--- the lines of what the guests of processor p and of those behind it noted
-abbrev pub notes_seen : ℕ → List LpState → List (List ℕ)
-notes_seen p [] = []
-notes_seen p (s ∷ ss) = map (note_line p) (map note_told (seen_of s).beside.notes) ++ notes_seen (p + 1) ss
+-- the lines of what the guests of processor p and of those behind it noted, under the report key
+abbrev pub notes_seen : (key : List ℕ) → ℕ → List LpState → List (List ℕ)
+notes_seen key p [] = []
+notes_seen key p (s ∷ ss) = map (note_text key p) (seen_of s).beside.notes ++ notes_seen key (p + 1) ss
 
--- The processors are where a script's run ends. Their replies are what it prints, and their notes the text of its guest file. The
+-- The processors are where a script's run ends. Their replies are what it prints, and their notes the text of its guest file, under each
+-- report key. The
 -- bundles that they made are its bundles, in an order of their own, and fit a container; and the words that its guests told are
 -- a merge of what each of them has told.
 pub record AreAtEnd (o : Opening) (schedule : List ℕ) (lps : List LpState) : Type 0 where
   pub count : length lps ≡ length o.calls
   pub few : length lps ≤ 8
   pub replies : concat (lines_seen 0 lps) ≡ host_text o schedule
-  pub notes : concat (notes_seen 0 lps) ≡ guest_text o schedule
+  pub notes : (key : List ℕ) → concat (notes_seen key 0 lps) ≡ guest_text key o schedule
   pub bundles : IsPermutation (bundles_in (run o schedule)) (bundles_seen lps)
   pub fit : FitContainer (bundles_in (run o schedule))
   pub told : AreMerged (λ p. (seen_at lps p).beside.told) (told_in (run o schedule))
@@ -98,8 +99,8 @@ pub record EndedAreShown (o : Opening) (s : State) (lps : List LpState) : Type 0
   pub ended : (p : ℕ) → p < length o.calls → ended_in (seen_at lps p) ≡ own_of (calls_of o.calls p) (ended_bundles o s)
   pub all : IsPermutation (ended_bundles o s) (bundles_seen lps)
 
--- So far the turns that the processors made, which lead to this table, are a merge; they show the bundles that have ended in the
--- state where its events lead; and what is sought holds of that state, with the items that are left and those up to the end.
+-- A merge leads the processors to where they are, and the words to this table. The processors show the bundles that have ended in
+-- the state where its events lead; and what is sought holds of that state, with the items that are left and those up to the end.
 pub record IsMidway (o : Opening) (left : List ℕ) (sought : State → List ℕ → Type 0) (lps : List LpState) (t : Table) : Type 0 where
   pub made : List Item
   pub merge : Merge o (leaf_table o.machine (given_of o) o.codes) made (seen_at lps) t

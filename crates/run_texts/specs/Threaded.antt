@@ -30,13 +30,13 @@ pub record PlaysInOrder (o : Opening) (own : ℕ → List Piece) (made : List It
   pub plays : PlaysTo no_table (steps_taken made) u
 
 -- The processors have own lists of word steps that have such an order, whose events are theirs. Every such order, also one that
--- didn't come about, is one of events under which the flat machine's run prints these texts and makes these bundles, sealed under
--- these keys.
-pub record AreOfThreads (o : Opening) (forward backward : List ℕ) (out_bundles guest_out : Option (List ℕ)) (t : Texts) : Type 0 where
+-- didn't come about, is one of events under which the flat machine's run prints these texts, the reports under this report key, and
+-- makes these bundles, sealed under these keys.
+pub record AreOfThreads (o : Opening) (forward backward report_key : List ℕ) (out_bundles guest_out : Option (List ℕ)) (t : Texts) : Type 0 where
   pub own : ℕ → List Piece
   pub lists : (p : ℕ) → p < length o.calls → IsOwnList o p (own p)
   pub made : List Item
   pub table : Table
   pub ordered : PlaysInOrder o own made table
   pub processors : All (λ p. p < length o.calls) (order made)
-  pub each : (made : List Item) (u : Table) → PlaysInOrder o own made u → TellAll out_bundles guest_out (host_text o (order made)) (bundles_text forward backward o (order made)) (guest_text o (order made)) t
+  pub each : (made : List Item) (u : Table) → PlaysInOrder o own made u → TellAll out_bundles guest_out (host_text o (order made)) (bundles_text forward backward o (order made)) (guest_text report_key o (order made)) t

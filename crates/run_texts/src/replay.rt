@@ -95,14 +95,19 @@ fn all_lines(alloc: Global, lps: &[LpState<'_>]) -> Result<Vec<u8>, OutOfMemory>
     Ok(text)
 }
 
-// The lines of what the guests of all processors noted.
-fn all_notes(alloc: Global, lps: &[LpState<'_>]) -> Result<Vec<u8>, OutOfMemory>
+// The lines of what the guests of all processors noted, with their reports under the report key.
+fn all_notes(
+    alloc: Global,
+    report_key: &[u8; 48],
+    lps: &[LpState<'_>],
+) -> Result<Vec<u8>, OutOfMemory>
     requires { length lps.now ≤ 8 }
-    ensures { IfOk result (λ v. v.items ≡ concat (notes_seen 0 lps.now)) }
+    ensures { IfOk result (λ v. v.items ≡ concat (notes_seen report_key.now 0 lps.now)) }
 {
     let mut text = Vec::new(alloc);
     for lp in 0..lps.len() {
-        let lines = noted_lines(alloc, lp as u8, lps[lp].notes())?;
+        let state = &lps[lp];
+        let lines = noted_lines(alloc, lp as u8, state.notes(), state.reports(), report_key)?;
         let Ok(()) = text.extend_from_slice(&lines) else {
             return Err(OutOfMemory);
         };
@@ -113,15 +118,16 @@ fn all_notes(alloc: Global, lps: &[LpState<'_>]) -> Result<Vec<u8>, OutOfMemory>
 // The same where the guest file is named, and else nothing.
 fn guest_notes(
     alloc: Global,
+    report_key: &[u8; 48],
     guest_out: Option<&str>,
     lps: &[LpState<'_>],
 ) -> Result<Vec<u8>, OutOfMemory>
     requires { length lps.now ≤ 8 }
-    ensures { IfOk result (λ v. v.items ≡ where_named (option_map (λ name. name.now) guest_out.entry) (concat (notes_seen 0 lps.now))) }
+    ensures { IfOk result (λ v. v.items ≡ where_named (option_map (λ name. name.now) guest_out.entry) (concat (notes_seen report_key.now 0 lps.now))) }
 {
     match guest_out {
         None => Ok(Vec::new(alloc)),
-        Some(_) => all_notes(alloc, lps),
+        Some(_) => all_notes(alloc, report_key, lps),
     }
 }
 
@@ -137,17 +143,18 @@ pub struct Texts {
 pub(crate) fn all_texts(
     alloc: Global,
     keys: &KeyPair,
+    report_key: &[u8; 48],
     out_bundles: Option<&str>,
     guest_out: Option<&str>,
     lps: &[LpState<'_>],
 ) -> Result<Texts, OutOfMemory>
     requires few { length lps.now ≤ 8 }
     requires fit { FitContainer (bundles_seen lps.now) }
-    ensures { IfOk result (λ t. TellAll (option_map (λ name. name.now) out_bundles.entry) (option_map (λ name. name.now) guest_out.entry) (concat (lines_seen 0 lps.now)) (container_text keys.now.forward keys.now.backward (bundles_seen lps.now)) (concat (notes_seen 0 lps.now)) t) }
+    ensures { IfOk result (λ t. TellAll (option_map (λ name. name.now) out_bundles.entry) (option_map (λ name. name.now) guest_out.entry) (concat (lines_seen 0 lps.now)) (container_text keys.now.forward keys.now.backward (bundles_seen lps.now)) (concat (notes_seen report_key.now 0 lps.now)) t) }
 {
     let replies = all_lines(alloc, lps)?;
     let container = sealed_bundles(alloc, keys, out_bundles, lps)?;
-    let guest = guest_notes(alloc, guest_out, lps)?;
+    let guest = guest_notes(alloc, report_key, guest_out, lps)?;
     Ok(Texts {
         replies,
         container,
@@ -173,20 +180,21 @@ pub fn ended_processors<'a>(
     Ok(ran.lps)
 }
 
-/// The texts of a script's run under its schedule, with secret words and bundles that come in, and with
-/// two keys for the bundles that it makes.
+/// The texts of a script's run under its schedule, with secret words and bundles that come in, with two
+/// keys for the bundles that it makes, and with the report key.
 pub fn replay_texts(
     alloc: Global,
     script: &Script,
     given: Given<'_>,
     keys: &KeyPair,
+    report_key: &[u8; 48],
     out_bundles: Option<&str>,
     guest_out: Option<&str>,
 ) -> Result<Texts, OutOfMemory>
     requires form { IsInForm script.now }
-    ensures { IfOk result (λ t. TellAll (option_map (λ name. name.now) out_bundles.entry) (option_map (λ name. name.now) guest_out.entry) (host_text (opening_of (given_in given.entry) script.now) script.now.schedule) (bundles_text keys.now.forward keys.now.backward (opening_of (given_in given.entry) script.now) script.now.schedule) (guest_text (opening_of (given_in given.entry) script.now) script.now.schedule) t) }
+    ensures { IfOk result (λ t. TellAll (option_map (λ name. name.now) out_bundles.entry) (option_map (λ name. name.now) guest_out.entry) (host_text (opening_of (given_in given.entry) script.now) script.now.schedule) (bundles_text keys.now.forward keys.now.backward (opening_of (given_in given.entry) script.now) script.now.schedule) (guest_text report_key.now (opening_of (given_in given.entry) script.now) script.now.schedule) t) }
 {
     let first_lists = FirstLists::new(alloc, &script.codes)?;
     let lps = ended_processors(alloc, script, given, &first_lists)?;
-    all_texts(alloc, keys, out_bundles, guest_out, &lps)
+    all_texts(alloc, keys, report_key, out_bundles, guest_out, &lps)
 }

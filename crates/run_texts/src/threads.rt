@@ -80,7 +80,8 @@ fn taken_in<'t, 'a>(
 }
 
 /// The texts of a script's run with a thread for each of its processors, or as far as threads can be
-/// made, with secret words and bundles that come in, and with two keys for the bundles that it makes.
+/// made, with secret words and bundles that come in, with two keys for the bundles that it makes, and
+/// with the report key.
 /// Each processor runs to the end of its calls; before each of its turns the gate is asked.
 pub fn threaded_texts<R: Threads + Sync, G: Gate + Sync>(
     threads: &R,
@@ -88,12 +89,13 @@ pub fn threaded_texts<R: Threads + Sync, G: Gate + Sync>(
     script: &Script,
     given: Given<'_>,
     keys: &KeyPair,
+    report_key: &[u8; 48],
     out_bundles: Option<&str>,
     guest_out: Option<&str>,
     gate: &G,
 ) -> Result<Texts, OutOfMemory>
     requires form { IsInForm script.now }
-    ensures each { IfOk result (λ t. AreOfThreads (opening_of (given_in given.entry) script.now) keys.now.forward keys.now.backward (option_map (λ name. name.now) out_bundles.entry) (option_map (λ name. name.now) guest_out.entry) t) }
+    ensures each { IfOk result (λ t. AreOfThreads (opening_of (given_in given.entry) script.now) keys.now.forward keys.now.backward report_key.now (option_map (λ name. name.now) out_bundles.entry) (option_map (λ name. name.now) guest_out.entry) t) }
 {
     laws_of_turns();
     threads_are_runs();
@@ -114,5 +116,12 @@ pub fn threaded_texts<R: Threads + Sync, G: Gate + Sync>(
     let ended = taken_in(alloc, lanes, &mut first)?;
     let pass = first.into_pass();
     table.close(pass);
-    all_texts(alloc, keys, out_bundles, guest_out, ended.as_slice())
+    all_texts(
+        alloc,
+        keys,
+        report_key,
+        out_bundles,
+        guest_out,
+        ended.as_slice(),
+    )
 }

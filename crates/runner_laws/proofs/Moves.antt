@@ -221,6 +221,7 @@ operation_same o t v line op row w is = operation_row o t v line (λ x. asked (t
     (λ r gpa. refl)
     (λ gpa. accepted (λ x. asked (tell_words [] (pass_operation v x)) ≡ asked w) (is_pending_at w t gpa) t gpa w (λ y. refl) (λ y. refl))
     (λ i. refl)
+    refl
     (λ r. refl) op row is
 
 pub reach_same : (t v : ℕ) (access : Access) (r gpa page : ℕ) (w : World) → asked (reach t v access r gpa page w) ≡ asked w

@@ -65,22 +65,22 @@ paused_exports op.PausedExport e = refl
 paused_exports op.PostExport e = refl
 paused_exports _ e = cc
 
-new_apart : {A : Type 0} (s : OpState) → is_new s ≡ true → (is_exporting s ≡ true → A) × (is_waiting s ≡ true → A)
+pub new_apart : {A : Type 0} (s : OpState) → is_new s ≡ true → (is_exporting s ≡ true → A) × (is_waiting s ≡ true → A)
 new_apart op.Uninitialized e = (λ f. cc, λ f. cc)
 new_apart op.Initialized e = (λ f. cc, λ f. cc)
 new_apart _ e = cc
 
-waiting_apart : {A : Type 0} (s : OpState) → is_waiting s ≡ true → is_exporting s ≡ true → A
+pub waiting_apart : {A : Type 0} (s : OpState) → is_waiting s ≡ true → is_exporting s ≡ true → A
 waiting_apart op.MemoryImport e f = cc
 waiting_apart op.StateImport e f = cc
 waiting_apart op.PostImport e f = cc
 waiting_apart op.FailedImport e f = cc
 waiting_apart _ e f = cc
 
-not_exporting : {A : Type 0} (s x : OpState) → s ≡ x → is_exporting x ≡ false → is_exporting s ≡ true → A
+pub not_exporting : {A : Type 0} (s x : OpState) → s ≡ x → is_exporting x ≡ false → is_exporting s ≡ true → A
 not_exporting s x e off f = absurd (let no : true ≡ false = sym f ∙ (ap is_exporting e ∙ off) in cc)
 
-not_waiting : {A : Type 0} (s x : OpState) → s ≡ x → is_waiting x ≡ false → is_waiting s ≡ true → A
+pub not_waiting : {A : Type 0} (s x : OpState) → s ≡ x → is_waiting x ≡ false → is_waiting s ≡ true → A
 not_waiting s x e off f = absurd (let no : true ≡ false = sym f ∙ (ap is_waiting e ∙ off) in cc)
 
 rest_stops : (o : Opening) (s : State) (t session : ℕ) → AreTimely o s → RestsAs s.world t session → Runs s t → ⊥
@@ -96,13 +96,13 @@ alive_or w t alive dead = by_test (same_kind (w.pages.kinds t) kind.Tdr)
 
 -- One event
 
-exported_still : (w v : World) (t session : ℕ) → IsExportedAs w t session → IsAlive v.pages v.tds t → is_exporting (v.tds.ops t) ≡ true → v.tds.sessions t ≡ w.tds.sessions t → IsExportedAs v t session
+pub exported_still : (w v : World) (t session : ℕ) → IsExportedAs w t session → IsAlive v.pages v.tds t → is_exporting (v.tds.ops t) ≡ true → v.tds.sessions t ≡ w.tds.sessions t → IsExportedAs v t session
 exported_still w v t session r alive standing same = record { exporting = record { alive = alive; standing = standing }; own = same ∙ r.own }
 
-same_alive : (w v : World) (t : ℕ) → asked v ≡ asked w → IsAlive w.pages w.tds t → IsAlive v.pages v.tds t
+pub same_alive : (w v : World) (t : ℕ) → asked v ≡ asked w → IsAlive w.pages w.tds t → IsAlive v.pages v.tds t
 same_alive w v t same a = record { kind = ap (λ (z : Asked). z.kinds t) same ∙ a.kind; life = subst (λ (z : Asked). IsLive (z.lives t)) (sym same) a.life }
 
-same_exported : (w v : World) (t session : ℕ) → asked v ≡ asked w → IsExportedAs w t session → IsExportedAs v t session
+pub same_exported : (w v : World) (t session : ℕ) → asked v ≡ asked w → IsExportedAs w t session → IsExportedAs v t session
 same_exported w v t session same r =
     exported_still w v t session r (same_alive w v t same r.exporting.alive) (ap (λ (z : Asked). is_exporting (z.ops t)) same ∙ r.exporting.standing) (ap (λ (z : Asked). z.sessions t) same)
 
@@ -154,7 +154,7 @@ module _ (o : Opening) (bundles : ℕ → Option Incoming) (s : State) (p : ℕ)
       (λ c cs g op access k gpa page i is found. same_commits s.world _ (reach_same g.tdr g.vp access k gpa page s.world) h)
       (λ c cs g i. same_commits s.world _ (left_same g.vp s.world) h)
 
-none_is_some : {A B : Type 0} {x : A} → None ≡ Some x → B
+pub none_is_some : {A B : Type 0} {x : A} → None ≡ Some x → B
 none_is_some e = cc
 
 pub commits_kept : CommitsAreKept
@@ -190,7 +190,7 @@ in_parts holds h o ws before after = subst (λ (s : State). holds o s) (play_app
 
 -- what never began before its start token never does
 module _ (o : Opening) (bundles : ℕ → Option Incoming) (session : ℕ) (s : State) (p : ℕ) (h : PausesIn o s) (k : IsUnstarted s.world session) where
-  event_unstarted : IsUnstarted (event (with_bundles o bundles) s p).world session
+  pub event_unstarted : IsUnstarted (event (with_bundles o bundles) s p).world session
   event_unstarted =
       let q : Opening = with_bundles o bundles in
       let u : World = s.world in

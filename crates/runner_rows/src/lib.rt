@@ -15,6 +15,8 @@ mod outputs;
 #[cfg(test)]
 mod replays;
 #[cfg(test)]
+mod reports;
+#[cfg(test)]
 mod too_long;
 #[cfg(test)]
 mod verifies;

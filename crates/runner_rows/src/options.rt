@@ -9,7 +9,7 @@ use std::test::Fail;
 use std::thread::Threads;
 
 const USAGE: &[u8] =
-    b"usage: tdx replay|run SCRIPT [--bundles F] [--keys F] [--secrets F] [--out-bundles F] [--guest-out F] | tdx check SCRIPT | tdx soak N | tdx verify FILE KEY\n";
+    b"usage: tdx replay|run SCRIPT [--bundles F] [--keys F] [--secrets F] [--out-bundles F] [--guest-out F] [--report-key F] | tdx check SCRIPT | tdx soak N | tdx verify FILE KEY\n";
 
 // The script s, which has one reply; n, which has none; t, whose call makes a bundle where it isn't refused;
 // e, whose bytes are none; the container b, c with 3 bytes more, d, whose second entry has the slot of its first,

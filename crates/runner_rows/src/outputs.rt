@@ -7,7 +7,7 @@ use std::alloc::Global;
 use std::test::Fail;
 
 const USAGE: &str =
-    "usage: tdx replay|run SCRIPT [--bundles F] [--keys F] [--secrets F] [--out-bundles F] [--guest-out F] | tdx check SCRIPT | tdx soak N | tdx verify FILE KEY\n";
+    "usage: tdx replay|run SCRIPT [--bundles F] [--keys F] [--secrets F] [--out-bundles F] [--guest-out F] [--report-key F] | tdx check SCRIPT | tdx soak N | tdx verify FILE KEY\n";
 
 // The script s, which has one reply; n, which has none; t, whose numbers are told by `check`, with its comments; e, whose
 // bytes are none; and f, with a bad third line behind a comment.

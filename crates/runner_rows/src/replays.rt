@@ -187,7 +187,7 @@ fn processors_run_in_threads(rt: HostRuntime) -> Result<(), Fail> {
 }
 
 const USAGE: &[u8] =
-    b"usage: tdx replay|run SCRIPT [--bundles F] [--keys F] [--secrets F] [--out-bundles F] [--guest-out F] | tdx check SCRIPT | tdx soak N | tdx verify FILE KEY\n";
+    b"usage: tdx replay|run SCRIPT [--bundles F] [--keys F] [--secrets F] [--out-bundles F] [--guest-out F] [--report-key F] | tdx check SCRIPT | tdx soak N | tdx verify FILE KEY\n";
 
 const SCRIPT: &[u8] =
     b"machine 1 8 1\nlp 0\nHOST.WRITE 5 511 7\nHOST.READ 5 511\nHOST.READ 5 512\nend\n";

@@ -117,7 +117,7 @@ file_brings : CarryingLaws → (held : List ℕ → Option (List ℕ)) (c : Opti
 file_brings laws held c old new w w' told run n name has named apart =
     let handed : HandedOut = handed_held held run.command in
     let saves : AllSaved (run_end n run.script handed run.order).files w w' = subst (λ (e : Ended). AllSaved e.files w w') (success_of run.command n run.script handed run.order has) run.saves in
-    let (files, is, there) = both_there n.out_bundles n.guest_out (sealed_by handed run.script run.order) (guest_text (opening_by handed run.script) run.order) name named apart held w w' told saves in
+    let (files, is, there) = both_there n.out_bundles n.guest_out (sealed_by handed run.script run.order) (guest_text handed.report_key (opening_by handed run.script) run.order) name named apart held w w' told saves in
     (files, is, there, brings_over laws handed run.script (laws.forms.in_form run.bytes run.script run.reads) run.words run.order)
 
 pub in-one : CarryingLaws → (held : List ℕ → Option (List ℕ)) (c : Option CommandSeen) (old new : Option (List ℕ)) (w w' : Writes) → w.contents ≡ Some held → OneRun held c old new w w'

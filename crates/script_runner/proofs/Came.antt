@@ -1,5 +1,5 @@
 -- What was loaded, by the ending that it came to.
-use Rattle.std.proofs.Common.{lit<, ◌≡◌, ◌≢◌, ◌⊎◌, slice_index, inl, inr, refl, sym, ◌∙◌, ap, subst, ℕ, ◌^◌, ◌≤◌, List, [], ◌∷◌, ◌++◌, ◌+◌, append-nil, append_assoc, length, length-append, suc, Option, Some, None, IfNone, IfOk, Result, Ok, Err, Bool, true, false, ◌==◌, if◌then◌else◌, arith}
+use Rattle.std.proofs.Common.{lit<, ◌≡◌, ◌≢◌, ◌⊎◌, inl, inr, refl, sym, ◌∙◌, ap, subst, ℕ, ◌^◌, ◌≤◌, List, [], ◌∷◌, ◌++◌, append-nil, append_assoc, length, length-append, suc, Option, Some, None, IfNone, IfOk, Result, Ok, Err, Bool, true, false, ◌==◌, if◌then◌else◌, arith}
 use Rattle.std.proofs.lemmas.Bool.Decides.{eqb_tells}
 use Rattle.std.specs.Global.{Vec}
 use Rattle.std.specs.declared.alloc.AllocError.{AllocError}
@@ -10,7 +10,7 @@ use Rattle.script_text.specs.declared.faults.ScriptFault.{ScriptFault}
 use Rattle.script_text.specs.declared.faults.ScriptFault.TheVariants.{Bad, OutOfMemory}
 use Rattle.script_text.specs.Reading.{read_of}
 use Rattle.script_text.specs.Seen.{ScriptSeen}
-use Rattle.script_text.specs.Needs.{needs_keys}
+use Rattle.script_text.specs.Needs.{needs_keys, needs_report_key}
 use Rattle.flat_core.specs.GuestText.{guest_text}
 use Rattle.bundle_store.specs.declared.outside.LoadFault.{LoadFault}
 use Rattle.bundle_store.specs.declared.outside.LoadFault.TheVariants as load
@@ -21,21 +21,21 @@ use Rattle.command_files.specs.declared.inputs.Input.{Input}
 use Rattle.command_files.specs.declared.inputs.Input.TheVariants as input
 use Rattle.command_files.specs.declared.inputs.InputFault.{InputFault}
 use Rattle.command_files.specs.declared.inputs.InputFault.TheVariants as fault
+use Rattle.command_files.specs.declared.inputs.Needs.{Needs}
 use Rattle.command_files.specs.declared.inputs.Inputs.{Inputs}
 use Rattle.command_files.specs.Commands.{NamedSeen, CommandSeen, Replay, Run, Check, named_of, script_name}
-use Rattle.command_files.specs.Inputs.{Reads, Loads, LoadsNamed, LoadsNext, TakesInputs, AreSecrets, IsDue, due, load_fault, unread_fault, form_fault, container_fault, length_fault, keys_fault, secrets_fault, place_fault, first, bundles_read, bundles_in, keys_in}
+use Rattle.command_files.specs.Inputs.{Reads, Loads, LoadsNamed, LoadsNext, TakesInputs, AreSecrets, IsDue, due, load_fault, unread_fault, form_fault, container_fault, length_fault, keys_fault, secrets_fault, place_fault, first, bundles_read, bundles_in, keys_in, secret_word, needed_fault, report_key_fault, report_key_in}
 use Rattle.script_runner.specs.declared.ending.Ending.{Ending}
-use Rattle.script_runner.specs.Ending.{ToSave, Ended, ending_seen, file_named, usage_end, bad_end, unread_end, memory_end, container_end, keys_end, secrets_end, run_end, success_end, name_in, input_name, IsOrderOf, HandedOut, opening_by, keys_or_none, no_keys, bundles_named}
+use Rattle.script_runner.specs.Ending.{ToSave, Ended, ending_seen, file_named, usage_end, bad_end, unread_end, memory_end, container_end, keys_end, secrets_end, run_end, success_end, name_in, input_name, IsOrderOf, HandedOut, opening_by, keys_or_none, no_keys, needs_of, report_key_end, report_key_or_none, no_report_key}
 use Rattle.script_runner.specs.Saving.{named_once, outs_of, out_names}
 use Rattle.script_runner.specs.Ends.{IsRead}
 use Rattle.script_runner.specs.Threads.{ThreadsOf}
 use Rattle.script_runner.specs.Brings.{HandsWords}
-use Rattle.script_runner.specs.Done.{LoadsOnce, LoadsFirst, IsFirstFault, IsUnread, AreHandedOut, AreWordsHandedOut, AreKeysHandedOut, AreBundlesHandedOut, LoadsBehind, before_keys, before_secrets}
+use Rattle.script_runner.specs.Done.{LoadsOnce, LoadsFirst, IsFirstFault, IsUnread, AreHandedOut, LoadsBehind, before_keys, before_secrets, HandsOut, AreHandedBy, before_report_key}
 use Rattle.script_runner.specs.Commanded.{Comes, AnswerEnd, ReadEnd, ScriptEnd, NamedEnd, InputsEnd, EndsRun, handed_in}
 use Rattle.script_runner.proofs.Asked.{asks}
-use Rattle.script_runner.proofs.Named.{secrets_of, input_of, success_of, keys_of_command, bundles_of_command}
+use Rattle.script_runner.proofs.Named.{input_of, success_of, handed_of}
 use Rattle.script_runner.proofs.Due.{first_cases}
-use Rattle.command_files.specs.declared.inputs.KeyBytes.{KeyBytes}
 use Rattle.run_texts.specs.Sealing.{bundles_text}
 
 -- the file that an option names was loaded, behind so many others, and hasn't so many bytes
@@ -51,8 +51,8 @@ pub record LengthCame (file : NamedSeen → Option (List ℕ)) (behind : NamedSe
   pub wrong : length_fault count f (Some answer) ≡ Some f
   pub is : e ≡ told
 
--- a call of the script that was loaded makes a bundle, and no key file is named
-pub record LacksCame (c : Option CommandSeen) (r r' : Reads) (e : Ended) : Type 0 where
+-- the script that was loaded needs a file that no option names
+pub record LacksCame (file : NamedSeen → Option (List ℕ)) (needs_file : ScriptSeen → Bool) (told : Ended) (c : Option CommandSeen) (r r' : Reads) (e : Ended) : Type 0 where
   pub command : CommandSeen
   pub read_as : c ≡ Some command
   pub options : NamedSeen
@@ -61,12 +61,17 @@ pub record LacksCame (c : Option CommandSeen) (r r' : Reads) (e : Ended) : Type 
   pub loaded : LoadsFirst r.loads (script_name command) (Ok given) r'.loads
   pub script : ScriptSeen
   pub reads : read_of given.items ≡ Ok script
-  pub needs : needs_keys script.calls ≡ true
-  pub unnamed : options.keys ≡ None
-  pub is : e ≡ keys_end
+  pub needs : needs_file script ≡ true
+  pub unnamed : file options ≡ None
+  pub is : e ≡ told
 
 abbrev pub SomeLength : Option CommandSeen → Reads → Reads → Ended → Type 0
-SomeLength c r r' e = LengthCame (λ n. n.keys) before_keys 64 fault.Keys keys_end c r r' e ⊎ LengthCame (λ n. n.secrets) before_secrets 4096 fault.Secrets secrets_end c r r' e ⊎ LacksCame c r r' e
+SomeLength c r r' e =
+    LengthCame (λ n. n.keys) before_keys 64 fault.Keys keys_end c r r' e
+    ⊎ LengthCame (λ n. n.secrets) before_secrets 4096 fault.Secrets secrets_end c r r' e
+    ⊎ LengthCame (λ n. n.report_key) before_report_key 48 fault.ReportKey report_key_end c r r' e
+    ⊎ LacksCame (λ n. n.keys) (λ s. needs_keys s.calls) keys_end c r r' e
+    ⊎ LacksCame (λ n. n.report_key) (λ s. needs_report_key s.codes) report_key_end c r r' e
 
 pub data Came (contents : Option (List ℕ → Option (List ℕ))) (c : Option CommandSeen) (r r' : Reads) (e : Ended) : Type 0 where
   Usage : c ≡ None → r'.loads ≡ r.loads → e ≡ usage_end → Came contents c r r' e
@@ -188,23 +193,26 @@ length_at count g (Some (Err load.TooLong)) f h = (Err load.TooLong, refl, cc)
 length_at count g (Some (Err load.Failed)) f h = absurd (cc)
 length_at count g (Some (Err load.OutOfMemory)) f h = absurd (cc)
 
--- keys are needed
-needed_is : (needed : Bool) (f : InputFault) → (if needed then Some fault.Keys else None) ≡ Some f → (needed ≡ true) × (f ≡ fault.Keys)
-needed_is true f h = (refl, cc)
-needed_is false f h = absurd (cc)
+-- a file is needed, and none is named
+needed_is : (needed : Bool) (g f : InputFault) → (if needed then Some g else None) ≡ Some f → (needed ≡ true) × (f ≡ g)
+needed_is true g f h = (refl, cc)
+needed_is false g f h = absurd (cc)
 
-keys_at : (needed : Bool) (a : Option (Result (Vec ℕ) LoadFault)) (f : InputFault) → keys_fault needed a ≡ Some f → f ≡ fault.Keys
-keys_at needed None f h = (needed_is needed f h).1
-keys_at needed (Some x) f h = (length_at 64 fault.Keys (Some x) f h).2
+needed_at : (count : ℕ) (g : InputFault) (needed : Bool) (a : Option (Result (Vec ℕ) LoadFault)) (f : InputFault) → needed_fault count g needed a ≡ Some f → f ≡ g
+needed_at count g needed None f h = (needed_is needed g f h).1
+needed_at count g needed (Some x) f h = (length_at count g (Some x) f h).2
 
 -- which of the inputs has the fault that is due
-pub data Faulty (needed : Bool) (bundles keys secrets : Option (Result (Vec ℕ) LoadFault)) (f : InputFault) : Type 0 where
-  Bundles : load_fault input.Bundles bundles ≡ Some f → Faulty needed bundles keys secrets f
-  KeyFile : load_fault input.Bundles bundles ≡ None → load_fault input.Keys keys ≡ Some f → Faulty needed bundles keys secrets f
-  SecretsFile : load_fault input.Bundles bundles ≡ None → load_fault input.Keys keys ≡ None → load_fault input.Secrets secrets ≡ Some f → Faulty needed bundles keys secrets f
-  Form : unread_fault bundles keys secrets ≡ None → container_fault bundles ≡ Some f → Faulty needed bundles keys secrets f
-  Length64 : unread_fault bundles keys secrets ≡ None → keys_fault needed keys ≡ Some f → Faulty needed bundles keys secrets f
-  Length4096 : unread_fault bundles keys secrets ≡ None → secrets_fault secrets ≡ Some f → Faulty needed bundles keys secrets f
+pub data Faulty (needs : Needs) (bundles keys secrets report_key : Option (Result (Vec ℕ) LoadFault)) (f : InputFault) : Type 0 where
+  Bundles : load_fault input.Bundles bundles ≡ Some f → Faulty needs bundles keys secrets report_key f
+  KeyFile : load_fault input.Bundles bundles ≡ None → load_fault input.Keys keys ≡ Some f → Faulty needs bundles keys secrets report_key f
+  SecretsFile : load_fault input.Bundles bundles ≡ None → load_fault input.Keys keys ≡ None → load_fault input.Secrets secrets ≡ Some f → Faulty needs bundles keys secrets report_key f
+  ReportKeyFile : load_fault input.Bundles bundles ≡ None → load_fault input.Keys keys ≡ None → load_fault input.Secrets secrets ≡ None → load_fault input.ReportKey report_key ≡ Some f
+      → Faulty needs bundles keys secrets report_key f
+  Form : unread_fault bundles keys secrets report_key ≡ None → container_fault bundles ≡ Some f → Faulty needs bundles keys secrets report_key f
+  Length64 : unread_fault bundles keys secrets report_key ≡ None → keys_fault needs.keys keys ≡ Some f → Faulty needs bundles keys secrets report_key f
+  Length4096 : unread_fault bundles keys secrets report_key ≡ None → secrets_fault secrets ≡ Some f → Faulty needs bundles keys secrets report_key f
+  Length48 : unread_fault bundles keys secrets report_key ≡ None → report_key_fault needs.report_key report_key ≡ Some f → Faulty needs bundles keys secrets report_key f
 
 -- neither of two faults
 pub first_none : (x y : Option InputFault) → first x y ≡ None → (x ≡ None) × (y ≡ None)
@@ -212,60 +220,58 @@ first_none None y h = (refl, h)
 first_none (Some g) y h = absurd (cc)
 
 -- each input was read
-pub all_read : (bundles keys secrets : Option (Result (Vec ℕ) LoadFault)) → unread_fault bundles keys secrets ≡ None
-    → (load_fault input.Bundles bundles ≡ None) × (load_fault input.Keys keys ≡ None) × (load_fault input.Secrets secrets ≡ None)
-all_read bundles keys secrets h =
+pub all_read : (bundles keys secrets report_key : Option (Result (Vec ℕ) LoadFault)) → unread_fault bundles keys secrets report_key ≡ None
+    → (load_fault input.Bundles bundles ≡ None) × (load_fault input.Keys keys ≡ None) × (load_fault input.Secrets secrets ≡ None) × (load_fault input.ReportKey report_key ≡ None)
+all_read bundles keys secrets report_key h =
     let (b, more) = first_none _ _ h in
-    let (k, s) = first_none _ _ more in
-    (b, k, s)
+    let (k, last) = first_none _ _ more in
+    let (s, r) = first_none _ _ last in
+    (b, k, s, r)
 
-pub faulty : (needed : Bool) (bundles keys secrets : Option (Result (Vec ℕ) LoadFault)) (f : InputFault) → due needed bundles keys secrets ≡ Some f → Faulty needed bundles keys secrets f
-faulty needed bundles keys secrets f h = by (first_cases _ _ f h)
-  where
-    lengths : unread_fault bundles keys secrets ≡ None → (keys_fault needed keys ≡ Some f) ⊎ ((keys_fault needed keys ≡ None) × (secrets_fault secrets ≡ Some f)) → Faulty needed bundles keys secrets f
-    lengths none (inl x) = Length64 none x
-    lengths none (inr x) = Length4096 none x.1
+module _ (needs : Needs) (bundles keys secrets report_key : Option (Result (Vec ℕ) LoadFault)) (f : InputFault) where
+  unread_faulty : unread_fault bundles keys secrets report_key ≡ Some f → Faulty needs bundles keys secrets report_key f
+  unread_faulty h = by (first_cases _ _ f h)
+    where
+      last : load_fault input.Bundles bundles ≡ None → load_fault input.Keys keys ≡ None → (load_fault input.Secrets secrets ≡ Some f) ⊎ ((load_fault input.Secrets secrets ≡ None) × (load_fault input.ReportKey report_key ≡ Some f))
+          → Faulty needs bundles keys secrets report_key f
+      last b k (inl x) = SecretsFile b k x
+      last b k (inr x) = ReportKeyFile b k x.0 x.1
 
-    forms : unread_fault bundles keys secrets ≡ None → (container_fault bundles ≡ Some f) ⊎ ((container_fault bundles ≡ None) × (first (keys_fault needed keys) (secrets_fault secrets) ≡ Some f)) → Faulty needed bundles keys secrets f
-    forms none (inl x) = Form none x
-    forms none (inr x) = lengths none (first_cases _ _ f x.1)
+      later : load_fault input.Bundles bundles ≡ None
+          → (load_fault input.Keys keys ≡ Some f) ⊎ ((load_fault input.Keys keys ≡ None) × (first (load_fault input.Secrets secrets) (load_fault input.ReportKey report_key) ≡ Some f)) → Faulty needs bundles keys secrets report_key f
+      later b (inl x) = KeyFile b x
+      later b (inr x) = last b x.0 (first_cases _ _ f x.1)
 
-    later : load_fault input.Bundles bundles ≡ None → (load_fault input.Keys keys ≡ Some f) ⊎ ((load_fault input.Keys keys ≡ None) × (load_fault input.Secrets secrets ≡ Some f)) → Faulty needed bundles keys secrets f
-    later b (inl x) = KeyFile b x
-    later b (inr x) = SecretsFile b x.0 x.1
+      by : (load_fault input.Bundles bundles ≡ Some f)
+          ⊎ ((load_fault input.Bundles bundles ≡ None) × (first (load_fault input.Keys keys) (first (load_fault input.Secrets secrets) (load_fault input.ReportKey report_key)) ≡ Some f))
+          → Faulty needs bundles keys secrets report_key f
+      by (inl x) = Bundles x
+      by (inr x) = later x.0 (first_cases _ _ f x.1)
 
-    unread : (load_fault input.Bundles bundles ≡ Some f) ⊎ ((load_fault input.Bundles bundles ≡ None) × (first (load_fault input.Keys keys) (load_fault input.Secrets secrets) ≡ Some f)) → Faulty needed bundles keys secrets f
-    unread (inl x) = Bundles x
-    unread (inr x) = later x.0 (first_cases _ _ f x.1)
+  form_faulty : unread_fault bundles keys secrets report_key ≡ None → form_fault needs bundles keys secrets report_key ≡ Some f → Faulty needs bundles keys secrets report_key f
+  form_faulty none h = by (first_cases _ _ f h)
+    where
+      last : (secrets_fault secrets ≡ Some f) ⊎ ((secrets_fault secrets ≡ None) × (report_key_fault needs.report_key report_key ≡ Some f)) → Faulty needs bundles keys secrets report_key f
+      last (inl x) = Length4096 none x
+      last (inr x) = Length48 none x.1
 
-    by : (unread_fault bundles keys secrets ≡ Some f) ⊎ ((unread_fault bundles keys secrets ≡ None) × (form_fault needed bundles keys secrets ≡ Some f)) → Faulty needed bundles keys secrets f
-    by (inl x) = unread (first_cases _ _ f x)
-    by (inr x) = forms x.0 (first_cases _ _ f x.1)
+      later : (keys_fault needs.keys keys ≡ Some f) ⊎ ((keys_fault needs.keys keys ≡ None) × (first (secrets_fault secrets) (report_key_fault needs.report_key report_key) ≡ Some f)) → Faulty needs bundles keys secrets report_key f
+      later (inl x) = Length64 none x
+      later (inr x) = last (first_cases _ _ f x.1)
 
--- ---- secret words
+      by : (container_fault bundles ≡ Some f)
+          ⊎ ((container_fault bundles ≡ None) × (first (keys_fault needs.keys keys) (first (secrets_fault secrets) (report_key_fault needs.report_key report_key)) ≡ Some f)) → Faulty needs bundles keys secrets report_key f
+      by (inl x) = Form none x
+      by (inr x) = later (first_cases _ _ f x.1)
 
-length_right : (v : Vec ℕ) → secrets_fault (Some (Ok v)) ≡ None → length v.items ≡ 4096
-length_right v h = by (eqb_tells (length v.items) 4096)
-  where
-    by : (((length v.items == 4096) ≡ true) × (length v.items ≡ 4096)) ⊎ (((length v.items == 4096) ≡ false) × (length v.items ≢ 4096)) → length v.items ≡ 4096
-    by (inl t) = t.1
-    by (inr t) =
-        let h' : Some fault.Secrets ≡ None = subst (λ (x : Bool). (if x then None else Some fault.Secrets) ≡ None) t.0 h in
-        absurd (cc)
+  pub faulty : due needs bundles keys secrets report_key ≡ Some f → Faulty needs bundles keys secrets report_key f
+  faulty h = by (first_cases _ _ f h)
+    where
+      by : (unread_fault bundles keys secrets report_key ≡ Some f) ⊎ ((unread_fault bundles keys secrets report_key ≡ None) × (form_fault needs bundles keys secrets report_key ≡ Some f)) → Faulty needs bundles keys secrets report_key f
+      by (inl x) = unread_faulty x
+      by (inr x) = form_faulty x.0 x.1
 
--- the words that were taken are those that the last load handed out
-words_handed : (contents : Option (List ℕ → Option (List ℕ))) (name : Option (List ℕ)) (old : Reads) (a : Option (Result (Vec ℕ) LoadFault)) (new : Reads) → LoadsNamed contents (2 ^ 16) name old a new
-    → load_fault input.Secrets a ≡ None → secrets_fault a ≡ None → (loads more : List Loaded) → old.loads ≡ loads ++ more → (words : List ℕ) → AreSecrets a words
-    → AreWordsHandedOut name loads new.loads (slice_index words)
-words_handed contents None old None new l fine right loads more grew words w = λ i. w.each i
-words_handed contents None old (Some x) new l fine right loads more grew words w = absurd l
-words_handed contents (Some n) old None new l fine right loads more grew words w = absurd l
-words_handed contents (Some n) old (Some (Ok v)) new l fine right loads more grew words w =
-    (more, v, l.noted ∙ ap (λ (z : List Loaded). z ++ record { name = n; answer = Ok v } ∷ []) grew, length_right v right, λ i. w.each i)
-words_handed contents (Some n) old (Some (Err load.Absent)) new l fine right loads more grew words w = absurd (cc)
-words_handed contents (Some n) old (Some (Err load.TooLong)) new l fine right loads more grew words w = absurd (cc)
-words_handed contents (Some n) old (Some (Err load.Failed)) new l fine right loads more grew words w = absurd (cc)
-words_handed contents (Some n) old (Some (Err load.OutOfMemory)) new l fine right loads more grew words w = absurd (cc)
+-- ---- what a file hands out
 
 -- one load behind so many, and others behind it
 one_behind : (loads before later now new last : List Loaded) (name : List ℕ) (answer : Result (Vec ℕ) LoadFault) (count : ℕ)
@@ -276,50 +282,52 @@ one_behind loads before later now new last name answer count many at one others 
   (later, others ∙ ap (λ (z : List Loaded). z ++ later) (one ∙ ap (λ (z : List Loaded). z ++ record { name = name; answer = answer } ∷ []) at) ∙ append_assoc (loads ++ before) (record { name = name; answer = answer } ∷ []) later),
 )
 
--- ---- keys
+-- an input that was read and has its form is what was handed out
+hands_out : (contents : Option (List ℕ → Option (List ℕ))) (most : ℕ) (name : Option (List ℕ)) (old : Reads) (a : Option (Result (Vec ℕ) LoadFault)) (new r' : Reads) → LoadsNamed contents most name old a new
+    → (count : ℕ) (loads more later : List Loaded) → length more ≡ count → old.loads ≡ loads ++ more → r'.loads ≡ new.loads ++ later
+    → (unnamed : Type 0) (P : Vec ℕ → Type 0) → (a ≡ None → unnamed) → ((v : Vec ℕ) → a ≡ Some (Ok v) → P v) → ((f : LoadFault) → a ≡ Some (Err f) → ⊥) → HandsOut count name loads r'.loads unnamed P
+hands_out contents most None old None new r' l count loads more later many grew after unnamed P none is never = none refl
+hands_out contents most None old (Some x) new r' l count loads more later many grew after unnamed P none is never = absurd l
+hands_out contents most (Some n) old None new r' l count loads more later many grew after unnamed P none is never = absurd l
+hands_out contents most (Some n) old (Some (Ok v)) new r' l count loads more later many grew after unnamed P none is never =
+    (v, one_behind loads more later old.loads new.loads r'.loads n (Ok v) count many grew l.noted after, is v refl)
+hands_out contents most (Some n) old (Some (Err f)) new r' l count loads more later many grew after unnamed P none is never = absurd (never f refl)
 
-length_64 : (needed : Bool) (v : Vec ℕ) → keys_fault needed (Some (Ok v)) ≡ None → length v.items ≡ 64
-length_64 needed v h = by (eqb_tells (length v.items) 64)
+-- where a file was read and has its length, its load is no fault, and it has it
+no_fault : (i : Input) (count : ℕ) (g : InputFault) (a : Option (Result (Vec ℕ) LoadFault)) (f : LoadFault) → load_fault i a ≡ None → length_fault count g a ≡ None → a ≡ Some (Err f) → ⊥
+no_fault i count g None f fine right is = cc
+no_fault i count g (Some (Ok v)) f fine right is = cc
+no_fault i count g (Some (Err load.Absent)) f fine right is = cc
+no_fault i count g (Some (Err load.TooLong)) f fine right is = cc
+no_fault i count g (Some (Err load.Failed)) f fine right is = cc
+no_fault i count g (Some (Err load.OutOfMemory)) f fine right is = cc
+
+right_length : (count : ℕ) (g : InputFault) (v : Vec ℕ) → length_fault count g (Some (Ok v)) ≡ None → length v.items ≡ count
+right_length count g v h = by (eqb_tells (length v.items) count)
   where
-    by : (((length v.items == 64) ≡ true) × (length v.items ≡ 64)) ⊎ (((length v.items == 64) ≡ false) × (length v.items ≢ 64)) → length v.items ≡ 64
+    by : (((length v.items == count) ≡ true) × (length v.items ≡ count)) ⊎ (((length v.items == count) ≡ false) × (length v.items ≢ count)) → length v.items ≡ count
     by (inl t) = t.1
     by (inr t) =
-        let h' : Some fault.Keys ≡ None = subst (λ (x : Bool). (if x then None else Some fault.Keys) ≡ None) t.0 h in
+        let h' : Some g ≡ None = subst (λ (x : Bool). (if x then None else Some g) ≡ None) t.0 h in
         absurd (cc)
 
--- the keys that were taken are those that a load handed out
-keys_handed : (contents : Option (List ℕ → Option (List ℕ))) (needed : Bool) (bundles name : Option (List ℕ)) (old : Reads) (a : Option (Result (Vec ℕ) LoadFault)) (new r' : Reads) → LoadsNamed contents (2 ^ 16) name old a new
-    → load_fault input.Keys a ≡ None → keys_fault needed a ≡ None → (loads more later : List Loaded) → length more ≡ 1 + length (named_once bundles) → old.loads ≡ loads ++ more → r'.loads ≡ new.loads ++ later
-    → AreKeysHandedOut bundles name loads r'.loads (keys_or_none (keys_in a))
-keys_handed contents needed bundles None old None new r' l fine right loads more later count grew after = refl
-keys_handed contents needed bundles None old (Some x) new r' l fine right loads more later count grew after = absurd l
-keys_handed contents needed bundles (Some n) old None new r' l fine right loads more later count grew after = absurd l
-keys_handed contents needed bundles (Some n) old (Some (Ok v)) new r' l fine right loads more later count grew after =
-    (v, one_behind loads more later old.loads new.loads r'.loads n (Ok v) (1 + length (named_once bundles)) count grew l.noted after, length_64 needed v right, refl)
-keys_handed contents needed bundles (Some n) old (Some (Err load.Absent)) new r' l fine right loads more later count grew after = absurd (cc)
-keys_handed contents needed bundles (Some n) old (Some (Err load.TooLong)) new r' l fine right loads more later count grew after = absurd (cc)
-keys_handed contents needed bundles (Some n) old (Some (Err load.Failed)) new r' l fine right loads more later count grew after = absurd (cc)
-keys_handed contents needed bundles (Some n) old (Some (Err load.OutOfMemory)) new r' l fine right loads more later count grew after = absurd (cc)
+-- the same of a file that may be needed
+needed_right : (count : ℕ) (g : InputFault) (needed : Bool) (a : Option (Result (Vec ℕ) LoadFault)) → needed_fault count g needed a ≡ None → length_fault count g a ≡ None
+needed_right count g needed None h = refl
+needed_right count g needed (Some x) h = h
 
--- ---- bundles
+-- and of the container
+no_container_fault : (a : Option (Result (Vec ℕ) LoadFault)) (f : LoadFault) → load_fault input.Bundles a ≡ None → container_fault a ≡ None → a ≡ Some (Err f) → ⊥
+no_container_fault None f fine right is = cc
+no_container_fault (Some (Ok v)) f fine right is = cc
+no_container_fault (Some (Err load.Absent)) f fine right is = cc
+no_container_fault (Some (Err load.TooLong)) f fine right is = cc
+no_container_fault (Some (Err load.Failed)) f fine right is = cc
+no_container_fault (Some (Err load.OutOfMemory)) f fine right is = cc
 
 read_is : (r : Result (List BundleSeen) ℕ) → place_fault r ≡ None → r ≡ Ok (bundles_read r)
 read_is (Ok bundles) h = refl
 read_is (Err place) h = absurd (cc)
-
--- the bundles that were taken are those of the container that a load handed out
-bundles_handed : (contents : Option (List ℕ → Option (List ℕ))) (name : Option (List ℕ)) (old : Reads) (a : Option (Result (Vec ℕ) LoadFault)) (new r' : Reads) → LoadsNamed contents (2 ^ 29) name old a new
-    → load_fault input.Bundles a ≡ None → container_fault a ≡ None → (loads more later : List Loaded) → length more ≡ 1 → old.loads ≡ loads ++ more → r'.loads ≡ new.loads ++ later
-    → AreBundlesHandedOut name loads r'.loads (bundles_in a)
-bundles_handed contents None old None new r' l fine right loads more later count grew after = refl
-bundles_handed contents None old (Some x) new r' l fine right loads more later count grew after = absurd l
-bundles_handed contents (Some n) old None new r' l fine right loads more later count grew after = absurd l
-bundles_handed contents (Some n) old (Some (Ok v)) new r' l fine right loads more later count grew after =
-    (v, one_behind loads more later old.loads new.loads r'.loads n (Ok v) 1 count grew l.noted after, read_is (container_in v.items) right)
-bundles_handed contents (Some n) old (Some (Err load.Absent)) new r' l fine right loads more later count grew after = absurd (cc)
-bundles_handed contents (Some n) old (Some (Err load.TooLong)) new r' l fine right loads more later count grew after = absurd (cc)
-bundles_handed contents (Some n) old (Some (Err load.Failed)) new r' l fine right loads more later count grew after = absurd (cc)
-bundles_handed contents (Some n) old (Some (Err load.OutOfMemory)) new r' l fine right loads more later count grew after = absurd (cc)
 
 -- ---- the whole
 
@@ -362,164 +370,273 @@ module _ (contents : Option (List ℕ → Option (List ℕ))) (k : CommandSeen) 
     is = is;
   }
 
-  -- what the inputs of a script came to
-  inputs_came : (s : ScriptSeen) (res : Result Inputs InputFault) (e : Ended) → read_of given.items ≡ Ok s → TakesInputs contents (needs_keys s.calls) c b r' res → InputsEnd k c s res e → Came contents (Some k) r r' e
-  inputs_came s res e reads t ends = by res t.is_due t.words t.key_bytes t.bundle_list ends
-    where
-      bundles_more : (more : List Loaded) × (t.behind_bundles.loads ≡ b.loads ++ more) × (length more ≡ length (named_once c.bundles))
-      bundles_more = more_loads contents (2 ^ 29) c.bundles b t.bundles t.behind_bundles t.bundles_loaded
+  module _ (s : ScriptSeen) (res : Result Inputs InputFault) (e : Ended) (reads : read_of given.items ≡ Ok s) (t : TakesInputs contents (needs_of s) c b r' res) where
+    abbrev needs : Needs
+    needs = needs_of s
 
-      keys_more : (more : List Loaded) × (t.behind_keys.loads ≡ t.behind_bundles.loads ++ more) × (load_fault input.Bundles t.bundles ≡ None → length more ≡ length (named_once c.keys))
-      keys_more = more_next contents (load_fault input.Bundles t.bundles) c.keys t.behind_bundles t.keys t.behind_keys t.keys_loaded
+    abbrev not_bundles : Option InputFault
+    not_bundles = load_fault input.Bundles t.bundles
 
-      secrets_more : (more : List Loaded) × (r'.loads ≡ t.behind_keys.loads ++ more) × (first (load_fault input.Bundles t.bundles) (load_fault input.Keys t.keys) ≡ None → length more ≡ length (named_once c.secrets))
-      secrets_more = more_next contents (first (load_fault input.Bundles t.bundles) (load_fault input.Keys t.keys)) c.secrets t.behind_keys t.secrets r' t.secrets_loaded
+    abbrev not_keys : Option InputFault
+    not_keys = load_fault input.Keys t.keys
 
-      -- the first two are loaded behind the script
-      both_more : t.behind_keys.loads ≡ b.loads ++ (bundles_more.0 ++ keys_more.0)
-      both_more = keys_more.1 ∙ ap (λ (z : List Loaded). z ++ keys_more.0) bundles_more.1 ∙ append_assoc b.loads bundles_more.0 keys_more.0
+    abbrev not_secrets : Option InputFault
+    not_secrets = load_fault input.Secrets t.secrets
 
-      bundles_many : suc (length bundles_more.0) ≡ before_keys c
-      bundles_many = let a = bundles_more.2 in omega (arith, a)
+    abbrev IsFaulty : InputFault → Type 0
+    IsFaulty f = Faulty needs t.bundles t.keys t.secrets t.report_key f
 
-      both_many : load_fault input.Bundles t.bundles ≡ None → suc (length (bundles_more.0 ++ keys_more.0)) ≡ before_secrets c
-      both_many fine = let a = bundles_more.2 in let b = keys_more.2 fine in omega (arith, length-append bundles_more.0 keys_more.0, a, b)
+    bundles_more : (more : List Loaded) × (t.behind_bundles.loads ≡ b.loads ++ more) × (length more ≡ length (named_once c.bundles))
+    bundles_more = more_loads contents (2 ^ 29) c.bundles b t.bundles t.behind_bundles t.bundles_loaded
 
-      -- and all three are
-      all_loaded : LoadsFirst r.loads (script_name k) (Ok given) r'.loads
-      all_loaded = (
-        (bundles_more.0 ++ keys_more.0) ++ secrets_more.0,
-        secrets_more.1 ∙ ap (λ (z : List Loaded). z ++ secrets_more.0) (both_more ∙ ap (λ (z : List Loaded). z ++ (bundles_more.0 ++ keys_more.0)) loaded.noted)
-            ∙ append_assoc (r.loads ++ script_load ∷ []) (bundles_more.0 ++ keys_more.0) secrets_more.0
-            ∙ append_assoc r.loads (script_load ∷ []) ((bundles_more.0 ++ keys_more.0) ++ secrets_more.0),
-      )
+    keys_more : (more : List Loaded) × (t.behind_keys.loads ≡ t.behind_bundles.loads ++ more) × (not_bundles ≡ None → length more ≡ length (named_once c.keys))
+    keys_more = more_next contents not_bundles c.keys t.behind_bundles t.keys t.behind_keys t.keys_loaded
 
-      bundles_later : b.faults ≤ t.behind_bundles.faults
-      bundles_later = loads_later contents (2 ^ 29) c.bundles b t.bundles t.behind_bundles t.bundles_loaded
+    secrets_more : (more : List Loaded) × (t.behind_secrets.loads ≡ t.behind_keys.loads ++ more) × (first not_bundles not_keys ≡ None → length more ≡ length (named_once c.secrets))
+    secrets_more = more_next contents (first not_bundles not_keys) c.secrets t.behind_keys t.secrets t.behind_secrets t.secrets_loaded
 
-      both_later : b.faults ≤ t.behind_keys.faults
-      both_later = let q = next_later contents (load_fault input.Bundles t.bundles) c.keys t.behind_bundles t.keys t.behind_keys t.keys_loaded in let p = bundles_later in omega (arith, p, q)
+    report_key_more : (more : List Loaded) × (r'.loads ≡ t.behind_secrets.loads ++ more) × (first not_bundles (first not_keys not_secrets) ≡ None → length more ≡ length (named_once c.report_key))
+    report_key_more = more_next contents (first not_bundles (first not_keys not_secrets)) c.report_key t.behind_secrets t.report_key r' t.report_key_loaded
 
-      keys_named : load_fault input.Bundles t.bundles ≡ None → LoadsNamed contents (2 ^ 16) c.keys t.behind_bundles t.keys t.behind_keys
-      keys_named none = subst (λ (x : Option InputFault). LoadsNext contents x c.keys t.behind_bundles t.keys t.behind_keys) none t.keys_loaded
+    -- two are loaded behind the script, and three
+    abbrev two_more : List Loaded
+    two_more = bundles_more.0 ++ keys_more.0
 
-      keys_not : (f : InputFault) → load_fault input.Bundles t.bundles ≡ Some f → t.behind_keys ≡ t.behind_bundles
-      keys_not f some =
-          let h : LoadsNext contents (Some f) c.keys t.behind_bundles t.keys t.behind_keys = subst (λ (x : Option InputFault). LoadsNext contents x c.keys t.behind_bundles t.keys t.behind_keys) some t.keys_loaded in
-          h.1
+    abbrev three_more : List Loaded
+    three_more = two_more ++ secrets_more.0
 
-      secrets_named_at : load_fault input.Bundles t.bundles ≡ None → load_fault input.Keys t.keys ≡ None → LoadsNamed contents (2 ^ 16) c.secrets t.behind_keys t.secrets r'
-      secrets_named_at none none' =
-          subst (λ (x : Option InputFault). LoadsNext contents x c.secrets t.behind_keys t.secrets r') (ap (λ (x : Option InputFault). first x (load_fault input.Keys t.keys)) none ∙ none') t.secrets_loaded
+    behind_two : t.behind_keys.loads ≡ b.loads ++ two_more
+    behind_two = keys_more.1 ∙ ap (λ (z : List Loaded). z ++ keys_more.0) bundles_more.1 ∙ append_assoc b.loads bundles_more.0 keys_more.0
 
-      secrets_not : (f : InputFault) → first (load_fault input.Bundles t.bundles) (load_fault input.Keys t.keys) ≡ Some f → r' ≡ t.behind_keys
-      secrets_not f some =
-          let h : LoadsNext contents (Some f) c.secrets t.behind_keys t.secrets r' = subst (λ (x : Option InputFault). LoadsNext contents x c.secrets t.behind_keys t.secrets r') some t.secrets_loaded in
-          h.1
+    behind_three : t.behind_secrets.loads ≡ b.loads ++ three_more
+    behind_three = secrets_more.1 ∙ ap (λ (z : List Loaded). z ++ secrets_more.0) behind_two ∙ append_assoc b.loads two_more secrets_more.0
 
-      run : (inputs : Inputs) → due (needs_keys s.calls) t.bundles t.keys t.secrets ≡ None → AreSecrets t.secrets inputs.secrets.items → inputs.keys ≡ keys_in t.keys → inputs.bundles.items ≡ bundles_in t.bundles → EndsRun k c s (handed_in inputs) e × HandsWords (handed_in inputs) → Came contents (Some k) r r' e
-      run inputs none words key_bytes listed ((order, is_order, is, threads), fit) =
-          let (unread, form) = first_none _ _ none in
-          let (fine, fine', fine'') = all_read t.bundles t.keys t.secrets unread in
-          let lengths = (first_none _ _ form).1 in
-          Success k refl given all_loaded s reads (handed_in inputs)
-          (record {
-            words =
-                subst (λ (x : Option (List ℕ)). AreWordsHandedOut x r.loads r'.loads (slice_index inputs.secrets.items)) (sym (secrets_of k c has))
-                (words_handed contents c.secrets t.behind_keys t.secrets r' (secrets_named_at fine fine') fine'' (first_none _ _ lengths).1 r.loads (script_load ∷ (bundles_more.0 ++ keys_more.0))
-                (both_more ∙ ap (λ (z : List Loaded). z ++ (bundles_more.0 ++ keys_more.0)) loaded.noted ∙ append_assoc r.loads (script_load ∷ []) (bundles_more.0 ++ keys_more.0))
-                inputs.secrets.items words);
-            key_bytes =
-                subst (λ (x : Option (List ℕ)). AreKeysHandedOut (bundles_named k) x r.loads r'.loads (keys_or_none inputs.keys)) (sym (keys_of_command k c has))
-                (subst (λ (x : Option (List ℕ)). AreKeysHandedOut x c.keys r.loads r'.loads (keys_or_none inputs.keys)) (sym (bundles_of_command k c has))
-                (subst (λ (x : Option KeyBytes). AreKeysHandedOut c.bundles c.keys r.loads r'.loads (keys_or_none x)) (sym key_bytes)
-                (keys_handed contents (needs_keys s.calls) c.bundles c.keys t.behind_bundles t.keys t.behind_keys r' (keys_named fine) fine' (first_none _ _ lengths).0 r.loads (script_load ∷ bundles_more.0) secrets_more.0 bundles_many
-                (bundles_more.1 ∙ ap (λ (z : List Loaded). z ++ bundles_more.0) loaded.noted ∙ append_assoc r.loads (script_load ∷ []) bundles_more.0) secrets_more.1)));
-            bundle_list =
-                subst (λ (x : Option (List ℕ)). AreBundlesHandedOut x r.loads r'.loads inputs.bundles.items) (sym (bundles_of_command k c has))
-                (subst (AreBundlesHandedOut c.bundles r.loads r'.loads) (sym listed)
-                (bundles_handed contents c.bundles b t.bundles t.behind_bundles r' t.bundles_loaded fine (first_none _ _ form).0 r.loads (script_load ∷ []) (keys_more.0 ++ secrets_more.0) refl loaded.noted
-                (secrets_more.1 ∙ ap (λ (z : List Loaded). z ++ secrets_more.0) keys_more.1 ∙ append_assoc t.behind_bundles.loads keys_more.0 secrets_more.0)));
-            fit = fit;
-          })
-          order is_order (is ∙ sym (success_of k c s (handed_in inputs) order has)) threads
+    -- and behind each of these some more
+    then_two : r'.loads ≡ t.behind_keys.loads ++ (secrets_more.0 ++ report_key_more.0)
+    then_two = report_key_more.1 ∙ ap (λ (z : List Loaded). z ++ report_key_more.0) secrets_more.1 ∙ append_assoc t.behind_keys.loads secrets_more.0 report_key_more.0
 
-      unread : (i : Input) → Faulty (needs_keys s.calls) t.bundles t.keys t.secrets (fault.Unread i) → e ≡ unread_end (input_name c i) → Came contents (Some k) r r' e
-      unread i (Bundles h) is =
-          let (x, answered, u, same) = unread_some input.Bundles i t.bundles h in
-          input_unread input.Bundles c.bundles (2 ^ 29) b t.behind_bundles t.bundles [] e refl (λ n q. inr (input_of k c n has (inl q))) (sym (append-nil b.loads)) (omega arith)
-          (loading contents (2 ^ 29) c.bundles b t.bundles t.behind_bundles t.bundles_loaded)
-          (secrets_not _ (ap (λ (x : Option InputFault). first x (load_fault input.Keys t.keys)) h) ∙ keys_not _ h) x answered u (is ∙ ap (λ (z : Input). unread_end (input_name c z)) same)
-      unread i (KeyFile none h) is =
-          let (x, answered, u, same) = unread_some input.Keys i t.keys h in
-          input_unread input.Keys c.keys (2 ^ 16) t.behind_bundles t.behind_keys t.keys bundles_more.0 e refl (λ n q. inr (input_of k c n has (inr (inl q)))) bundles_more.1 bundles_later
-          (loading contents (2 ^ 16) c.keys t.behind_bundles t.keys t.behind_keys (keys_named none))
-          (secrets_not _ (ap (λ (x : Option InputFault). first x (load_fault input.Keys t.keys)) none ∙ h)) x answered u (is ∙ ap (λ (z : Input). unread_end (input_name c z)) same)
-      unread i (SecretsFile none none' h) is =
-          let (x, answered, u, same) = unread_some input.Secrets i t.secrets h in
-          input_unread input.Secrets c.secrets (2 ^ 16) t.behind_keys r' t.secrets (bundles_more.0 ++ keys_more.0) e refl (λ n q. inr (input_of k c n has (inr (inr q)))) both_more both_later
-          (loading contents (2 ^ 16) c.secrets t.behind_keys t.secrets r' (secrets_named_at none none')) refl x answered u (is ∙ ap (λ (z : Input). unread_end (input_name c z)) same)
-      unread i (Form none h) is = let (x, place, answered, wrong) = container_at t.bundles _ h in absurd (cc)
-      unread i (Length64 none h) is = let wrong = keys_at (needs_keys s.calls) t.keys _ h in absurd (cc)
-      unread i (Length4096 none h) is = let (x, answered, wrong) = length_at 4096 fault.Secrets t.secrets _ h in absurd (cc)
+    then_three : r'.loads ≡ t.behind_bundles.loads ++ (keys_more.0 ++ (secrets_more.0 ++ report_key_more.0))
+    then_three = then_two ∙ ap (λ (z : List Loaded). z ++ (secrets_more.0 ++ report_key_more.0)) keys_more.1 ∙ append_assoc t.behind_bundles.loads keys_more.0 (secrets_more.0 ++ report_key_more.0)
 
-      place_of : (place : ℕ) → container_fault t.bundles ≡ Some (fault.Container place) → Loading contents (2 ^ 29) c.bundles b t.bundles t.behind_bundles → e ≡ container_end place → Came contents (Some k) r r' e
-      place_of place h (Not no_name none same) is = let (x, p, answered, wrong) = container_at t.bundles _ h in absurd (cc)
-      place_of place h (Once n x named answered l) is =
-          Place k refl c has n named x
-          (one_behind r.loads (script_load ∷ []) (keys_more.0 ++ secrets_more.0) b.loads t.behind_bundles.loads r'.loads n x 1 refl loaded.noted l.noted
-          (secrets_more.1 ∙ ap (λ (z : List Loaded). z ++ secrets_more.0) keys_more.1 ∙ append_assoc t.behind_bundles.loads keys_more.0 secrets_more.0))
-          place (subst (λ (z : Option (Result (Vec ℕ) LoadFault)). container_fault z ≡ Some (fault.Container place)) answered h) is
+    -- the same behind what was loaded before the script
+    from_start : (more : List Loaded) (now : Reads) → now.loads ≡ b.loads ++ more → now.loads ≡ r.loads ++ (script_load ∷ more)
+    from_start more now is = is ∙ ap (λ (z : List Loaded). z ++ more) loaded.noted ∙ append_assoc r.loads (script_load ∷ []) more
 
-      container : (place : ℕ) → Faulty (needs_keys s.calls) t.bundles t.keys t.secrets (fault.Container place) → e ≡ container_end place → Came contents (Some k) r r' e
-      container place (Bundles h) is = elim (load_unread input.Bundles _ t.bundles h) [ inl x ↦ absurd (cc) | inr x ↦ absurd (cc) ]
-      container place (KeyFile none h) is = elim (load_unread input.Keys _ t.keys h) [ inl x ↦ absurd (cc) | inr x ↦ absurd (cc) ]
-      container place (SecretsFile none none' h) is = elim (load_unread input.Secrets _ t.secrets h) [ inl x ↦ absurd (cc) | inr x ↦ absurd (cc) ]
-      container place (Form none h) is = place_of place h (loading contents (2 ^ 29) c.bundles b t.bundles t.behind_bundles t.bundles_loaded) is
-      container place (Length64 none h) is = let wrong = keys_at (needs_keys s.calls) t.keys _ h in absurd (cc)
-      container place (Length4096 none h) is = let (x, answered, wrong) = length_at 4096 fault.Secrets t.secrets _ h in absurd (cc)
+    bundles_many : suc (length bundles_more.0) ≡ before_keys c
+    bundles_many = let a = bundles_more.2 in omega (arith, a)
 
-      keys_wrong : keys_fault (needs_keys s.calls) t.keys ≡ Some fault.Keys → e ≡ keys_end → Loading contents (2 ^ 16) c.keys t.behind_bundles t.keys t.behind_keys → Came contents (Some k) r r' e
-      keys_wrong h is (Not no_name none same) =
-          let wanting : keys_fault (needs_keys s.calls) None ≡ Some fault.Keys = subst (λ (z : Option (Result (Vec ℕ) LoadFault)). keys_fault (needs_keys s.calls) z ≡ Some fault.Keys) none h in
-          WrongLength
-          (inr (inr (record { command = k; read_as = refl; options = c; has = has; given = given; loaded = all_loaded; script = s; reads = reads; needs = (needed_is (needs_keys s.calls) fault.Keys wanting).0; unnamed = no_name; is = is })))
-          (ap (λ (x : Ended). x.status) is) (ap (λ (x : Ended). x.files) is)
-      keys_wrong h is (Once n x named answered l) =
-          let short : length_fault 64 fault.Keys (Some x) ≡ Some fault.Keys = subst (λ (z : Option (Result (Vec ℕ) LoadFault)). keys_fault (needs_keys s.calls) z ≡ Some fault.Keys) answered h in
-          WrongLength
-          (inl (input_length (λ n. n.keys) before_keys 64 fault.Keys keys_end t.behind_bundles t.behind_keys t.keys bundles_more.0 secrets_more.0 e bundles_many bundles_more.1 (Once n x named answered l) secrets_more.1
-          (subst (λ (z : Option (Result (Vec ℕ) LoadFault)). length_fault 64 fault.Keys z ≡ Some fault.Keys) (sym answered) short) is))
-          (ap (λ (x : Ended). x.status) is) (ap (λ (x : Ended). x.files) is)
+    both_none : not_bundles ≡ None → not_keys ≡ None → first not_bundles not_keys ≡ None
+    both_none fine fine' = ap (λ (x : Option InputFault). first x not_keys) fine ∙ fine'
 
-      keys : Faulty (needs_keys s.calls) t.bundles t.keys t.secrets fault.Keys → e ≡ keys_end → Came contents (Some k) r r' e
-      keys (Bundles h) is = elim (load_unread input.Bundles _ t.bundles h) [ inl x ↦ absurd (cc) | inr x ↦ absurd (cc) ]
-      keys (KeyFile none h) is = elim (load_unread input.Keys _ t.keys h) [ inl x ↦ absurd (cc) | inr x ↦ absurd (cc) ]
-      keys (SecretsFile none none' h) is = elim (load_unread input.Secrets _ t.secrets h) [ inl x ↦ absurd (cc) | inr x ↦ absurd (cc) ]
-      keys (Form none h) is = let (x, place, answered, wrong) = container_at t.bundles _ h in absurd (cc)
-      keys (Length64 none h) is = keys_wrong h is (loading contents (2 ^ 16) c.keys t.behind_bundles t.keys t.behind_keys (keys_named (all_read t.bundles t.keys t.secrets none).0))
-      keys (Length4096 none h) is = let (x, answered, wrong) = length_at 4096 fault.Secrets t.secrets _ h in absurd (cc)
+    all_none : not_bundles ≡ None → not_keys ≡ None → not_secrets ≡ None → first not_bundles (first not_keys not_secrets) ≡ None
+    all_none fine fine' fine'' = ap (λ (x : Option InputFault). first x (first not_keys not_secrets)) fine ∙ ap (λ (x : Option InputFault). first x not_secrets) fine' ∙ fine''
 
-      secrets : Faulty (needs_keys s.calls) t.bundles t.keys t.secrets fault.Secrets → e ≡ secrets_end → Came contents (Some k) r r' e
-      secrets (Bundles h) is = elim (load_unread input.Bundles _ t.bundles h) [ inl x ↦ absurd (cc) | inr x ↦ absurd (cc) ]
-      secrets (KeyFile none h) is = elim (load_unread input.Keys _ t.keys h) [ inl x ↦ absurd (cc) | inr x ↦ absurd (cc) ]
-      secrets (SecretsFile none none' h) is = elim (load_unread input.Secrets _ t.secrets h) [ inl x ↦ absurd (cc) | inr x ↦ absurd (cc) ]
-      secrets (Form none h) is = let (x, place, answered, wrong) = container_at t.bundles _ h in absurd (cc)
-      secrets (Length64 none h) is = let wrong = keys_at (needs_keys s.calls) t.keys _ h in absurd (cc)
-      secrets (Length4096 none h) is =
-          let (fine, fine', fine'') = all_read t.bundles t.keys t.secrets none in
-          WrongLength
-          (inr (inl (input_length (λ n. n.secrets) before_secrets 4096 fault.Secrets secrets_end t.behind_keys r' t.secrets (bundles_more.0 ++ keys_more.0) [] e (both_many fine) both_more
-          (loading contents (2 ^ 16) c.secrets t.behind_keys t.secrets r' (secrets_named_at fine fine')) (sym (append-nil r'.loads)) h is)))
-          (ap (λ (x : Ended). x.status) is) (ap (λ (x : Ended). x.files) is)
+    two_many : not_bundles ≡ None → suc (length two_more) ≡ before_secrets c
+    two_many fine = let a = bundles_more.2 in let b = keys_more.2 fine in omega (arith, length-append bundles_more.0 keys_more.0, a, b)
 
-      by : (q : Result Inputs InputFault) → IsDue (due (needs_keys s.calls) t.bundles t.keys t.secrets) q → IfOk q (λ inputs. AreSecrets t.secrets inputs.secrets.items) → IfOk q (λ inputs. inputs.keys ≡ keys_in t.keys) → IfOk q (λ inputs. inputs.bundles.items ≡ bundles_in t.bundles) → InputsEnd k c s q e → Came contents (Some k) r r' e
-      by (Ok inputs) d words key_bytes listed is = run inputs d words key_bytes listed is
-      by (Err (fault.Unread i)) d words key_bytes listed is = unread i (faulty (needs_keys s.calls) t.bundles t.keys t.secrets _ d) is
-      by (Err (fault.Container place)) d words key_bytes listed is = container place (faulty (needs_keys s.calls) t.bundles t.keys t.secrets _ d) is
-      by (Err fault.Keys) d words key_bytes listed is = keys (faulty (needs_keys s.calls) t.bundles t.keys t.secrets _ d) is
-      by (Err fault.Secrets) d words key_bytes listed is = secrets (faulty (needs_keys s.calls) t.bundles t.keys t.secrets _ d) is
-      by (Err fault.OutOfMemory) d words key_bytes listed is = absurd is
+    three_many : not_bundles ≡ None → not_keys ≡ None → suc (length three_more) ≡ before_report_key c
+    three_many fine fine' = let a = two_many fine in let b = secrets_more.2 (both_none fine fine') in omega (arith, length-append two_more secrets_more.0, a, b)
+
+    -- all are loaded
+    all_loaded : LoadsFirst r.loads (script_name k) (Ok given) r'.loads
+    all_loaded = (
+      three_more ++ report_key_more.0,
+      report_key_more.1 ∙ ap (λ (z : List Loaded). z ++ report_key_more.0) (from_start three_more t.behind_secrets behind_three) ∙ append_assoc r.loads (script_load ∷ three_more) report_key_more.0,
+    )
+
+    bundles_later : b.faults ≤ t.behind_bundles.faults
+    bundles_later = loads_later contents (2 ^ 29) c.bundles b t.bundles t.behind_bundles t.bundles_loaded
+
+    two_later : b.faults ≤ t.behind_keys.faults
+    two_later = let q = next_later contents not_bundles c.keys t.behind_bundles t.keys t.behind_keys t.keys_loaded in let p = bundles_later in omega (arith, p, q)
+
+    three_later : b.faults ≤ t.behind_secrets.faults
+    three_later = let q = next_later contents (first not_bundles not_keys) c.secrets t.behind_keys t.secrets t.behind_secrets t.secrets_loaded in let p = two_later in omega (arith, p, q)
+
+    keys_named_at : not_bundles ≡ None → LoadsNamed contents (2 ^ 16) c.keys t.behind_bundles t.keys t.behind_keys
+    keys_named_at none = subst (λ (x : Option InputFault). LoadsNext contents x c.keys t.behind_bundles t.keys t.behind_keys) none t.keys_loaded
+
+    secrets_named_at : not_bundles ≡ None → not_keys ≡ None → LoadsNamed contents (2 ^ 16) c.secrets t.behind_keys t.secrets t.behind_secrets
+    secrets_named_at none none' = subst (λ (x : Option InputFault). LoadsNext contents x c.secrets t.behind_keys t.secrets t.behind_secrets) (both_none none none') t.secrets_loaded
+
+    report_key_named_at : not_bundles ≡ None → not_keys ≡ None → not_secrets ≡ None → LoadsNamed contents (2 ^ 16) c.report_key t.behind_secrets t.report_key r'
+    report_key_named_at none none' none'' = subst (λ (x : Option InputFault). LoadsNext contents x c.report_key t.behind_secrets t.report_key r') (all_none none none' none'') t.report_key_loaded
+
+    -- behind a fault nothing is loaded
+    not_next : (d : Option InputFault) (f : InputFault) (name : Option (List ℕ)) (old : Reads) (a : Option (Result (Vec ℕ) LoadFault)) (new : Reads) → d ≡ Some f → LoadsNext contents d name old a new → new ≡ old
+    not_next d f name old a new some h =
+        let h' : LoadsNext contents (Some f) name old a new = subst (λ (x : Option InputFault). LoadsNext contents x name old a new) some h in
+        h'.1
+
+    keys_not : (f : InputFault) → not_bundles ≡ Some f → t.behind_keys ≡ t.behind_bundles
+    keys_not f some = not_next not_bundles f c.keys t.behind_bundles t.keys t.behind_keys some t.keys_loaded
+
+    secrets_not : (f : InputFault) → first not_bundles not_keys ≡ Some f → t.behind_secrets ≡ t.behind_keys
+    secrets_not f some = not_next (first not_bundles not_keys) f c.secrets t.behind_keys t.secrets t.behind_secrets some t.secrets_loaded
+
+    report_key_not : (f : InputFault) → first not_bundles (first not_keys not_secrets) ≡ Some f → r' ≡ t.behind_secrets
+    report_key_not f some = not_next (first not_bundles (first not_keys not_secrets)) f c.report_key t.behind_secrets t.report_key r' some t.report_key_loaded
+
+    handed_by_files : (inputs : Inputs) → due needs t.bundles t.keys t.secrets t.report_key ≡ None → AreSecrets t.secrets inputs.secrets.items → inputs.keys ≡ keys_in t.keys → inputs.bundles.items ≡ bundles_in t.bundles
+        → inputs.report_key ≡ report_key_in t.report_key → HandsWords (handed_in inputs) → AreHandedBy c.bundles c.keys c.secrets c.report_key r.loads r'.loads (handed_in inputs)
+    handed_by_files inputs none words key_bytes listed report_key_bytes fit =
+        let (unread, form) = first_none _ _ none in
+        let (fine, fine', fine'', fine''') = all_read t.bundles t.keys t.secrets t.report_key unread in
+        let (right, lengths) = first_none _ _ form in
+        let (keys_right, last) = first_none _ _ lengths in
+        let (secrets_right, report_key_right) = first_none _ _ last in
+        record {
+          bundle_list =
+              hands_out contents (2 ^ 29) c.bundles b t.bundles t.behind_bundles r' t.bundles_loaded 1 r.loads (script_load ∷ []) (keys_more.0 ++ (secrets_more.0 ++ report_key_more.0)) refl loaded.noted then_three _ _
+              (λ is. listed ∙ ap bundles_in is)
+              (λ v is. read_is (container_in v.items) (subst (λ (x : Option (Result (Vec ℕ) LoadFault)). container_fault x ≡ None) is right) ∙ ap (λ (x : List BundleSeen). Ok x) (sym (listed ∙ ap bundles_in is)))
+              (λ f is. no_container_fault t.bundles f fine right is);
+          key_bytes =
+              hands_out contents (2 ^ 16) c.keys t.behind_bundles t.keys t.behind_keys r' (keys_named_at fine) (before_keys c) r.loads (script_load ∷ bundles_more.0) (secrets_more.0 ++ report_key_more.0) bundles_many
+              (from_start bundles_more.0 t.behind_bundles bundles_more.1) then_two _ _
+              (λ is. ap keys_or_none (key_bytes ∙ ap keys_in is))
+              (λ v is. (right_length 64 fault.Keys v (subst (λ (x : Option (Result (Vec ℕ) LoadFault)). keys_fault needs.keys x ≡ None) is keys_right), ap keys_or_none (key_bytes ∙ ap keys_in is)))
+              (λ f is. no_fault input.Keys 64 fault.Keys t.keys f fine' (needed_right 64 fault.Keys needs.keys t.keys keys_right) is);
+          words =
+              hands_out contents (2 ^ 16) c.secrets t.behind_keys t.secrets t.behind_secrets r' (secrets_named_at fine fine') (before_secrets c) r.loads (script_load ∷ two_more) report_key_more.0 (two_many fine)
+              (from_start two_more t.behind_keys behind_two) report_key_more.1 _ _
+              (λ is i. words.each i ∙ ap (λ (x : Option (Result (Vec ℕ) LoadFault)). secret_word x i) is)
+              (λ v is. (right_length 4096 fault.Secrets v (subst (λ (x : Option (Result (Vec ℕ) LoadFault)). secrets_fault x ≡ None) is secrets_right), λ i. words.each i ∙ ap (λ (x : Option (Result (Vec ℕ) LoadFault)). secret_word x i) is))
+              (λ f is. no_fault input.Secrets 4096 fault.Secrets t.secrets f fine'' secrets_right is);
+          report_key_bytes =
+              hands_out contents (2 ^ 16) c.report_key t.behind_secrets t.report_key r' r' (report_key_named_at fine fine' fine'') (before_report_key c) r.loads (script_load ∷ three_more) [] (three_many fine fine')
+              (from_start three_more t.behind_secrets behind_three) (sym (append-nil r'.loads)) _ _
+              (λ is. ap report_key_or_none (report_key_bytes ∙ ap report_key_in is))
+              (λ v is. (right_length 48 fault.ReportKey v (subst (λ (x : Option (Result (Vec ℕ) LoadFault)). report_key_fault needs.report_key x ≡ None) is report_key_right), ap report_key_or_none (report_key_bytes ∙ ap report_key_in is)))
+              (λ f is. no_fault input.ReportKey 48 fault.ReportKey t.report_key f fine''' (needed_right 48 fault.ReportKey needs.report_key t.report_key report_key_right) is);
+          fit = fit;
+        }
+
+    run_came : (inputs : Inputs) → due needs t.bundles t.keys t.secrets t.report_key ≡ None → AreSecrets t.secrets inputs.secrets.items → inputs.keys ≡ keys_in t.keys → inputs.bundles.items ≡ bundles_in t.bundles
+        → inputs.report_key ≡ report_key_in t.report_key → EndsRun k c s (handed_in inputs) e × HandsWords (handed_in inputs) → Came contents (Some k) r r' e
+    run_came inputs none words key_bytes listed report_key_bytes ((order, is_order, is, threads), fit) =
+        Success k refl given all_loaded s reads (handed_in inputs) (handed_of k c r.loads r'.loads (handed_in inputs) has (handed_by_files inputs none words key_bytes listed report_key_bytes fit))
+        order is_order (is ∙ sym (success_of k c s (handed_in inputs) order has)) threads
+
+    unread_came : (i : Input) → IsFaulty (fault.Unread i) → e ≡ unread_end (input_name c i) → Came contents (Some k) r r' e
+    unread_came i (Bundles h) is =
+        let (x, answered, u, same) = unread_some input.Bundles i t.bundles h in
+        input_unread input.Bundles c.bundles (2 ^ 29) b t.behind_bundles t.bundles [] e refl (λ n q. inr (input_of k c n has (inl q))) (sym (append-nil b.loads)) (omega arith)
+        (loading contents (2 ^ 29) c.bundles b t.bundles t.behind_bundles t.bundles_loaded)
+        (report_key_not _ (ap (λ (x : Option InputFault). first x (first not_keys not_secrets)) h) ∙ secrets_not _ (ap (λ (x : Option InputFault). first x not_keys) h) ∙ keys_not _ h)
+        x answered u (is ∙ ap (λ (z : Input). unread_end (input_name c z)) same)
+    unread_came i (KeyFile none h) is =
+        let (x, answered, u, same) = unread_some input.Keys i t.keys h in
+        input_unread input.Keys c.keys (2 ^ 16) t.behind_bundles t.behind_keys t.keys bundles_more.0 e refl (λ n q. inr (input_of k c n has (inr (inl q)))) bundles_more.1 bundles_later
+        (loading contents (2 ^ 16) c.keys t.behind_bundles t.keys t.behind_keys (keys_named_at none))
+        (report_key_not _ (ap (λ (x : Option InputFault). first x (first not_keys not_secrets)) none ∙ ap (λ (x : Option InputFault). first x not_secrets) h) ∙ secrets_not _ (ap (λ (x : Option InputFault). first x not_keys) none ∙ h))
+        x answered u (is ∙ ap (λ (z : Input). unread_end (input_name c z)) same)
+    unread_came i (SecretsFile none none' h) is =
+        let (x, answered, u, same) = unread_some input.Secrets i t.secrets h in
+        input_unread input.Secrets c.secrets (2 ^ 16) t.behind_keys t.behind_secrets t.secrets two_more e refl (λ n q. inr (input_of k c n has (inr (inr (inl q))))) behind_two two_later
+        (loading contents (2 ^ 16) c.secrets t.behind_keys t.secrets t.behind_secrets (secrets_named_at none none'))
+        (report_key_not _ (ap (λ (x : Option InputFault). first x (first not_keys not_secrets)) none ∙ ap (λ (x : Option InputFault). first x not_secrets) none' ∙ h))
+        x answered u (is ∙ ap (λ (z : Input). unread_end (input_name c z)) same)
+    unread_came i (ReportKeyFile none none' none'' h) is =
+        let (x, answered, u, same) = unread_some input.ReportKey i t.report_key h in
+        input_unread input.ReportKey c.report_key (2 ^ 16) t.behind_secrets r' t.report_key three_more e refl (λ n q. inr (input_of k c n has (inr (inr (inr q))))) behind_three three_later
+        (loading contents (2 ^ 16) c.report_key t.behind_secrets t.report_key r' (report_key_named_at none none' none'')) refl x answered u (is ∙ ap (λ (z : Input). unread_end (input_name c z)) same)
+    unread_came i (Form none h) is = let (x, place, answered, wrong) = container_at t.bundles _ h in absurd (cc)
+    unread_came i (Length64 none h) is = let wrong = needed_at 64 fault.Keys needs.keys t.keys _ h in absurd (cc)
+    unread_came i (Length4096 none h) is = let (x, answered, wrong) = length_at 4096 fault.Secrets t.secrets _ h in absurd (cc)
+    unread_came i (Length48 none h) is = let wrong = needed_at 48 fault.ReportKey needs.report_key t.report_key _ h in absurd (cc)
+
+    place_of : (place : ℕ) → container_fault t.bundles ≡ Some (fault.Container place) → Loading contents (2 ^ 29) c.bundles b t.bundles t.behind_bundles → e ≡ container_end place → Came contents (Some k) r r' e
+    place_of place h (Not no_name none same) is = let (x, p, answered, wrong) = container_at t.bundles _ h in absurd (cc)
+    place_of place h (Once n x named answered l) is =
+        Place k refl c has n named x
+        (one_behind r.loads (script_load ∷ []) (keys_more.0 ++ (secrets_more.0 ++ report_key_more.0)) b.loads t.behind_bundles.loads r'.loads n x 1 refl loaded.noted l.noted then_three)
+        place (subst (λ (z : Option (Result (Vec ℕ) LoadFault)). container_fault z ≡ Some (fault.Container place)) answered h) is
+
+    container_came : (place : ℕ) → IsFaulty (fault.Container place) → e ≡ container_end place → Came contents (Some k) r r' e
+    container_came place (Bundles h) is = elim (load_unread input.Bundles _ t.bundles h) [ inl x ↦ absurd (cc) | inr x ↦ absurd (cc) ]
+    container_came place (KeyFile none h) is = elim (load_unread input.Keys _ t.keys h) [ inl x ↦ absurd (cc) | inr x ↦ absurd (cc) ]
+    container_came place (SecretsFile none none' h) is = elim (load_unread input.Secrets _ t.secrets h) [ inl x ↦ absurd (cc) | inr x ↦ absurd (cc) ]
+    container_came place (ReportKeyFile none none' none'' h) is = elim (load_unread input.ReportKey _ t.report_key h) [ inl x ↦ absurd (cc) | inr x ↦ absurd (cc) ]
+    container_came place (Form none h) is = place_of place h (loading contents (2 ^ 29) c.bundles b t.bundles t.behind_bundles t.bundles_loaded) is
+    container_came place (Length64 none h) is = let wrong = needed_at 64 fault.Keys needs.keys t.keys _ h in absurd (cc)
+    container_came place (Length4096 none h) is = let (x, answered, wrong) = length_at 4096 fault.Secrets t.secrets _ h in absurd (cc)
+    container_came place (Length48 none h) is = let wrong = needed_at 48 fault.ReportKey needs.report_key t.report_key _ h in absurd (cc)
+
+    -- a file that may be needed hasn't its length, or is wanting
+    needed_wrong : (file : NamedSeen → Option (List ℕ)) (behind : NamedSeen → ℕ) (needs_file : ScriptSeen → Bool) (count : ℕ) (g : InputFault) (told : Ended) (mid now : Reads) (a : Option (Result (Vec ℕ) LoadFault)) (more rest : List Loaded)
+        → (LengthCame file behind count g told (Some k) r r' e → Came contents (Some k) r r' e) → (LacksCame file needs_file told (Some k) r r' e → Came contents (Some k) r r' e)
+        → suc (length more) ≡ behind c → mid.loads ≡ b.loads ++ more → r'.loads ≡ now.loads ++ rest → needed_fault count g (needs_file s) a ≡ Some g → e ≡ told
+        → Loading contents (2 ^ 16) (file c) mid a now → Came contents (Some k) r r' e
+    needed_wrong file behind needs_file count g told mid now a more rest short lacking many grew after h is (Not no_name none same) =
+        let wanting : needed_fault count g (needs_file s) None ≡ Some g = subst (λ (z : Option (Result (Vec ℕ) LoadFault)). needed_fault count g (needs_file s) z ≡ Some g) none h in
+        lacking (record { command = k; read_as = refl; options = c; has = has; given = given; loaded = all_loaded; script = s; reads = reads; needs = (needed_is (needs_file s) g g wanting).0; unnamed = no_name; is = is })
+    needed_wrong file behind needs_file count g told mid now a more rest short lacking many grew after h is (Once n x named answered l) =
+        let wrong : length_fault count g (Some x) ≡ Some g = subst (λ (z : Option (Result (Vec ℕ) LoadFault)). needed_fault count g (needs_file s) z ≡ Some g) answered h in
+        short
+        (input_length file behind count g told mid now a more rest e many grew (Once n x named answered l) after
+        (subst (λ (z : Option (Result (Vec ℕ) LoadFault)). length_fault count g z ≡ Some g) (sym answered) wrong) is)
+
+    -- which is told
+    ends_seven : SomeLength (Some k) r r' e → (told : Ended) → e ≡ told → told.status ≡ 7 → told.files ≡ [] → Came contents (Some k) r r' e
+    ends_seven which told is seven none = WrongLength which (ap (λ (x : Ended). x.status) is ∙ seven) (ap (λ (x : Ended). x.files) is ∙ none)
+
+    keys_came : IsFaulty fault.Keys → e ≡ keys_end → Came contents (Some k) r r' e
+    keys_came (Bundles h) is = elim (load_unread input.Bundles _ t.bundles h) [ inl x ↦ absurd (cc) | inr x ↦ absurd (cc) ]
+    keys_came (KeyFile none h) is = elim (load_unread input.Keys _ t.keys h) [ inl x ↦ absurd (cc) | inr x ↦ absurd (cc) ]
+    keys_came (SecretsFile none none' h) is = elim (load_unread input.Secrets _ t.secrets h) [ inl x ↦ absurd (cc) | inr x ↦ absurd (cc) ]
+    keys_came (ReportKeyFile none none' none'' h) is = elim (load_unread input.ReportKey _ t.report_key h) [ inl x ↦ absurd (cc) | inr x ↦ absurd (cc) ]
+    keys_came (Form none h) is = let (x, place, answered, wrong) = container_at t.bundles _ h in absurd (cc)
+    keys_came (Length64 none h) is =
+        let (fine, fine', fine'', fine''') = all_read t.bundles t.keys t.secrets t.report_key none in
+        needed_wrong (λ n. n.keys) before_keys (λ s. needs_keys s.calls) 64 fault.Keys keys_end t.behind_bundles t.behind_keys t.keys bundles_more.0 (secrets_more.0 ++ report_key_more.0)
+        (λ q. ends_seven (inl q) keys_end is refl refl) (λ q. ends_seven (inr (inr (inr (inl q)))) keys_end is refl refl)
+        bundles_many bundles_more.1 then_two h is (loading contents (2 ^ 16) c.keys t.behind_bundles t.keys t.behind_keys (keys_named_at fine))
+    keys_came (Length4096 none h) is = let (x, answered, wrong) = length_at 4096 fault.Secrets t.secrets _ h in absurd (cc)
+    keys_came (Length48 none h) is = let wrong = needed_at 48 fault.ReportKey needs.report_key t.report_key _ h in absurd (cc)
+
+    secrets_came : IsFaulty fault.Secrets → e ≡ secrets_end → Came contents (Some k) r r' e
+    secrets_came (Bundles h) is = elim (load_unread input.Bundles _ t.bundles h) [ inl x ↦ absurd (cc) | inr x ↦ absurd (cc) ]
+    secrets_came (KeyFile none h) is = elim (load_unread input.Keys _ t.keys h) [ inl x ↦ absurd (cc) | inr x ↦ absurd (cc) ]
+    secrets_came (SecretsFile none none' h) is = elim (load_unread input.Secrets _ t.secrets h) [ inl x ↦ absurd (cc) | inr x ↦ absurd (cc) ]
+    secrets_came (ReportKeyFile none none' none'' h) is = elim (load_unread input.ReportKey _ t.report_key h) [ inl x ↦ absurd (cc) | inr x ↦ absurd (cc) ]
+    secrets_came (Form none h) is = let (x, place, answered, wrong) = container_at t.bundles _ h in absurd (cc)
+    secrets_came (Length64 none h) is = let wrong = needed_at 64 fault.Keys needs.keys t.keys _ h in absurd (cc)
+    secrets_came (Length4096 none h) is =
+        let (fine, fine', fine'', fine''') = all_read t.bundles t.keys t.secrets t.report_key none in
+        ends_seven
+        (inr (inl (input_length (λ n. n.secrets) before_secrets 4096 fault.Secrets secrets_end t.behind_keys t.behind_secrets t.secrets two_more report_key_more.0 e (two_many fine) behind_two
+        (loading contents (2 ^ 16) c.secrets t.behind_keys t.secrets t.behind_secrets (secrets_named_at fine fine')) report_key_more.1 h is)))
+        secrets_end is refl refl
+    secrets_came (Length48 none h) is = let wrong = needed_at 48 fault.ReportKey needs.report_key t.report_key _ h in absurd (cc)
+
+    report_key_came : IsFaulty fault.ReportKey → e ≡ report_key_end → Came contents (Some k) r r' e
+    report_key_came (Bundles h) is = elim (load_unread input.Bundles _ t.bundles h) [ inl x ↦ absurd (cc) | inr x ↦ absurd (cc) ]
+    report_key_came (KeyFile none h) is = elim (load_unread input.Keys _ t.keys h) [ inl x ↦ absurd (cc) | inr x ↦ absurd (cc) ]
+    report_key_came (SecretsFile none none' h) is = elim (load_unread input.Secrets _ t.secrets h) [ inl x ↦ absurd (cc) | inr x ↦ absurd (cc) ]
+    report_key_came (ReportKeyFile none none' none'' h) is = elim (load_unread input.ReportKey _ t.report_key h) [ inl x ↦ absurd (cc) | inr x ↦ absurd (cc) ]
+    report_key_came (Form none h) is = let (x, place, answered, wrong) = container_at t.bundles _ h in absurd (cc)
+    report_key_came (Length64 none h) is = let wrong = needed_at 64 fault.Keys needs.keys t.keys _ h in absurd (cc)
+    report_key_came (Length4096 none h) is = let (x, answered, wrong) = length_at 4096 fault.Secrets t.secrets _ h in absurd (cc)
+    report_key_came (Length48 none h) is =
+        let (fine, fine', fine'', fine''') = all_read t.bundles t.keys t.secrets t.report_key none in
+        needed_wrong (λ n. n.report_key) before_report_key (λ s. needs_report_key s.codes) 48 fault.ReportKey report_key_end t.behind_secrets r' t.report_key three_more []
+        (λ q. ends_seven (inr (inr (inl q))) report_key_end is refl refl) (λ q. ends_seven (inr (inr (inr (inr q)))) report_key_end is refl refl)
+        (three_many fine fine') behind_three (sym (append-nil r'.loads)) h is (loading contents (2 ^ 16) c.report_key t.behind_secrets t.report_key r' (report_key_named_at fine fine' fine''))
+
+    each_came : (q : Result Inputs InputFault) → IsDue (due needs t.bundles t.keys t.secrets t.report_key) q → IfOk q (λ inputs. AreSecrets t.secrets inputs.secrets.items) → IfOk q (λ inputs. inputs.keys ≡ keys_in t.keys)
+        → IfOk q (λ inputs. inputs.bundles.items ≡ bundles_in t.bundles) → IfOk q (λ inputs. inputs.report_key ≡ report_key_in t.report_key) → InputsEnd k c s q e → Came contents (Some k) r r' e
+    each_came (Ok inputs) d words key_bytes listed report_key_bytes is = run_came inputs d words key_bytes listed report_key_bytes is
+    each_came (Err (fault.Unread i)) d words key_bytes listed report_key_bytes is = unread_came i (faulty needs t.bundles t.keys t.secrets t.report_key _ d) is
+    each_came (Err (fault.Container place)) d words key_bytes listed report_key_bytes is = container_came place (faulty needs t.bundles t.keys t.secrets t.report_key _ d) is
+    each_came (Err fault.Keys) d words key_bytes listed report_key_bytes is = keys_came (faulty needs t.bundles t.keys t.secrets t.report_key _ d) is
+    each_came (Err fault.Secrets) d words key_bytes listed report_key_bytes is = secrets_came (faulty needs t.bundles t.keys t.secrets t.report_key _ d) is
+    each_came (Err fault.ReportKey) d words key_bytes listed report_key_bytes is = report_key_came (faulty needs t.bundles t.keys t.secrets t.report_key _ d) is
+    each_came (Err fault.OutOfMemory) d words key_bytes listed report_key_bytes is = absurd is
+
+    -- what the inputs of a script came to
+    inputs_came : InputsEnd k c s res e → Came contents (Some k) r r' e
+    inputs_came ends = each_came res t.is_due t.words t.key_bytes t.bundle_list t.report_key_bytes ends
 
 module _ (contents : Option (List ℕ → Option (List ℕ))) (c : CommandSeen) (r b r' : Reads) (e : Ended) where
   -- what a script in the grammar came to
@@ -528,7 +645,7 @@ module _ (contents : Option (List ℕ → Option (List ℕ))) (c : CommandSeen) 
   script_came (Replay n) given s loaded reads (res, takes, ends) = inputs_came contents (Replay n) n refl r b r' given loaded s res e reads takes ends
   script_came (Run n) given s loaded reads (res, takes, ends) = inputs_came contents (Run n) n refl r b r' given loaded s res e reads takes ends
   script_came (Check name) given s loaded reads (same, is) =
-      Success (Check name) refl given ([], ap (λ (z : Reads). z.loads) same ∙ loaded.noted) s reads (record { secrets = λ i. 0; keys = no_keys; bundles = [] }) (record { words = λ i. refl; key_bytes = refl; bundle_list = refl; fit = record { words = λ k few. lit< tt; come_in = λ slot. tt } }) [] tt is tt
+      Success (Check name) refl given ([], ap (λ (z : Reads). z.loads) same ∙ loaded.noted) s reads (record { secrets = λ i. 0; keys = no_keys; bundles = []; report_key = no_report_key }) (record { words = λ i. refl; key_bytes = refl; bundle_list = refl; report_key_bytes = refl; fit = record { words = λ k few. lit< tt; come_in = λ slot. tt } }) [] tt is tt
 
   -- what a script that was loaded came to
   read_came : (given : Vec ℕ) (read : Result ScriptSeen ScriptFault) → Loads contents (2 ^ 24) (script_name c) r (Ok given) b → read_of given.items ≡ read → ReadEnd contents c b r' read e
@@ -568,7 +685,7 @@ both_few None b x y = named_few b y
 both_few (Some n) b x y = ap suc (named_few b y)
 
 run_few : (n : NamedSeen) (s : ScriptSeen) (handed : HandedOut) (order : List ℕ) → length (run_end n s handed order).files ≤ length (outs_of n)
-run_few n s handed order = let q = both_few n.out_bundles n.guest_out (bundles_text handed.keys.forward handed.keys.backward (opening_by handed s) order) (guest_text (opening_by handed s) order) in omega (arith, q)
+run_few n s handed order = let q = both_few n.out_bundles n.guest_out (bundles_text handed.keys.forward handed.keys.backward (opening_by handed s) order) (guest_text handed.report_key (opening_by handed s) order) in omega (arith, q)
 
 success_few : (k : CommandSeen) (s : ScriptSeen) (handed : HandedOut) (order : List ℕ) → length (success_end k s handed order).files ≤ length (out_names (Some k))
 success_few (Replay n) s handed order = run_few n s handed order
@@ -587,12 +704,12 @@ files_few contents c r r' e (Success k is_c given loaded s reads handed out orde
 
 -- a fault of the inputs is told
 pub fault_ends : (contents : Option (List ℕ → Option (List ℕ))) (k : CommandSeen) (c : NamedSeen) (s : ScriptSeen) (old new : Reads) (f : InputFault) (r : Result Ending AllocError)
-    → TakesInputs contents (needs_keys s.calls) c old new (Err f) → IfOk r (λ e. InputsEnd k c s (Err f) (ending_seen e)) → IfOk r (λ e. NamedEnd contents k c s old new (ending_seen e))
+    → TakesInputs contents (needs_of s) c old new (Err f) → IfOk r (λ e. InputsEnd k c s (Err f) (ending_seen e)) → IfOk r (λ e. NamedEnd contents k c s old new (ending_seen e))
 fault_ends contents k c s old new f (Ok e) takes ends = (Err f, takes, ends)
 fault_ends contents k c s old new f (Err e) takes ends = tt
 
 -- so is a run
 pub run_ends : (contents : Option (List ℕ → Option (List ℕ))) (k : CommandSeen) (c : NamedSeen) (s : ScriptSeen) (old new : Reads) (inputs : Inputs) (r : Result Ending AllocError)
-    → TakesInputs contents (needs_keys s.calls) c old new (Ok inputs) → IfOk r (λ e. EndsRun k c s (handed_in inputs) (ending_seen e) × HandsWords (handed_in inputs)) → IfOk r (λ e. NamedEnd contents k c s old new (ending_seen e))
+    → TakesInputs contents (needs_of s) c old new (Ok inputs) → IfOk r (λ e. EndsRun k c s (handed_in inputs) (ending_seen e) × HandsWords (handed_in inputs)) → IfOk r (λ e. NamedEnd contents k c s old new (ending_seen e))
 run_ends contents k c s old new inputs (Ok e) takes h = (Ok inputs, takes, h)
 run_ends contents k c s old new inputs (Err e) takes h = tt

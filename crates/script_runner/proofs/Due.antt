@@ -9,17 +9,18 @@ use Rattle.script_text.specs.declared.faults.ScriptFault.{ScriptFault}
 use Rattle.script_text.specs.declared.faults.ScriptFault.TheVariants.{Bad, OutOfMemory}
 use Rattle.script_text.specs.Reading.{read_of}
 use Rattle.script_text.specs.Seen.{ScriptSeen}
-use Rattle.script_text.specs.Needs.{needs_keys}
+use Rattle.script_text.specs.Needs.{needs_keys, needs_report_key}
 use Rattle.bundle_store.specs.Containers.{container_in}
 use Rattle.command_files.specs.declared.inputs.Input.{Input}
 use Rattle.command_files.specs.declared.inputs.Input.TheVariants as input
 use Rattle.command_files.specs.declared.inputs.InputFault.{InputFault}
 use Rattle.command_files.specs.declared.inputs.InputFault.TheVariants as fault
+use Rattle.command_files.specs.declared.inputs.Needs.{Needs}
 use Rattle.command_files.specs.Commands.{NamedSeen, CommandSeen, Replay, Run, Check, named_of, script_name}
 use Rattle.command_files.specs.Inputs.{place_fault, first}
-use Rattle.script_runner.specs.Ending.{Ended, usage_end, bad_end, unread_end, memory_end, container_end, run_end, success_end, input_name, held, absent_fault, container_wrong, length_wrong, keys_wrong, absent_input, form_wrong, wrong_input, command_wrong, handed_held, inputs_end, script_end, read_end, held_end, ending_of, IsOrderOf, IsOrderIn, HandedOut, held_by}
-use Rattle.script_runner.specs.Ends.{NamesInput, IsBadScript, IsAbsent, IsNoContainer, IsBadContainer, HasWrongLength, IsBadKeysOrSecrets}
-use Rattle.script_runner.proofs.Named.{secrets_of, input_of, wrong_of, success_of, keys_of_command, bundles_of_command}
+use Rattle.script_runner.specs.Ending.{Ended, usage_end, bad_end, unread_end, memory_end, container_end, run_end, success_end, input_name, held, absent_fault, container_wrong, length_wrong, needed_wrong, keys_wrong, report_key_wrong, absent_input, form_wrong, needs_of, wrong_input, command_wrong, handed_held, inputs_end, script_end, read_end, held_end, ending_of, IsOrderOf, IsOrderIn, HandedOut, held_by}
+use Rattle.script_runner.specs.Ends.{NamesInput, IsBadScript, IsAbsent, IsNoContainer, IsBadContainer, HasWrongLength, Lacks, IsBadLength}
+use Rattle.script_runner.proofs.Named.{secrets_of, input_of, wrong_of, success_of, keys_of_command, bundles_of_command, report_key_of_command}
 
 -- a script is run, or checked
 pub record IsRun (contents : List ℕ → Option (List ℕ)) (c : Option CommandSeen) (order : List ℕ) (e : Ended) : Type 0 where
@@ -39,7 +40,7 @@ pub data Due (contents : List ℕ → Option (List ℕ)) (c : Option CommandSeen
   BadScript : (line : ℕ) (reason : Reason) → IsBadScript contents c → e ≡ bad_end line reason → Due contents c order e
   Want : e ≡ memory_end → Due contents c order e
   BadContainer : (place : ℕ) → IsBadContainer contents c → e ≡ container_end place → Due contents c order e
-  BadLength : IsBadKeysOrSecrets contents c → e.status ≡ 7 → Due contents c order e
+  BadLength : IsBadLength contents c → e.status ≡ 7 → Due contents c order e
   Success : IsRun contents c order e → Due contents c order e
 
 -- the first of two faults
@@ -98,19 +99,22 @@ length_some count g contents (Some name) f h = by (contents name) refl h
     by None e h = absurd (cc)
     by (Some bytes) e h = of bytes e (eqb_tells (length bytes) count) h
 
--- keys are needed
-needed_some : (needed : Bool) (f : InputFault) → (if needed then Some fault.Keys else None) ≡ Some f → (needed ≡ true) × (f ≡ fault.Keys)
-needed_some true f h = (refl, cc)
-needed_some false f h = absurd (cc)
+-- a file is needed, and none is named
+needed_some : (needed : Bool) (g f : InputFault) → (if needed then Some g else None) ≡ Some f → (needed ≡ true) × (f ≡ g)
+needed_some true g f h = (refl, cc)
+needed_some false g f h = absurd (cc)
 
 -- ---- the whole
 
 module _ (contents : List ℕ → Option (List ℕ)) (k : CommandSeen) (c : NamedSeen) (has : named_of k ≡ Some c) (s : ScriptSeen) (order : List ℕ) where
   abbrev DueBy : Option InputFault → Type 0
-  DueBy f = Due contents (Some k) order (inputs_end c s (held_by contents c.secrets c.keys c.bundles) order f)
+  DueBy f = Due contents (Some k) order (inputs_end c s (held_by contents c.secrets c.keys c.bundles c.report_key) order f)
+
+  abbrev needs : Needs
+  needs = needs_of s
 
   -- a named input isn't there
-  absent_due : (f : InputFault) → absent_input (held contents c.bundles) (held contents c.keys) (held contents c.secrets) ≡ Some f → DueBy (Some f)
+  absent_due : (f : InputFault) → absent_input (held contents c.bundles) (held contents c.keys) (held contents c.secrets) (held contents c.report_key) ≡ Some f → DueBy (Some f)
   absent_due f h = by (first_cases _ _ f h)
     where
       unread : (i : Input) (name : List ℕ) → NamesInput c name → contents name ≡ None → f ≡ fault.Unread i → DueBy (Some f)
@@ -118,57 +122,76 @@ module _ (contents : List ℕ → Option (List ℕ)) (k : CommandSeen) (c : Name
           subst (λ (x : InputFault). DueBy (Some x)) (sym is)
           (Absent (input_name c i) (record { command = k; read_as = refl; name = name; named = inr (input_of k c name has named); absent = gone }) refl)
 
-      more : (absent_fault input.Keys (held contents c.keys) ≡ Some f) ⊎ ((absent_fault input.Keys (held contents c.keys) ≡ None) × (absent_fault input.Secrets (held contents c.secrets) ≡ Some f)) → DueBy (Some f)
+      last : (absent_fault input.Secrets (held contents c.secrets) ≡ Some f) ⊎ ((absent_fault input.Secrets (held contents c.secrets) ≡ None) × (absent_fault input.ReportKey (held contents c.report_key) ≡ Some f)) → DueBy (Some f)
+      last (inl x) = let (name, named, gone, is) = absent_some input.Secrets contents c.secrets f x in unread input.Secrets name (inr (inr (inl named))) gone is
+      last (inr x) = let (name, named, gone, is) = absent_some input.ReportKey contents c.report_key f x.1 in unread input.ReportKey name (inr (inr (inr named))) gone is
+
+      more : (absent_fault input.Keys (held contents c.keys) ≡ Some f)
+          ⊎ ((absent_fault input.Keys (held contents c.keys) ≡ None) × (first (absent_fault input.Secrets (held contents c.secrets)) (absent_fault input.ReportKey (held contents c.report_key)) ≡ Some f)) → DueBy (Some f)
       more (inl x) = let (name, named, gone, is) = absent_some input.Keys contents c.keys f x in unread input.Keys name (inr (inl named)) gone is
-      more (inr x) = let (name, named, gone, is) = absent_some input.Secrets contents c.secrets f x.1 in unread input.Secrets name (inr (inr named)) gone is
+      more (inr x) = last (first_cases _ _ f x.1)
 
       by : (absent_fault input.Bundles (held contents c.bundles) ≡ Some f)
-          ⊎ ((absent_fault input.Bundles (held contents c.bundles) ≡ None) × (first (absent_fault input.Keys (held contents c.keys)) (absent_fault input.Secrets (held contents c.secrets)) ≡ Some f))
+          ⊎ ((absent_fault input.Bundles (held contents c.bundles) ≡ None)
+          × (first (absent_fault input.Keys (held contents c.keys)) (first (absent_fault input.Secrets (held contents c.secrets)) (absent_fault input.ReportKey (held contents c.report_key))) ≡ Some f))
           → DueBy (Some f)
       by (inl x) = let (name, named, gone, is) = absent_some input.Bundles contents c.bundles f x in unread input.Bundles name (inl named) gone is
       by (inr x) = more (first_cases _ _ f x.1)
 
-  abbrev needed : Bool
-  needed = needs_keys s.calls
-
-  -- one that is there hasn't its form, or the key file is wanting
-  form_due : (bytes : List ℕ) → contents (script_name k) ≡ Some bytes → read_of bytes ≡ Ok s → (f : InputFault) → form_wrong needed (held contents c.bundles) (held contents c.keys) (held contents c.secrets) ≡ Some f → DueBy (Some f)
+  -- one that is there hasn't its form, or a file is wanting
+  form_due : (bytes : List ℕ) → contents (script_name k) ≡ Some bytes → read_of bytes ≡ Ok s → (f : InputFault)
+      → form_wrong needs (held contents c.bundles) (held contents c.keys) (held contents c.secrets) (held contents c.report_key) ≡ Some f → DueBy (Some f)
   form_due script there reads f h = by (first_cases _ _ f h)
     where
-      wrong_length : (file : NamedSeen → Option (List ℕ)) (count : ℕ) (g : InputFault) → length_wrong count g (held contents (file c)) ≡ Some f → HasWrongLength file count contents (Some k)
+      wrong_length : (file : NamedSeen → Option (List ℕ)) (count : ℕ) (g : InputFault) → length_wrong count g (held contents (file c)) ≡ Some f → HasWrongLength file count contents (Some k) × (f ≡ g)
       wrong_length file count g x =
           let (name, bytes, named, there, wrong, is) = length_some count g contents (file c) f x in
-          record { command = k; read_as = refl; options = c; has = has; name = name; named = named; bytes = bytes; there = there; wrong = wrong }
+          (record { command = k; read_as = refl; options = c; has = has; name = name; named = named; bytes = bytes; there = there; wrong = wrong }, is)
 
-      keys_due : (keys : Option (List ℕ)) → c.keys ≡ keys → keys_wrong needed (held contents keys) ≡ Some f → DueBy (Some f)
-      keys_due None unnamed x =
-          let (needs, is) = needed_some needed f x in
+      -- a file that may be needed hasn't its length, or is wanting
+      needed_due : (file : NamedSeen → Option (List ℕ)) (needs_file : ScriptSeen → Bool) (count : ℕ) (g : InputFault) → (HasWrongLength file count contents (Some k) → DueBy (Some g)) → (Lacks file needs_file contents (Some k) → DueBy (Some g))
+          → (named : Option (List ℕ)) → file c ≡ named → needed_wrong count g (needs_file s) (held contents named) ≡ Some f → DueBy (Some f)
+      needed_due file needs_file count g short lacking None unnamed x =
+          let (needs, is) = needed_some (needs_file s) g f x in
           subst (λ (x : InputFault). DueBy (Some x)) (sym is)
-          (BadLength (inr (inr (record { command = k; read_as = refl; options = c; has = has; bytes = script; there = there; script = s; reads = reads; needs = needs; unnamed = unnamed }))) refl)
-      keys_due (Some name) named x =
-          let x' : length_wrong 64 fault.Keys (held contents c.keys) ≡ Some f = subst (λ (q : Option (List ℕ)). length_wrong 64 fault.Keys (held contents q) ≡ Some f) (sym named) x in
-          let (name', bytes, named', there', wrong, is) = length_some 64 fault.Keys contents c.keys f x' in
-          subst (λ (x : InputFault). DueBy (Some x)) (sym is) (BadLength (inl (wrong_length (λ n. n.keys) 64 fault.Keys x')) refl)
+          (lacking (record { command = k; read_as = refl; options = c; has = has; bytes = script; there = there; script = s; reads = reads; needs = needs; unnamed = unnamed }))
+      needed_due file needs_file count g short lacking (Some name) named x =
+          let x' : length_wrong count g (held contents (file c)) ≡ Some f = subst (λ (q : Option (List ℕ)). length_wrong count g (held contents q) ≡ Some f) (sym named) x in
+          let (wrong, is) = wrong_length file count g x' in
+          subst (λ (x : InputFault). DueBy (Some x)) (sym is) (short wrong)
 
-      more : (keys_wrong needed (held contents c.keys) ≡ Some f) ⊎ ((keys_wrong needed (held contents c.keys) ≡ None) × (length_wrong 4096 fault.Secrets (held contents c.secrets) ≡ Some f))
-          → DueBy (Some f)
-      more (inl x) = keys_due c.keys refl x
-      more (inr x) =
-          let (name, bytes, named, there, wrong, is) = length_some 4096 fault.Secrets contents c.secrets f x.1 in
-          subst (λ (x : InputFault). DueBy (Some x)) (sym is) (BadLength (inr (inl (wrong_length (λ n. n.secrets) 4096 fault.Secrets x.1))) refl)
+      keys_due : keys_wrong needs.keys (held contents c.keys) ≡ Some f → DueBy (Some f)
+      keys_due x = needed_due (λ n. n.keys) (λ s. needs_keys s.calls) 64 fault.Keys (λ h. BadLength (inl h) refl) (λ h. BadLength (inr (inr (inr (inl h)))) refl) c.keys refl x
+
+      report_key_due : report_key_wrong needs.report_key (held contents c.report_key) ≡ Some f → DueBy (Some f)
+      report_key_due x =
+          needed_due (λ n. n.report_key) (λ s. needs_report_key s.codes) 48 fault.ReportKey (λ h. BadLength (inr (inr (inl h))) refl) (λ h. BadLength (inr (inr (inr (inr h)))) refl) c.report_key refl x
+
+      last : (length_wrong 4096 fault.Secrets (held contents c.secrets) ≡ Some f)
+          ⊎ ((length_wrong 4096 fault.Secrets (held contents c.secrets) ≡ None) × (report_key_wrong needs.report_key (held contents c.report_key) ≡ Some f)) → DueBy (Some f)
+      last (inl x) =
+          let (wrong, is) = wrong_length (λ n. n.secrets) 4096 fault.Secrets x in
+          subst (λ (x : InputFault). DueBy (Some x)) (sym is) (BadLength (inr (inl wrong)) refl)
+      last (inr x) = report_key_due x.1
+
+      more : (keys_wrong needs.keys (held contents c.keys) ≡ Some f)
+          ⊎ ((keys_wrong needs.keys (held contents c.keys) ≡ None) × (first (length_wrong 4096 fault.Secrets (held contents c.secrets)) (report_key_wrong needs.report_key (held contents c.report_key)) ≡ Some f)) → DueBy (Some f)
+      more (inl x) = keys_due x
+      more (inr x) = last (first_cases _ _ f x.1)
 
       by : (container_wrong (held contents c.bundles) ≡ Some f)
-          ⊎ ((container_wrong (held contents c.bundles) ≡ None) × (first (keys_wrong needed (held contents c.keys)) (length_wrong 4096 fault.Secrets (held contents c.secrets)) ≡ Some f)) → DueBy (Some f)
+          ⊎ ((container_wrong (held contents c.bundles) ≡ None)
+          × (first (keys_wrong needs.keys (held contents c.keys)) (first (length_wrong 4096 fault.Secrets (held contents c.secrets)) (report_key_wrong needs.report_key (held contents c.report_key))) ≡ Some f)) → DueBy (Some f)
       by (inl x) =
           let (name, bytes, place, named, there, wrong, is) = container_some contents c.bundles f x in
           subst (λ (x : InputFault). DueBy (Some x)) (sym is)
           (BadContainer place (record { command = k; read_as = refl; options = c; has = has; name = name; named = named; bytes = bytes; there = there; wrong = wrong }) refl)
       by (inr x) = more (first_cases _ _ f x.1)
 
-  input_due : (bytes : List ℕ) → contents (script_name k) ≡ Some bytes → read_of bytes ≡ Ok s → (f : InputFault) → wrong_input contents needed c ≡ Some f → DueBy (Some f)
+  input_due : (bytes : List ℕ) → contents (script_name k) ≡ Some bytes → read_of bytes ≡ Ok s → (f : InputFault) → wrong_input contents needs c ≡ Some f → DueBy (Some f)
   input_due bytes there reads f h = elim (first_cases _ _ f h) [ inl x ↦ absent_due f x | inr x ↦ form_due bytes there reads f x.1 ]
 
-  inputs_due : (bytes : List ℕ) (f : Option InputFault) → contents (script_name k) ≡ Some bytes → read_of bytes ≡ Ok s → wrong_input contents needed c ≡ f → DueBy f
+  inputs_due : (bytes : List ℕ) (f : Option InputFault) → contents (script_name k) ≡ Some bytes → read_of bytes ≡ Ok s → wrong_input contents needs c ≡ f → DueBy f
   inputs_due bytes None there reads fits =
       Success (record {
         command = k;
@@ -178,7 +201,8 @@ module _ (contents : List ℕ → Option (List ℕ)) (k : CommandSeen) (c : Name
         script = s;
         reads = reads;
         fits = wrong_of contents s k c has ∙ fits;
-        is = sym (success_of k c s (handed_held contents k) order has ∙ (λ i. run_end c s (held_by contents (secrets_of k c has i) (keys_of_command k c has i) (bundles_of_command k c has i)) order));
+        is =
+            sym (success_of k c s (handed_held contents k) order has ∙ (λ i. run_end c s (held_by contents (secrets_of k c has i) (keys_of_command k c has i) (bundles_of_command k c has i) (report_key_of_command k c has i)) order));
       })
   inputs_due bytes (Some f) there reads wrong = input_due bytes there reads f wrong
 
@@ -259,11 +283,12 @@ same_status contents (Some k) order order' = by (contents (script_name k))
     of_inputs n s handed (Some (fault.Container place)) = refl
     of_inputs n s handed (Some fault.Keys) = refl
     of_inputs n s handed (Some fault.Secrets) = refl
+    of_inputs n s handed (Some fault.ReportKey) = refl
     of_inputs n s handed (Some fault.OutOfMemory) = refl
 
     of_script : (k : CommandSeen) (s : ScriptSeen) → (script_end contents k s order).status ≡ (script_end contents k s order').status
-    of_script (Replay n) s = of_inputs n s (held_by contents n.secrets n.keys n.bundles) (wrong_input contents (needs_keys s.calls) n)
-    of_script (Run n) s = of_inputs n s (held_by contents n.secrets n.keys n.bundles) (wrong_input contents (needs_keys s.calls) n)
+    of_script (Replay n) s = of_inputs n s (held_by contents n.secrets n.keys n.bundles n.report_key) (wrong_input contents (needs_of s) n)
+    of_script (Run n) s = of_inputs n s (held_by contents n.secrets n.keys n.bundles n.report_key) (wrong_input contents (needs_of s) n)
     of_script (Check name) s = refl
 
     of_read : (r : Result ScriptSeen ScriptFault) → (read_end contents k order r).status ≡ (read_end contents k order' r).status

@@ -9,7 +9,7 @@ use Rattle.command_files.specs.Commands.{CommandSeen, Replay, Run, Check}
 use Rattle.command_files.specs.Inputs.{Reads}
 use Rattle.script_runner.specs.Ending.{ToSave, Ended, memory_end, unwritten_end, success_end, handed_held, ending_of, IsOrderIn, HandedOut}
 use Rattle.script_runner.specs.Saving.{Writes, AllSaved, IsAmong}
-use Rattle.script_runner.specs.Ends.{Faults, IsEnding, PutsPart, PutsBehind, TellsName, TellsUnsaved, Tells, EndsWith, ShowsThreads, IsBadScript, IsAbsent, IsBadContainer, IsBadKeysOrSecrets, IsComplete, success_text, IsOwnText, PutsFronts, PutsFrontsOf}
+use Rattle.script_runner.specs.Ends.{Faults, IsEnding, PutsPart, PutsBehind, TellsName, TellsUnsaved, Tells, EndsWith, ShowsThreads, IsBadScript, IsAbsent, IsBadContainer, IsBadLength, IsComplete, success_text, IsOwnText, PutsFronts, PutsFrontsOf}
 use Rattle.script_runner.specs.Threads.{ThreadsOf}
 use Rattle.script_runner.specs.Commanded.{Outputs, Puts, PutsWant, DoesCommand}
 use Rattle.script_runner.proofs.Asked.{asks}
@@ -62,7 +62,7 @@ container_of contents c order e (BadContainer place b is) s = b
 container_of contents c order e (BadLength b is) s = absurd (omega (arith, is, s))
 container_of contents c order e (Success r) s = absurd (let t = ap (λ (x : Ended). x.status) r.is in let z = success_zero r.command r.script (handed_held contents r.command) order in omega (arith, t, z, s))
 
-keys_of : (contents : List ℕ → Option (List ℕ)) (c : Option CommandSeen) (order : List ℕ) (e : Ended) → Due contents c order e → e.status ≡ 7 → IsBadKeysOrSecrets contents c
+keys_of : (contents : List ℕ → Option (List ℕ)) (c : Option CommandSeen) (order : List ℕ) (e : Ended) → Due contents c order e → e.status ≡ 7 → IsBadLength contents c
 keys_of contents c order e (Usage none is) s = absurd (let t = ap (λ (x : Ended). x.status) is in omega (arith, t, s))
 keys_of contents c order e (Absent name a is) s = absurd (let t = ap (λ (x : Ended). x.status) is in omega (arith, t, s))
 keys_of contents c order e (BadScript line reason b is) s = absurd (let t = ap (λ (x : Ended). x.status) is in omega (arith, t, s))
@@ -210,7 +210,7 @@ module _ (before after : Faults) (contents : List ℕ → Option (List ℕ)) (c 
   pub bad_container : status ≡ 6 → EndsWith before after contents c old new status → IsBadContainer contents c
   bad_container six h = let (e, order, d, own) = due_at 6 (λ q. omega (arith, q)) (λ q. omega (arith, q)) (λ q. omega (arith, q)) six h in container_of contents c order e d own
 
-  pub bad_length : status ≡ 7 → EndsWith before after contents c old new status → IsBadKeysOrSecrets contents c
+  pub bad_length : status ≡ 7 → EndsWith before after contents c old new status → IsBadLength contents c
   bad_length seven h = let (e, order, d, own) = due_at 7 (λ q. omega (arith, q)) (λ q. omega (arith, q)) (λ q. omega (arith, q)) seven h in keys_of contents c order e d own
 
   pub unread : status ≡ 3 → EndsWith before after contents c old new status → Rose before.reads after.reads ⊎ IsAbsent contents c

@@ -1,25 +1,27 @@
 -- What the call's histories say of each status, and what changes.
-use Rattle.std.proofs.Common.{◌≡◌, ◌≢◌, ◌⊎◌, inl, inr, refl, sym, ◌∙◌, ap, subst, ℕ, List, [], ◌∷◌, ◌++◌, append-nil, append_assoc, length, ◌≤◌, Option, Some, None, IfSome, IfNone, Result, Ok, Err, true, false, ◌==◌, arith}
+use Rattle.std.proofs.Common.{◌≡◌, ◌≢◌, ◌⊎◌, inl, inr, refl, sym, ◌∙◌, ap, subst, ℕ, List, [], ◌∷◌, ◌++◌, append-nil, append_assoc, length, ◌≤◌, Bool, Option, Some, None, IfSome, IfNone, Result, Ok, Err, true, false, ◌==◌, arith}
 use Rattle.std.proofs.lemmas.Bool.Decides.{eqb_tells}
 use Rattle.bundle_store.specs.declared.outside.PutFault.{PutFault}
 use Rattle.bundle_store.specs.declared.outside.PutFault.TheVariants as put
 use Rattle.bundle_store.specs.Outside.{Rose, Gains}
 use Rattle.bundle_store.specs.History.{Loaded, Put}
+use Rattle.script_text.specs.Seen.{ScriptSeen}
+use Rattle.script_text.specs.Needs.{needs_keys, needs_report_key}
 use Rattle.command_files.specs.Commands.{NamedSeen, CommandSeen, Check, named_of}
 use Rattle.command_files.specs.declared.inputs.InputFault.{InputFault}
 use Rattle.command_files.specs.declared.inputs.InputFault.TheVariants as fault
 use Rattle.command_files.specs.Inputs.{Reads}
-use Rattle.script_runner.specs.Ending.{ToSave, Ended, memory_end, keys_end, secrets_end, unwritten_end, success_end, ending_of}
+use Rattle.script_runner.specs.Ending.{ToSave, Ended, memory_end, keys_end, secrets_end, report_key_end, unwritten_end, success_end, ending_of}
 use Rattle.script_runner.specs.Saving.{Writes, AllSaved, out_names}
-use Rattle.script_runner.specs.Ends.{Faults, ReadCause, WriteCause, EndsWith, OneRun, ShowsThreads, IsBadScript, IsBadContainer, IsBadKeysOrSecrets, IsComplete, PutsFrontsOf}
+use Rattle.script_runner.specs.Ends.{Faults, ReadCause, WriteCause, EndsWith, OneRun, ShowsThreads, IsBadScript, IsBadContainer, IsBadLength, IsComplete, PutsFrontsOf}
 use Rattle.script_runner.specs.Threads.{ThreadsOf}
-use Rattle.script_runner.specs.Done.{PutsOnce, PutsText, HoldsOfRun, PutsRun, PutsAndSaved, PutsUsage, PutsFault, PutsName, PutsPlace, PutsLength, before_keys, before_secrets, PutsKeysOrSecrets, PutsThreads, PutsLost, PutsMemory, SavesNothing, ChangesNothing, SavesFront, KeepsOrSaves}
+use Rattle.script_runner.specs.Done.{PutsOnce, PutsText, HoldsOfRun, PutsRun, PutsAndSaved, PutsUsage, PutsFault, PutsName, PutsPlace, PutsLength, PutsLacking, before_keys, before_secrets, before_report_key, PutsBadLength, PutsThreads, PutsLost, PutsMemory, SavesNothing, ChangesNothing, SavesFront, KeepsOrSaves}
 use Rattle.script_runner.specs.Promised.{LoadsSome}
 use Rattle.script_runner.proofs.Asked.{asks}
 use Rattle.script_runner.proofs.Loading.{answer_part}
 use Rattle.script_runner.specs.Commanded.{Comes, ComesPart, Outputs, Puts, DoesCommand}
 use Rattle.script_runner.proofs.Closing.{Closing, closing, saved_later, unput, never_zero, Told, Lost, Wanting, Whole, Unsaved, WantingAfter}
-use Rattle.script_runner.proofs.Came.{Came, LengthCame, SomeLength, came, files_few, rose_earlier, Usage, Unread, BadScript, Want, Place, WrongLength, Success}
+use Rattle.script_runner.proofs.Came.{Came, LengthCame, LacksCame, SomeLength, came, files_few, rose_earlier, Usage, Unread, BadScript, Want, Place, WrongLength, Success}
 use Rattle.script_runner.proofs.Told as told
 use Rattle.script_runner.proofs.Endings.{ends_with, some_file, success_zero}
 use Rattle.script_runner.proofs.Endings as endings
@@ -91,15 +93,8 @@ module _ (contents : Option (List ℕ → Option (List ℕ))) (c : Option Comman
     prints = subst (λ (x : Ended). PutsText puts x.text puts') l.is p;
   }
 
-  keys_done : Came contents c r r' e → e.status ≡ 7 → PutsText puts e.text puts' → PutsKeysOrSecrets c r.loads r'.loads puts puts'
-  keys_done (Usage none same is) st p = absurd (let t = ap (λ (x : Ended). x.status) is in omega (arith, t, st))
-  keys_done (Unread k is_c n named before answer loaded u rose is) st p = absurd (let t = ap (λ (x : Ended). x.status) is in omega (arith, t, st))
-  keys_done (BadScript k is_c answer loaded line reason first is) st p = absurd (let t = ap (λ (x : Ended). x.status) is in omega (arith, t, st))
-  keys_done (Want k is_c is) st p = absurd (let t = ap (λ (x : Ended). x.status) is in omega (arith, t, st))
-  keys_done (Place k is_c o has n named answer loaded place wrong is) st p = absurd (let t = ap (λ (x : Ended). x.status) is in omega (arith, t, st))
-  keys_done (WrongLength (inl l) seven none) st p = inl (length_done (λ n. n.keys) before_keys 64 fault.Keys keys_end l p)
-  keys_done (WrongLength (inr (inl l)) seven none) st p = inr (inl (length_done (λ n. n.secrets) before_secrets 4096 fault.Secrets secrets_end l p))
-  keys_done (WrongLength (inr (inr l)) seven none) st p = inr (inr (record {
+  lacking_done : (file : NamedSeen → Option (List ℕ)) (needs_file : ScriptSeen → Bool) (told : Ended) → LacksCame file needs_file told c r r' e → PutsText puts e.text puts' → PutsLacking file needs_file told c r.loads r'.loads puts puts'
+  lacking_done file needs_file told l p = record {
     command = l.command;
     read_as = l.read_as;
     options = l.options;
@@ -111,8 +106,20 @@ module _ (contents : Option (List ℕ → Option (List ℕ))) (c : Option Comman
     needs = l.needs;
     unnamed = l.unnamed;
     prints = subst (λ (x : Ended). PutsText puts x.text puts') l.is p;
-  }))
-  keys_done (Success k is_c given loaded s reads handed out order is_order is threads) st p = absurd (let t = ap (λ (x : Ended). x.status) is in let z = success_zero k s handed order in omega (arith, t, z, st))
+  }
+
+  length_put : Came contents c r r' e → e.status ≡ 7 → PutsText puts e.text puts' → PutsBadLength c r.loads r'.loads puts puts'
+  length_put (Usage none same is) st p = absurd (let t = ap (λ (x : Ended). x.status) is in omega (arith, t, st))
+  length_put (Unread k is_c n named before answer loaded u rose is) st p = absurd (let t = ap (λ (x : Ended). x.status) is in omega (arith, t, st))
+  length_put (BadScript k is_c answer loaded line reason first is) st p = absurd (let t = ap (λ (x : Ended). x.status) is in omega (arith, t, st))
+  length_put (Want k is_c is) st p = absurd (let t = ap (λ (x : Ended). x.status) is in omega (arith, t, st))
+  length_put (Place k is_c o has n named answer loaded place wrong is) st p = absurd (let t = ap (λ (x : Ended). x.status) is in omega (arith, t, st))
+  length_put (WrongLength (inl l) seven none) st p = inl (length_done (λ n. n.keys) before_keys 64 fault.Keys keys_end l p)
+  length_put (WrongLength (inr (inl l)) seven none) st p = inr (inl (length_done (λ n. n.secrets) before_secrets 4096 fault.Secrets secrets_end l p))
+  length_put (WrongLength (inr (inr (inl l))) seven none) st p = inr (inr (inl (length_done (λ n. n.report_key) before_report_key 48 fault.ReportKey report_key_end l p)))
+  length_put (WrongLength (inr (inr (inr (inl l)))) seven none) st p = inr (inr (inr (inl (lacking_done (λ n. n.keys) (λ s. needs_keys s.calls) keys_end l p))))
+  length_put (WrongLength (inr (inr (inr (inr l)))) seven none) st p = inr (inr (inr (inr (lacking_done (λ n. n.report_key) (λ s. needs_report_key s.codes) report_key_end l p))))
+  length_put (Success k is_c given loaded s reads handed out order is_order is threads) st p = absurd (let t = ap (λ (x : Ended). x.status) is in let z = success_zero k s handed order in omega (arith, t, z, st))
 
   memory_due : Came contents c r r' e → e.status ≡ 5 → e.text ≡ memory_end.text
   memory_due (Usage none same is) st = absurd (let t = ap (λ (x : Ended). x.status) is in omega (arith, t, st))
@@ -380,7 +387,9 @@ usage_status contents c r r' e none (WrongLength which seven no_file) = absurd (
     no_length : SomeLength c r r' e → ⊥
     no_length (inl l) = let q = l.read_as in cc
     no_length (inr (inl l)) = let q = l.read_as in cc
-    no_length (inr (inr l)) = let q = l.read_as in cc
+    no_length (inr (inr (inl l))) = let q = l.read_as in cc
+    no_length (inr (inr (inr (inl l)))) = let q = l.read_as in cc
+    no_length (inr (inr (inr (inr l)))) = let q = l.read_as in cc
 usage_status contents c r r' e none (Success k is_c given loaded s reads handed out order is_order is threads) = absurd (cc)
 
 if_some : {P Q : (List ℕ → Option (List ℕ)) → Type 0} (o : Option (List ℕ → Option (List ℕ))) → ((k : List ℕ → Option (List ℕ)) → P k → Q k) → IfSome o P → IfSome o Q
@@ -442,8 +451,8 @@ module _ (contents : Option (List ℕ → Option (List ℕ))) (c : Option Comman
   pub put_place : Does → status ≡ 6 → PutsPlace c r.loads r'.loads o.puts o'.puts
   put_place d s = let (e, m, own, text) = done_at 6 (λ q. omega (arith, q)) (λ q. omega (arith, q)) (λ q. omega (arith, q)) s d in place_done contents c r r' e o.puts o'.puts m own text
 
-  pub put_keys : Does → status ≡ 7 → PutsKeysOrSecrets c r.loads r'.loads o.puts o'.puts
-  put_keys d s = let (e, m, own, text) = done_at 7 (λ q. omega (arith, q)) (λ q. omega (arith, q)) (λ q. omega (arith, q)) s d in keys_done contents c r r' e o.puts o'.puts m own text
+  pub put_length : Does → status ≡ 7 → PutsBadLength c r.loads r'.loads o.puts o'.puts
+  put_length d s = let (e, m, own, text) = done_at 7 (λ q. omega (arith, q)) (λ q. omega (arith, q)) (λ q. omega (arith, q)) s d in length_put contents c r r' e o.puts o'.puts m own text
 
   pub put_lost : HoldsOfRuns → Does → status ≡ 4 → PutsLost c r.loads r'.loads w w' o.puts o'.puts
   put_lost holds (inl (e, comes, p)) s = lost_done names e (few_of e comes) w w' o o' status holds contents c r r' (came contents c r r' e comes) s (closing e w w' o o' status p)
@@ -467,14 +476,16 @@ module _ (contents : Option (List ℕ → Option (List ℕ))) (c : Option Comman
           let none : named_of (Check name) ≡ Some n = subst (λ (x : CommandSeen). named_of x ≡ Some n) (sym same) has in
           cc
 
-      no_seven : PutsKeysOrSecrets c r.loads r'.loads o.puts o'.puts → ⊥
+      no_seven : PutsBadLength c r.loads r'.loads o.puts o'.puts → ⊥
       no_seven (inl q) = no_files q.command q.options q.read_as q.has
       no_seven (inr (inl q)) = no_files q.command q.options q.read_as q.has
-      no_seven (inr (inr q)) = no_files q.command q.options q.read_as q.has
+      no_seven (inr (inr (inl q))) = no_files q.command q.options q.read_as q.has
+      no_seven (inr (inr (inr (inl q)))) = no_files q.command q.options q.read_as q.has
+      no_seven (inr (inr (inr (inr q)))) = no_files q.command q.options q.read_as q.has
 
       by : (((status == 6) ≡ true) × (status ≡ 6)) ⊎ (((status == 6) ≡ false) × (status ≢ 6)) → (((status == 7) ≡ true) × (status ≡ 7)) ⊎ (((status == 7) ≡ false) × (status ≢ 7)) → status ≤ 5
       by (inl six) y = absurd (let q = put_place d six.1 in no_files q.command q.options q.read_as q.has)
-      by (inr not_six) (inl seven) = absurd (no_seven (put_keys d seven.1))
+      by (inr not_six) (inl seven) = absurd (no_seven (put_length d seven.1))
       by (inr not_six) (inr not_seven) = omega (arith, few, not_six.1, not_seven.1)
 
   abbrev Ends : (List ℕ → Option (List ℕ)) → Type 0
@@ -506,8 +517,8 @@ module _ (contents : Option (List ℕ → Option (List ℕ))) (c : Option Comman
   pub told_container : Does → status ≡ 6 → IfSome contents (λ k. IsBadContainer k c)
   told_container d s = if_some {P = Ends} {Q = λ k. IsBadContainer k c} contents (λ k h. endings.bad_container before after k c o.told o'.told status s h) (all_ends d)
 
-  pub told_keys : Does → status ≡ 7 → IfSome contents (λ k. IsBadKeysOrSecrets k c)
-  told_keys d s = if_some {P = Ends} {Q = λ k. IsBadKeysOrSecrets k c} contents (λ k h. endings.bad_length before after k c o.told o'.told status s h) (all_ends d)
+  pub told_length : Does → status ≡ 7 → IfSome contents (λ k. IsBadLength k c)
+  told_length d s = if_some {P = Ends} {Q = λ k. IsBadLength k c} contents (λ k h. endings.bad_length before after k c o.told o'.told status s h) (all_ends d)
 
   pub told_fronts : Does → (status ≡ 4) ⊎ (status ≡ 5) → IfSome contents (λ k. PutsFrontsOf k c o.told status o'.told)
   told_fronts d s =

@@ -43,7 +43,7 @@ module _ (access : AccessesAreOwn) (worlds : BlindLaws) (image : ImageLaw) (carr
       put_fault = past.put_fault contents c r r' w w' o o' status d;
       put_name = past.put_name contents c r r' w w' o o' status d;
       put_place = past.put_place contents c r r' w w' o o' status d;
-      put_keys = past.put_keys contents c r r' w w' o o' status d;
+      put_length = past.put_length contents c r r' w w' o o' status d;
       put_lost = past.put_lost contents c r r' w w' o o' status (blind.holds-of-run worlds access image carrying) d;
       put_memory = past.put_memory contents c r r' w w' o o' status (blind.holds-of-run worlds access image carrying) d;
       read = past.unread_cause contents c r r' w w' o o' status d;
@@ -72,7 +72,7 @@ module _ (access : AccessesAreOwn) (worlds : BlindLaws) (image : ImageLaw) (carr
     complete = past.told_complete (Some held) c r r' w w' o o' status d;
     bad = past.told_bad (Some held) c r r' w w' o o' status d;
     container = past.told_container (Some held) c r r' w w' o o' status d;
-    keys = past.told_keys (Some held) c r r' w w' o o' status d;
+    wrong_length = past.told_length (Some held) c r r' w w' o o' status d;
     fronts = past.told_fronts (Some held) c r r' w w' o o' status d;
   }
 

@@ -23,9 +23,9 @@ same-file : (name : Option (List ℕ)) (bytes told : List ℕ) → bytes ≡ whe
 same-file None bytes told h = refl
 same-file (Some n) bytes told h = ap (file_named (Some n)) h
 
--- these secret words, these two keys and these bundles
-abbrev pub held : (secrets forward backward : List ℕ) → List BundleSeen → HandedOut
-held secrets forward backward bundles = record { secrets = slice_index secrets; keys = record { forward = forward; backward = backward }; bundles = bundles }
+-- these secret words, these two keys, these bundles and this report key
+abbrev pub held : (secrets forward backward : List ℕ) → List BundleSeen → (report_key : List ℕ) → HandedOut
+held secrets forward backward bundles report_key = record { secrets = slice_index secrets; keys = record { forward = forward; backward = backward }; bundles = bundles; report_key = report_key }
 
 -- what a run is given by words and by bundles that were opened
 abbrev pub given_words : List ℕ → List SlotIncoming → Given
@@ -33,15 +33,15 @@ given_words secrets arrived = record { secrets = secrets_in secrets; bundles = a
 
 abbrev TellsRun : NamedSeen → ScriptSeen → HandedOut → List ℕ → Texts → Type 0
 TellsRun n s handed order t =
-    TellAll n.out_bundles n.guest_out (host_text (opening_by handed s) order) (bundles_text handed.keys.forward handed.keys.backward (opening_by handed s) order) (guest_text (opening_by handed s) order) t
+    TellAll n.out_bundles n.guest_out (host_text (opening_by handed s) order) (bundles_text handed.keys.forward handed.keys.backward (opening_by handed s) order) (guest_text handed.report_key (opening_by handed s) order) t
 
 -- an ending of these texts is the run's
 text-ends : (n : NamedSeen) (s : ScriptSeen) (handed : HandedOut) (order : List ℕ) (t : Texts) → TellsRun n s handed order t → texts_end n t ≡ run_end n s handed order
 text-ends n s handed order t h =
     let o : Opening = opening_by handed s in
     let made : List ℕ = bundles_text handed.keys.forward handed.keys.backward o order in
-    let files : both_files n.out_bundles n.guest_out t.container.items t.guest.items ≡ both_files n.out_bundles n.guest_out made (guest_text o order) =
-    λ i. same-file n.out_bundles t.container.items made h.1 i ++ same-file n.guest_out t.guest.items (guest_text o order) h.2 i in
+    let files : both_files n.out_bundles n.guest_out t.container.items t.guest.items ≡ both_files n.out_bundles n.guest_out made (guest_text handed.report_key o order) =
+    λ i. same-file n.out_bundles t.container.items made h.1 i ++ same-file n.guest_out t.guest.items (guest_text handed.report_key o order) h.2 i in
     λ i. record { status = 0; text = h.0 i; files = files i }
 
 -- a replay's texts are those of the run under its schedule
@@ -49,18 +49,18 @@ pub replay-ends : (n : NamedSeen) (s : ScriptSeen) (handed : HandedOut) (t : Tex
 replay-ends n s handed t h = (s.schedule, refl, text-ends n s handed s.schedule t h, tt)
 
 -- those of threads are those of the run under the order of what they made
-pub threads-end : (n : NamedSeen) (s : ScriptSeen) (handed : HandedOut) (t : Texts) → AreOfThreads (opening_by handed s) handed.keys.forward handed.keys.backward n.out_bundles n.guest_out t → EndsRun (Run n) n s handed (texts_end n t)
+pub threads-end : (n : NamedSeen) (s : ScriptSeen) (handed : HandedOut) (t : Texts) → AreOfThreads (opening_by handed s) handed.keys.forward handed.keys.backward handed.report_key n.out_bundles n.guest_out t → EndsRun (Run n) n s handed (texts_end n t)
 threads-end n s handed t threads = (order threads.made, threads.processors, text-ends n s handed (order threads.made) t (threads.each threads.made threads.table threads.ordered), (t, threads, refl, refl))
 
 -- what is given is what the inputs hand out
-module _ (n : NamedSeen) (s : ScriptSeen) (secrets forward backward : List ℕ) (bundles : List BundleSeen) (arrived : List SlotIncoming) (opened : arrived ≡ map (incoming_in forward backward) bundles) (t : Texts) where
-  pub replay-given : TellAll n.out_bundles n.guest_out (host_text (opening_of (given_words secrets arrived) s) s.schedule) (bundles_text forward backward (opening_of (given_words secrets arrived) s) s.schedule) (guest_text (opening_of (given_words secrets arrived) s) s.schedule) t
-      → EndsRun (Replay n) n s (held secrets forward backward bundles) (texts_end n t)
+module _ (n : NamedSeen) (s : ScriptSeen) (secrets forward backward : List ℕ) (bundles : List BundleSeen) (arrived : List SlotIncoming) (opened : arrived ≡ map (incoming_in forward backward) bundles) (report_key : List ℕ) (t : Texts) where
+  pub replay-given : TellAll n.out_bundles n.guest_out (host_text (opening_of (given_words secrets arrived) s) s.schedule) (bundles_text forward backward (opening_of (given_words secrets arrived) s) s.schedule) (guest_text report_key (opening_of (given_words secrets arrived) s) s.schedule) t
+      → EndsRun (Replay n) n s (held secrets forward backward bundles report_key) (texts_end n t)
   replay-given h =
-      replay-ends n s (held secrets forward backward bundles) t
-      (subst (λ (x : List SlotIncoming). TellAll n.out_bundles n.guest_out (host_text (opening_of (given_words secrets x) s) s.schedule) (bundles_text forward backward (opening_of (given_words secrets x) s) s.schedule) (guest_text (opening_of (given_words secrets x) s) s.schedule) t) opened h)
+      replay-ends n s (held secrets forward backward bundles report_key) t
+      (subst (λ (x : List SlotIncoming). TellAll n.out_bundles n.guest_out (host_text (opening_of (given_words secrets x) s) s.schedule) (bundles_text forward backward (opening_of (given_words secrets x) s) s.schedule) (guest_text report_key (opening_of (given_words secrets x) s) s.schedule) t) opened h)
 
-  pub threads-given : AreOfThreads (opening_of (given_words secrets arrived) s) forward backward n.out_bundles n.guest_out t → EndsRun (Run n) n s (held secrets forward backward bundles) (texts_end n t)
+  pub threads-given : AreOfThreads (opening_of (given_words secrets arrived) s) forward backward report_key n.out_bundles n.guest_out t → EndsRun (Run n) n s (held secrets forward backward bundles report_key) (texts_end n t)
   threads-given threads =
-      threads-end n s (held secrets forward backward bundles) t
-      (subst (λ (x : List SlotIncoming). AreOfThreads (opening_of (given_words secrets x) s) forward backward n.out_bundles n.guest_out t) opened threads)
+      threads-end n s (held secrets forward backward bundles report_key) t
+      (subst (λ (x : List SlotIncoming). AreOfThreads (opening_of (given_words secrets x) s) forward backward report_key n.out_bundles n.guest_out t) opened threads)

@@ -9,7 +9,7 @@ use Rattle.flat_core.specs.AccessLaw.{IsOwnAccess}
 
 -- Wherever an event of the run under a schedule, with a front of the run's events before it, is a guest's access to its private
 -- memory, it reaches a private page of its own TD, which the TD's secure EPT names at that GPA page; a load gives the word that
--- the guest knows from its own events, and a store leaves it its register's.
+-- the guest knows from events of its TD, and a store leaves it its register's.
 abbrev pub OwnAccesses : Opening → List ℕ → Type 0
 OwnAccesses o schedule = (front back : List ℕ) (p t v r gpa page : ℕ) (access : Access) → schedule ++ to_the_end 0 o.calls ≡ front ++ p ∷ back
     → let s = reached o None front in

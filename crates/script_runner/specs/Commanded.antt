@@ -1,11 +1,11 @@
--- What the words come to, a command on a script with the files that its options name, a soak, or the check of a report: what is loaded, put and saved.
+-- What the words come to, a command on a script with the files that its options name, a soak, or the check of a report: what is
+-- loaded, put and saved.
 use Rattle.std.specs.Prelude.{◌≡◌, ◌≢◌, ◌⊎◌, ℕ, ◌^◌, ◌≤◌, List, [], ◌∷◌, slice_index, Option, Some, None, Result, Ok, Err}
 use Rattle.std.specs.Global.{Vec}
 use Rattle.script_text.specs.declared.faults.Reason.TheVariants.{Length}
 use Rattle.script_text.specs.declared.faults.ScriptFault.{ScriptFault}
 use Rattle.script_text.specs.Reading.{read_of}
 use Rattle.script_text.specs.Seen.{ScriptSeen}
-use Rattle.script_text.specs.Needs.{needs_keys}
 use Rattle.bundle_store.specs.declared.outside.LoadFault.{LoadFault}
 use Rattle.bundle_store.specs.declared.outside.LoadFault.TheVariants as load
 use Rattle.bundle_store.specs.declared.outside.SaveFault.{SaveFault}
@@ -24,7 +24,7 @@ use Rattle.report_core.specs.declared.reports.ReportFault.{ReportFault}
 use Rattle.report_checks.specs.declared.checked.CheckFault.{CheckFault}
 use Rattle.report_checks.specs.declared.checked.CheckFault.TheVariants as check
 use Rattle.report_checks.specs.Checked.{ChecksFiles}
-use Rattle.script_runner.specs.Ending.{ToSave, Ended, HandedOut, keys_or_none, usage_end, bad_end, unread_end, memory_end, run_end, check_end, soak_end, verdict_end, fault_end, container_end, keys_end, secrets_end, report_key_end, unwritten_end, input_name, IsOrderOf}
+use Rattle.script_runner.specs.Ending.{ToSave, Ended, HandedOut, keys_or_none, report_key_or_none, needs_of, usage_end, bad_end, unread_end, memory_end, run_end, check_end, soak_end, verdict_end, fault_end, container_end, keys_end, secrets_end, report_key_end, unwritten_end, input_name, IsOrderOf}
 use Rattle.script_runner.specs.Saving.{Writes, Saves}
 use Rattle.script_runner.specs.Threads.{ThreadsOf}
 use Rattle.script_runner.specs.Brings.{HandsWords}
@@ -39,7 +39,7 @@ EndsRun c n s handed e = (order : List ℕ) × IsOrderOf c s order × (e ≡ run
 
 -- what inputs hand out
 abbrev pub handed_in : Inputs → HandedOut
-handed_in inputs = record { secrets = slice_index inputs.secrets.items; keys = keys_or_none inputs.keys; bundles = inputs.bundles.items }
+handed_in inputs = record { secrets = slice_index inputs.secrets.items; keys = keys_or_none inputs.keys; bundles = inputs.bundles.items; report_key = report_key_or_none inputs.report_key }
 
 -- a script is run where the inputs have no fault, and else that fault is told; want of memory is no ending
 abbrev pub InputsEnd : CommandSeen → NamedSeen → ScriptSeen → Result Inputs InputFault → Ended → Type 0
@@ -48,11 +48,12 @@ InputsEnd c n s (Err (fault.Unread i)) e = e ≡ unread_end (input_name n i)
 InputsEnd c n s (Err (fault.Container place)) e = e ≡ container_end place
 InputsEnd c n s (Err fault.Keys) e = e ≡ keys_end
 InputsEnd c n s (Err fault.Secrets) e = e ≡ secrets_end
+InputsEnd c n s (Err fault.ReportKey) e = e ≡ report_key_end
 InputsEnd c n s (Err fault.OutOfMemory) e = ⊥
 
 -- the other inputs are loaded for a run
 abbrev pub NamedEnd : Option (List ℕ → Option (List ℕ)) → CommandSeen → NamedSeen → ScriptSeen → Reads → Reads → Ended → Type 0
-NamedEnd contents c n s old new e = (r : Result Inputs InputFault) × TakesInputs contents (needs_keys s.calls) n old new r × InputsEnd c n s r e
+NamedEnd contents c n s old new e = (r : Result Inputs InputFault) × TakesInputs contents (needs_of s) n old new r × InputsEnd c n s r e
 
 -- check loads nothing else
 abbrev pub ScriptEnd : Option (List ℕ → Option (List ℕ)) → CommandSeen → ScriptSeen → Reads → Reads → Ended → Type 0
@@ -81,7 +82,7 @@ pub record Reaches (contents : Option (List ℕ → Option (List ℕ))) (c : Com
 
 -- the inputs of a script were loaded, of which check has none
 abbrev pub TakesSome : Option (List ℕ → Option (List ℕ)) → NamedSeen → ScriptSeen → Reads → Reads → Type 0
-TakesSome contents n s old new = (r : Result Inputs InputFault) × TakesInputs contents (needs_keys s.calls) n old new r
+TakesSome contents n s old new = (r : Result Inputs InputFault) × TakesInputs contents (needs_of s) n old new r
 
 abbrev pub InputsPart : Option (List ℕ → Option (List ℕ)) → CommandSeen → ScriptSeen → Reads → Reads → Type 0
 InputsPart contents (Replay n) s old new = TakesSome contents n s old new

@@ -1,13 +1,12 @@
 -- What one call loads, puts and saves, by the histories alone: of files and outputs that tell what they hold, and of those that don't.
-use Rattle.std.specs.Prelude.{◌≡◌, ◌≢◌, ◌⊎◌, ℕ, ◌+◌, List, [], ◌∷◌, ◌++◌, true, Option, Some, None, Result, Ok, Err, ◌≤◌, length}
+use Rattle.std.specs.Prelude.{◌≡◌, ◌≢◌, ◌⊎◌, ℕ, ◌+◌, List, [], ◌∷◌, ◌++◌, Bool, true, Option, Some, None, Result, Ok, Err, ◌≤◌, length}
 use Rattle.std.specs.Global.{Vec}
-use Rattle.td_words.specs.Seen.{BundleSeen}
 use Rattle.script_text.specs.declared.faults.Reason.{Reason}
 use Rattle.script_text.specs.declared.faults.Reason.TheVariants.{Length}
 use Rattle.script_text.specs.declared.faults.ScriptFault.TheVariants.{Bad}
 use Rattle.script_text.specs.Reading.{read_of}
 use Rattle.script_text.specs.Seen.{ScriptSeen}
-use Rattle.script_text.specs.Needs.{needs_keys}
+use Rattle.script_text.specs.Needs.{needs_keys, needs_report_key}
 use Rattle.bundle_store.specs.declared.outside.LoadFault.{LoadFault}
 use Rattle.bundle_store.specs.declared.outside.LoadFault.TheVariants as load
 use Rattle.bundle_store.specs.declared.outside.SaveFault.TheVariants as save
@@ -19,7 +18,7 @@ use Rattle.command_files.specs.declared.inputs.InputFault.{InputFault}
 use Rattle.command_files.specs.declared.inputs.InputFault.TheVariants as fault
 use Rattle.command_files.specs.Commands.{NamedSeen, CommandSeen, named_of, script_name}
 use Rattle.command_files.specs.Inputs.{container_fault, length_fault, secret_word, keys_of}
-use Rattle.script_runner.specs.Ending.{ToSave, Ended, usage_end, bad_end, unread_end, memory_end, container_end, keys_end, secrets_end, unwritten_end, secrets_named, IsOrderOf, success_end, HandedOut, opening_by, no_keys, keys_named, bundles_named}
+use Rattle.script_runner.specs.Ending.{ToSave, Ended, usage_end, bad_end, unread_end, memory_end, container_end, keys_end, secrets_end, report_key_end, unwritten_end, secrets_named, IsOrderOf, success_end, HandedOut, opening_by, no_keys, no_report_key, keys_named, bundles_named, report_key_named}
 use Rattle.script_runner.specs.Saving.{Writes, AllSaved, named_once}
 use Rattle.script_runner.specs.Threads.{ThreadsOf}
 use Rattle.script_runner.specs.Accesses.{OwnAccesses}
@@ -27,7 +26,6 @@ use Rattle.script_runner.specs.Images.{StartsFromPauses}
 use Rattle.script_runner.specs.Brings.{HandsWords, sealed_by, BringsOver}
 use Rattle.script_runner.specs.Blind.{IsBlindRun}
 use Rattle.script_runner.specs.Ends.{IsRead}
-use Rattle.command_files.specs.declared.inputs.KeyBytes.{KeyBytes}
 
 -- ---- histories
 
@@ -53,29 +51,33 @@ PutsText old text new = (answer : Result (Unit {0}) PutFault) × (answer ≢ Err
 
 -- ---- what each status says
 
--- these are the secret words that the last load handed out, under the name of a secrets file; each is 0 where none is named
-abbrev pub AreWordsHandedOut : Option (List ℕ) → (loads loads' : List Loaded) → (ℕ → ℕ) → Type 0
-AreWordsHandedOut None loads loads' secrets = (i : ℕ) → secrets i ≡ 0
-AreWordsHandedOut (Some name) loads loads' secrets = (before : List Loaded) × (given : Vec ℕ) × LoadsOnce (loads ++ before) name (Ok given) loads' × (length given.items ≡ 4096)
-    × ((i : ℕ) → secrets i ≡ secret_word (Some (Ok given)) i)
+-- how many loads come before: the script's, and those of the files in front that are named
+abbrev pub behind_bundles : (bundles : Option (List ℕ)) → ℕ
+behind_bundles bundles = 1 + length (named_once bundles)
 
--- these are the bundles of the container that the load behind the script's handed out; there are none where none is named
-abbrev pub AreBundlesHandedOut : Option (List ℕ) → (loads loads' : List Loaded) → List BundleSeen → Type 0
-AreBundlesHandedOut None loads loads' bundles = bundles ≡ []
-AreBundlesHandedOut (Some name) loads loads' bundles = (given : Vec ℕ) × LoadsBehind 1 loads name (Ok given) loads' × (container_in given.items ≡ Ok bundles)
+abbrev pub behind_keys : (bundles keys : Option (List ℕ)) → ℕ
+behind_keys bundles keys = behind_bundles bundles + length (named_once keys)
 
--- these are the keys that the load behind the script's and the container's handed out; each byte is 0 where no key file is named
-abbrev pub AreKeysHandedOut : (bundles keys : Option (List ℕ)) → (loads loads' : List Loaded) → KeyBytes → Type 0
-AreKeysHandedOut bundles None loads loads' keys = keys ≡ no_keys
-AreKeysHandedOut bundles (Some name) loads loads' keys =
-    (given : Vec ℕ) × LoadsBehind (1 + length (named_once bundles)) loads name (Ok given) loads' × (length given.items ≡ 64) × (keys ≡ keys_of given.items)
+abbrev pub behind_secrets : (bundles keys secrets : Option (List ℕ)) → ℕ
+behind_secrets bundles keys secrets = behind_keys bundles keys + length (named_once secrets)
 
--- these are the secret words, the keys and the bundles that the files of a command handed out, and all are words of 64 bits
-pub record AreHandedOut (c : CommandSeen) (loads loads' : List Loaded) (handed : HandedOut) : Type 0 where
-  pub words : AreWordsHandedOut (secrets_named c) loads loads' handed.secrets
-  pub key_bytes : AreKeysHandedOut (bundles_named c) (keys_named c) loads loads' handed.keys
-  pub bundle_list : AreBundlesHandedOut (bundles_named c) loads loads' handed.bundles
+-- the load behind so many others handed out bytes of which this holds, under the name of a file; where none is named, that is so
+abbrev pub HandsOut : ℕ → Option (List ℕ) → (loads loads' : List Loaded) → (unnamed : Type 0) → (Vec ℕ → Type 0) → Type 0
+HandsOut count None loads loads' unnamed P = unnamed
+HandsOut count (Some name) loads loads' unnamed P = (given : Vec ℕ) × LoadsBehind count loads name (Ok given) loads' × P given
+
+-- These are the bundles of the container, the keys of the key file, the secret words of the secrets file and the report key, as the
+-- loads of these files handed them out; without its file there are no bundles, and each byte and word is 0. All words have 64 bits.
+pub record AreHandedBy (bundles keys secrets report_key : Option (List ℕ)) (loads loads' : List Loaded) (handed : HandedOut) : Type 0 where
+  pub bundle_list : HandsOut 1 bundles loads loads' (handed.bundles ≡ []) (λ given. container_in given.items ≡ Ok handed.bundles)
+  pub key_bytes : HandsOut (behind_bundles bundles) keys loads loads' (handed.keys ≡ no_keys) (λ given. (length given.items ≡ 64) × (handed.keys ≡ keys_of given.items))
+  pub words : HandsOut (behind_keys bundles keys) secrets loads loads' ((i : ℕ) → handed.secrets i ≡ 0) (λ given. (length given.items ≡ 4096) × ((i : ℕ) → handed.secrets i ≡ secret_word (Some (Ok given)) i))
+  pub report_key_bytes : HandsOut (behind_secrets bundles keys secrets) report_key loads loads' (handed.report_key ≡ no_report_key) (λ given. (length given.items ≡ 48) × (handed.report_key ≡ given.items))
   pub fit : HandsWords handed
+
+-- the same of the files of a command
+abbrev pub AreHandedOut : CommandSeen → (loads loads' : List Loaded) → HandedOut → Type 0
+AreHandedOut c loads loads' handed = AreHandedBy (bundles_named c) (keys_named c) (secrets_named c) (report_key_named c) loads loads' handed
 
 -- What holds of the run of a script that a command names, under that order of its events: for run the order is one that threads
 -- can have made, each access of guests to their private memory is to a page of their own, what is put and what is sealed is the
@@ -193,22 +195,18 @@ pub record PutsLength (file : NamedSeen → Option (List ℕ)) (behind : NamedSe
   pub wrong : length_fault count f (Some answer) ≡ Some f
   pub prints : PutsText puts e.text puts'
 
--- the key file is loaded behind the script and the container, the secrets file behind the key file too
+-- the key file is loaded behind the script and the container, the secrets file behind the key file too, and then the report key file
 abbrev pub before_keys : NamedSeen → ℕ
-before_keys n = 1 + length (named_once n.bundles)
+before_keys n = behind_bundles n.bundles
 
 abbrev pub before_secrets : NamedSeen → ℕ
-before_secrets n = before_keys n + length (named_once n.keys)
+before_secrets n = behind_keys n.bundles n.keys
 
--- that is the key file, or the secrets file
-abbrev pub PutsKeys : Option CommandSeen → (loads loads' : List Loaded) → (puts puts' : List Put) → Type 0
-PutsKeys c loads loads' puts puts' = PutsLength (λ n. n.keys) before_keys 64 fault.Keys keys_end c loads loads' puts puts'
+abbrev pub before_report_key : NamedSeen → ℕ
+before_report_key n = behind_secrets n.bundles n.keys n.secrets
 
-abbrev pub PutsSecrets : Option CommandSeen → (loads loads' : List Loaded) → (puts puts' : List Put) → Type 0
-PutsSecrets c loads loads' puts puts' = PutsLength (λ n. n.secrets) before_secrets 4096 fault.Secrets secrets_end c loads loads' puts puts'
-
--- the named script was loaded, a call of it makes a bundle or takes one, and no key file is named, which was put
-pub record PutsNoKeys (c : Option CommandSeen) (loads loads' : List Loaded) (puts puts' : List Put) : Type 0 where
+-- the named script was loaded, and needs a file that no option names, which was put
+pub record PutsLacking (file : NamedSeen → Option (List ℕ)) (needs_file : ScriptSeen → Bool) (e : Ended) (c : Option CommandSeen) (loads loads' : List Loaded) (puts puts' : List Put) : Type 0 where
   pub command : CommandSeen
   pub read_as : c ≡ Some command
   pub options : NamedSeen
@@ -217,12 +215,19 @@ pub record PutsNoKeys (c : Option CommandSeen) (loads loads' : List Loaded) (put
   pub loaded : LoadsFirst loads (script_name command) (Ok given) loads'
   pub script : ScriptSeen
   pub reads : read_of given.items ≡ Ok script
-  pub needs : needs_keys script.calls ≡ true
-  pub unnamed : options.keys ≡ None
-  pub prints : PutsText puts keys_end.text puts'
+  pub needs : needs_file script ≡ true
+  pub unnamed : file options ≡ None
+  pub prints : PutsText puts e.text puts'
 
-abbrev pub PutsKeysOrSecrets : Option CommandSeen → (loads loads' : List Loaded) → (puts puts' : List Put) → Type 0
-PutsKeysOrSecrets c loads loads' puts puts' = PutsKeys c loads loads' puts puts' ⊎ PutsSecrets c loads loads' puts puts' ⊎ PutsNoKeys c loads loads' puts puts'
+-- the key file, the secrets file or the report key file hasn't its length; or the key file is wanting where a call makes a bundle or
+-- takes one, or the report key file where a list of operations has a report
+abbrev pub PutsBadLength : Option CommandSeen → (loads loads' : List Loaded) → (puts puts' : List Put) → Type 0
+PutsBadLength c loads loads' puts puts' =
+    PutsLength (λ n. n.keys) before_keys 64 fault.Keys keys_end c loads loads' puts puts'
+    ⊎ PutsLength (λ n. n.secrets) before_secrets 4096 fault.Secrets secrets_end c loads loads' puts puts'
+    ⊎ PutsLength (λ n. n.report_key) before_report_key 48 fault.ReportKey report_key_end c loads loads' puts puts'
+    ⊎ PutsLacking (λ n. n.keys) (λ s. needs_keys s.calls) keys_end c loads loads' puts puts'
+    ⊎ PutsLacking (λ n. n.report_key) (λ s. needs_report_key s.codes) report_key_end c loads loads' puts puts'
 
 -- Files have what they had behind the saves of the first files of a run, of which at least one more was left. The text of that run
 -- was put, and all of this holds of it.

@@ -12,7 +12,7 @@ use Rattle.script_text.specs.declared.faults.ScriptFault.TheVariants.{Bad, OutOf
 use Rattle.script_text.specs.ReasonText.{reason_text}
 use Rattle.script_text.specs.Reading.{read_of}
 use Rattle.script_text.specs.Seen.{ScriptSeen}
-use Rattle.script_text.specs.Needs.{needs_keys}
+use Rattle.script_text.specs.Needs.{needs_keys, needs_report_key}
 use Rattle.flat_core.specs.Opening.{Opening}
 use Rattle.flat_core.specs.HostText.{host_text}
 use Rattle.flat_core.specs.GuestText.{guest_text}
@@ -27,6 +27,7 @@ use Rattle.command_files.specs.declared.inputs.Input.TheVariants as input
 use Rattle.command_files.specs.declared.inputs.InputFault.{InputFault}
 use Rattle.command_files.specs.declared.inputs.InputFault.TheVariants as fault
 use Rattle.command_files.specs.declared.inputs.KeyBytes.{KeyBytes}
+use Rattle.command_files.specs.declared.inputs.Needs.{Needs}
 use Rattle.command_files.specs.Commands.{NamedSeen, CommandSeen, Replay, Run, Check, script_name}
 use Rattle.command_files.specs.Inputs.{place_fault, first, bundles_read, keys_of}
 use Rattle.report_core.specs.declared.facts.Facts.{Facts}
@@ -64,7 +65,7 @@ ending_seen e = record {
 -- texts, each by its status
 
 abbrev pub usage_end : Ended
-usage_end = record { status = 1; text = codes "usage: tdx replay|run SCRIPT [--bundles F] [--keys F] [--secrets F] [--out-bundles F] [--guest-out F] | tdx check SCRIPT | tdx soak N | tdx verify FILE KEY" ++ 10 ∷ []; files = [] }
+usage_end = record { status = 1; text = codes "usage: tdx replay|run SCRIPT [--bundles F] [--keys F] [--secrets F] [--out-bundles F] [--guest-out F] [--report-key F] | tdx check SCRIPT | tdx soak N | tdx verify FILE KEY" ++ 10 ∷ []; files = [] }
 
 abbrev pub bad_end : ℕ → Reason → Ended
 bad_end line reason = record { status = 2; text = codes "script line " ++ (decimal line ++ (codes " " ++ (reason_text reason ++ 10 ∷ []))); files = [] }
@@ -81,12 +82,13 @@ IsOrderOf (Replay n) s order = order ≡ s.schedule
 IsOrderOf (Run n) s order = All (λ p. p < length s.calls) order
 IsOrderOf (Check name) s order = Unit {0}
 
--- what the input files hand out to a run: the secret words, the keys from source to destination and back, and the bundles of
--- the container, each in its slot and sealed
+-- what the input files hand out to a run: the secret words, the keys from source to destination and back, the bundles of
+-- the container, each in its slot and sealed, and the report key
 pub record HandedOut : Type 0 where
   pub secrets : ℕ → ℕ
   pub keys : KeyBytes
   pub bundles : List BundleSeen
+  pub report_key : List ℕ
 
 -- what a run is given by them: the secret words, and in each slot its bundle, opened under these keys
 abbrev pub given_by : HandedOut → Given
@@ -104,13 +106,21 @@ abbrev pub keys_or_none : Option KeyBytes → KeyBytes
 keys_or_none None = no_keys
 keys_or_none (Some keys) = keys
 
+-- without a report key file each byte of the report key is 0; no guest of a run reports then
+abbrev pub no_report_key : List ℕ
+no_report_key = replicate 48 0
+
+abbrev pub report_key_or_none : Option (List ℕ) → List ℕ
+report_key_or_none None = no_report_key
+report_key_or_none (Some key) = key
+
 -- a script's run with what is handed out, under that order; the container has its bundles, sealed under these keys, and the
--- guest file what its guests noted
+-- guest file what its guests noted, with the reports under the report key
 abbrev pub run_end : NamedSeen → ScriptSeen → HandedOut → (order : List ℕ) → Ended
 run_end n s handed order = record {
   status = 0;
   text = host_text (opening_by handed s) order;
-  files = both_files n.out_bundles n.guest_out (bundles_text handed.keys.forward handed.keys.backward (opening_by handed s) order) (guest_text (opening_by handed s) order);
+  files = both_files n.out_bundles n.guest_out (bundles_text handed.keys.forward handed.keys.backward (opening_by handed s) order) (guest_text handed.report_key (opening_by handed s) order);
 }
 
 -- how many calls these lists have, and how many guest operations
@@ -161,7 +171,7 @@ keys_end = record { status = 7; text = codes "key file" ++ 10 ∷ []; files = []
 abbrev pub secrets_end : Ended
 secrets_end = record { status = 7; text = codes "secrets file" ++ 10 ∷ []; files = [] }
 
--- the report key file hasn't its length
+-- the report key file hasn't its length, or none is named where a guest's list has a report
 abbrev pub report_key_end : Ended
 report_key_end = record { status = 7; text = codes "report key file" ++ 10 ∷ []; files = [] }
 
@@ -179,6 +189,7 @@ abbrev pub input_name : NamedSeen → Input → List ℕ
 input_name n input.Bundles = name_in n.bundles
 input_name n input.Keys = name_in n.keys
 input_name n input.Secrets = name_in n.secrets
+input_name n input.ReportKey = name_in n.report_key
 
 -- what an input has, where it is named; None in it says that the name isn't there
 abbrev pub held : (List ℕ → Option (List ℕ)) → Option (List ℕ) → Option (Option (List ℕ))
@@ -203,28 +214,42 @@ length_wrong bytes f None = None
 length_wrong bytes f (Some None) = None
 length_wrong bytes f (Some (Some given)) = if length given == bytes then None else Some f
 
--- the key file that is there hasn't 64 bytes, or none is named where keys are needed
-abbrev pub keys_wrong : (needed : Bool) → Option (Option (List ℕ)) → Option InputFault
-keys_wrong needed None = if needed then Some fault.Keys else None
-keys_wrong needed (Some there) = length_wrong 64 fault.Keys (Some there)
+-- the same, or none is named where one is needed
+abbrev pub needed_wrong : ℕ → InputFault → (needed : Bool) → Option (Option (List ℕ)) → Option InputFault
+needed_wrong bytes f needed None = if needed then Some f else None
+needed_wrong bytes f needed (Some there) = length_wrong bytes f (Some there)
 
--- a named input isn't there: the container, else the key file, else the secrets file
-abbrev pub absent_input : (bundles keys secrets : Option (Option (List ℕ))) → Option InputFault
-absent_input bundles keys secrets = first (absent_fault input.Bundles bundles) (first (absent_fault input.Keys keys) (absent_fault input.Secrets secrets))
+-- the key file has 64 bytes, and the report key file 48
+abbrev pub keys_wrong : (needed : Bool) → Option (Option (List ℕ)) → Option InputFault
+keys_wrong needed there = needed_wrong 64 fault.Keys needed there
+
+abbrev pub report_key_wrong : (needed : Bool) → Option (Option (List ℕ)) → Option InputFault
+report_key_wrong needed there = needed_wrong 48 fault.ReportKey needed there
+
+-- a named input isn't there: the container, else the key file, else the secrets file, else the report key file
+abbrev pub absent_input : (bundles keys secrets report_key : Option (Option (List ℕ))) → Option InputFault
+absent_input bundles keys secrets report_key =
+    first (absent_fault input.Bundles bundles) (first (absent_fault input.Keys keys) (first (absent_fault input.Secrets secrets) (absent_fault input.ReportKey report_key)))
 
 -- one that is there hasn't its form, in the same order
-abbrev pub form_wrong : (needed : Bool) (bundles keys secrets : Option (Option (List ℕ))) → Option InputFault
-form_wrong needed bundles keys secrets = first (container_wrong bundles) (first (keys_wrong needed keys) (length_wrong 4096 fault.Secrets secrets))
+abbrev pub form_wrong : Needs → (bundles keys secrets report_key : Option (Option (List ℕ))) → Option InputFault
+form_wrong needs bundles keys secrets report_key =
+    first (container_wrong bundles) (first (keys_wrong needs.keys keys) (first (length_wrong 4096 fault.Secrets secrets) (report_key_wrong needs.report_key report_key)))
 
 -- the first fault of the inputs: all are there, and then the form of each is tested
-abbrev pub wrong_input : (List ℕ → Option (List ℕ)) → (needed : Bool) → NamedSeen → Option InputFault
-wrong_input contents needed n =
-    first (absent_input (held contents n.bundles) (held contents n.keys) (held contents n.secrets)) (form_wrong needed (held contents n.bundles) (held contents n.keys) (held contents n.secrets))
+abbrev pub wrong_input : (List ℕ → Option (List ℕ)) → Needs → NamedSeen → Option InputFault
+wrong_input contents needs n =
+    first (absent_input (held contents n.bundles) (held contents n.keys) (held contents n.secrets) (held contents n.report_key))
+    (form_wrong needs (held contents n.bundles) (held contents n.keys) (held contents n.secrets) (held contents n.report_key))
 
--- keys are needed where a call of the script makes a bundle or takes one; check has no inputs
+-- keys are needed where a call of the script makes a bundle or takes one, and a report key where a list of its guests has a report
+abbrev pub needs_of : ScriptSeen → Needs
+needs_of s = record { keys = needs_keys s.calls; report_key = needs_report_key s.codes }
+
+-- check has no inputs
 abbrev pub command_wrong : (List ℕ → Option (List ℕ)) → ScriptSeen → CommandSeen → Option InputFault
-command_wrong contents s (Replay n) = wrong_input contents (needs_keys s.calls) n
-command_wrong contents s (Run n) = wrong_input contents (needs_keys s.calls) n
+command_wrong contents s (Replay n) = wrong_input contents (needs_of s) n
+command_wrong contents s (Run n) = wrong_input contents (needs_of s) n
 command_wrong contents s (Check name) = None
 
 -- the secret word of number i of a secrets file that has these bytes; without a file each is 0
@@ -263,12 +288,29 @@ bundles_named (Replay n) = n.bundles
 bundles_named (Run n) = n.bundles
 bundles_named (Check name) = None
 
+-- the report key of a file that has these bytes
+abbrev pub held_report_key : Option (Option (List ℕ)) → List ℕ
+held_report_key None = no_report_key
+held_report_key (Some None) = no_report_key
+held_report_key (Some (Some bytes)) = bytes
+
+-- the report key file that a command names
+abbrev pub report_key_named : CommandSeen → Option (List ℕ)
+report_key_named (Replay n) = n.report_key
+report_key_named (Run n) = n.report_key
+report_key_named (Check name) = None
+
 -- what these files hand out
-abbrev pub held_by : (List ℕ → Option (List ℕ)) → (secrets keys bundles : Option (List ℕ)) → HandedOut
-held_by contents secrets keys bundles = record { secrets = held_word (held contents secrets); keys = held_keys (held contents keys); bundles = held_bundles (held contents bundles) }
+abbrev pub held_by : (List ℕ → Option (List ℕ)) → (secrets keys bundles report_key : Option (List ℕ)) → HandedOut
+held_by contents secrets keys bundles report_key = record {
+  secrets = held_word (held contents secrets);
+  keys = held_keys (held contents keys);
+  bundles = held_bundles (held contents bundles);
+  report_key = held_report_key (held contents report_key);
+}
 
 abbrev pub handed_held : (List ℕ → Option (List ℕ)) → CommandSeen → HandedOut
-handed_held contents c = held_by contents (secrets_named c) (keys_named c) (bundles_named c)
+handed_held contents c = held_by contents (secrets_named c) (keys_named c) (bundles_named c) (report_key_named c)
 
 -- a script is run where its inputs have no fault, which else is told
 abbrev pub inputs_end : NamedSeen → ScriptSeen → HandedOut → (order : List ℕ) → Option InputFault → Ended
@@ -277,10 +319,11 @@ inputs_end n s handed order (Some (fault.Unread i)) = unread_end (input_name n i
 inputs_end n s handed order (Some (fault.Container place)) = container_end place
 inputs_end n s handed order (Some fault.Keys) = keys_end
 inputs_end n s handed order (Some fault.Secrets) = secrets_end
+inputs_end n s handed order (Some fault.ReportKey) = report_key_end
 inputs_end n s handed order (Some fault.OutOfMemory) = memory_end
 
 abbrev pub named_end : (List ℕ → Option (List ℕ)) → NamedSeen → ScriptSeen → (order : List ℕ) → Ended
-named_end contents n s order = inputs_end n s (held_by contents n.secrets n.keys n.bundles) order (wrong_input contents (needs_keys s.calls) n)
+named_end contents n s order = inputs_end n s (held_by contents n.secrets n.keys n.bundles n.report_key) order (wrong_input contents (needs_of s) n)
 
 abbrev pub script_end : (List ℕ → Option (List ℕ)) → CommandSeen → ScriptSeen → (order : List ℕ) → Ended
 script_end contents (Replay n) s order = named_end contents n s order

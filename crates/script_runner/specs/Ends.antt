@@ -1,10 +1,10 @@
 -- What may become of the ending that is due, and why.
-use Rattle.std.specs.Prelude.{◌≡◌, ◌≢◌, ◌<◌, ◌⊎◌, ℕ, ◌^◌, List, [], ◌++◌, length, take, true, Option, Some, None, Ok, Err, ◌==◌, if◌then◌else◌}
+use Rattle.std.specs.Prelude.{◌≡◌, ◌≢◌, ◌<◌, ◌⊎◌, ℕ, ◌^◌, List, [], ◌++◌, length, take, Bool, true, Option, Some, None, Ok, Err, ◌==◌, if◌then◌else◌}
 use Rattle.script_text.specs.declared.faults.Reason.{Reason}
 use Rattle.script_text.specs.declared.faults.ScriptFault.TheVariants.{Bad}
 use Rattle.script_text.specs.Reading.{read_of}
 use Rattle.script_text.specs.Seen.{ScriptSeen}
-use Rattle.script_text.specs.Needs.{needs_keys}
+use Rattle.script_text.specs.Needs.{needs_keys, needs_report_key}
 use Rattle.bundle_store.specs.Outside.{Rose, Gains}
 use Rattle.bundle_store.specs.Containers.{container_in}
 use Rattle.command_files.specs.Commands.{NamedSeen, CommandSeen, Replay, Run, Check, named_of, script_name}
@@ -81,7 +81,8 @@ EndsWith before after contents c old new status =
 -- of 64 bits; the output got just the reply lines of the flat machine's run of the script, with the secret words of the named
 -- file and the bundles of the named container, opened under the keys of the named file, under one order of its events, which for
 -- a replay is the schedule; and then each file that is named was saved, the container with the bundles of that same run, sealed
--- under the same keys, and the guest file with what its guests noted. For check: the output got the script's numbers.
+-- under the same keys, and the guest file with what its guests noted, each report under the key of the named report key file. For
+-- check: the output got the script's numbers.
 pub record OneRun (contents : List ℕ → Option (List ℕ)) (c : Option CommandSeen) (old new : Option (List ℕ)) (written written' : Writes) : Type 0 where
   pub command : CommandSeen
   pub read_as : c ≡ Some command
@@ -120,7 +121,7 @@ pub record IsBadScript (contents : List ℕ → Option (List ℕ)) (c : Option C
 
 -- an input beside the script has that name
 abbrev pub NamesInput : NamedSeen → List ℕ → Type 0
-NamesInput n name = (n.bundles ≡ Some name) ⊎ (n.keys ≡ Some name) ⊎ (n.secrets ≡ Some name)
+NamesInput n name = (n.bundles ≡ Some name) ⊎ (n.keys ≡ Some name) ⊎ (n.secrets ≡ Some name) ⊎ (n.report_key ≡ Some name)
 
 abbrev pub IsInput : CommandSeen → List ℕ → Type 0
 IsInput (Replay n) name = NamesInput n name
@@ -167,8 +168,8 @@ pub record HasWrongLength (file : NamedSeen → Option (List ℕ)) (count : ℕ)
   pub there : contents name ≡ Some bytes
   pub wrong : length bytes ≢ count
 
--- the named script is there, a call of it makes a bundle or takes one, and no key file is named
-pub record LacksKeys (contents : List ℕ → Option (List ℕ)) (c : Option CommandSeen) : Type 0 where
+-- the named script is there and needs a file that no option names
+pub record Lacks (file : NamedSeen → Option (List ℕ)) (needs_file : ScriptSeen → Bool) (contents : List ℕ → Option (List ℕ)) (c : Option CommandSeen) : Type 0 where
   pub command : CommandSeen
   pub read_as : c ≡ Some command
   pub options : NamedSeen
@@ -177,12 +178,18 @@ pub record LacksKeys (contents : List ℕ → Option (List ℕ)) (c : Option Com
   pub there : contents (script_name command) ≡ Some bytes
   pub script : ScriptSeen
   pub reads : read_of bytes ≡ Ok script
-  pub needs : needs_keys script.calls ≡ true
-  pub unnamed : options.keys ≡ None
+  pub needs : needs_file script ≡ true
+  pub unnamed : file options ≡ None
 
--- the key file or the secrets file hasn't its length, or the key file is wanting
-abbrev pub IsBadKeysOrSecrets : (List ℕ → Option (List ℕ)) → Option CommandSeen → Type 0
-IsBadKeysOrSecrets contents c = HasWrongLength (λ n. n.keys) 64 contents c ⊎ HasWrongLength (λ n. n.secrets) 4096 contents c ⊎ LacksKeys contents c
+-- the key file, the secrets file or the report key file hasn't its length; or the key file is wanting where a call makes a bundle or
+-- takes one, or the report key file where a list of operations has a report
+abbrev pub IsBadLength : (List ℕ → Option (List ℕ)) → Option CommandSeen → Type 0
+IsBadLength contents c =
+    HasWrongLength (λ n. n.keys) 64 contents c
+    ⊎ HasWrongLength (λ n. n.secrets) 4096 contents c
+    ⊎ HasWrongLength (λ n. n.report_key) 48 contents c
+    ⊎ Lacks (λ n. n.keys) (λ s. needs_keys s.calls) contents c
+    ⊎ Lacks (λ n. n.report_key) (λ s. needs_report_key s.codes) contents c
 
 -- ---- causes
 

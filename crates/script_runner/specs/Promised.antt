@@ -8,8 +8,8 @@ use Rattle.script_runner.specs.Accesses.{OwnAccesses}
 use Rattle.script_runner.specs.Images.{StartsFromPauses}
 use Rattle.script_runner.specs.Brings.{sealed_by, BringsOver, FileBringsOver}
 use Rattle.script_runner.specs.Saving.{Writes, out_names}
-use Rattle.script_runner.specs.Ends.{Faults, EndsWith, OneRun, IsComplete, IsBadScript, IsBadContainer, IsBadKeysOrSecrets, ShowsThreads, ShowsBlind, ReadCause, WriteCause, PutsFrontsOf}
-use Rattle.script_runner.specs.Done.{PutsRun, PutsAndSaved, PutsThreads, PutsBlind, PutsUsage, PutsFault, PutsName, PutsPlace, PutsKeysOrSecrets, PutsLost, PutsMemory, SavesNothing, ChangesNothing, KeepsOrSaves}
+use Rattle.script_runner.specs.Ends.{Faults, EndsWith, OneRun, IsComplete, IsBadScript, IsBadContainer, IsBadLength, ShowsThreads, ShowsBlind, ReadCause, WriteCause, PutsFrontsOf}
+use Rattle.script_runner.specs.Done.{PutsRun, PutsAndSaved, PutsThreads, PutsBlind, PutsUsage, PutsFault, PutsName, PutsPlace, PutsBadLength, PutsLost, PutsMemory, SavesNothing, ChangesNothing, KeepsOrSaves}
 use Rattle.script_runner.specs.Commanded.{Outputs, ReachesPart}
 
 abbrev pub faults_of : Reads → Writes → Outputs → Faults
@@ -27,7 +27,8 @@ pub record ByHistories (c : Option CommandSeen) (contents : Option (List ℕ →
   pub loads : LoadsSome contents c loaded loaded' status
   -- At status 0 the put was given just the reply lines of the flat machine's run of the script that the first load handed out, or
   -- for check its numbers, and came through; and every output was written, the container with the bundles that that same run
-  -- made, sealed under the keys that were handed out, and the guest file with what its guests noted. The run has the secret words
+  -- made, sealed under the keys that were handed out, and the guest file with what its guests noted, each report being the defined one
+  -- of the facts that its TD has at that act, under the report key that was handed out. The run has the secret words
   -- that were handed out, the bundles of the container that was, opened under those keys, and one order of events: for a replay
   -- the schedule, for a run some order.
   pub put_run : status ≡ 0 → PutsRun c loaded.loads loaded'.loads output.puts output'.puts (Ok tt)
@@ -52,12 +53,13 @@ pub record ByHistories (c : Option CommandSeen) (contents : Option (List ℕ →
   pub put_brings : status ≡ 0 → (run : PutsRun c loaded.loads loaded'.loads output.puts output'.puts (Ok tt)) × BringsOver run.handed run.script run.order (sealed_by run.handed run.script run.order)
   -- At 1 it was given the usage line, and nothing was loaded; at 2 the first fault of what the one load handed out, or that this is
   -- too long; at 3 the name, where the last load handed out nothing; at 6 the place of the first fault of the container that was
-  -- loaded; at 7 that the key file or the secrets file hasn't its length.
+  -- loaded; at 7 that the key file, the
+  -- secrets file or the report key file hasn't its length, or that one of the two keys is wanting.
   pub put_usage : status ≡ 1 → PutsUsage c loaded.loads loaded'.loads output.puts output'.puts
   pub put_fault : status ≡ 2 → PutsFault c loaded.loads loaded'.loads output.puts output'.puts
   pub put_name : status ≡ 3 → PutsName c loaded.loads loaded'.loads output.puts output'.puts
   pub put_place : status ≡ 6 → PutsPlace c loaded.loads loaded'.loads output.puts output'.puts
-  pub put_keys : status ≡ 7 → PutsKeysOrSecrets c loaded.loads loaded'.loads output.puts output'.puts
+  pub put_length : status ≡ 7 → PutsBadLength c loaded.loads loaded'.loads output.puts output'.puts
   -- At 4 it was given the text of a success, and failed, or else the save of a file did, behind which none was saved; of the run
   -- whose text that is all holds that holds at 0. At 5 the last put says that memory was wanting; before it the text of a run may have
   -- been put, of which all of it holds too.
@@ -96,6 +98,6 @@ pub record ByContents (held : List ℕ → Option (List ℕ)) (c : Option Comman
   -- The statuses 2, 6 and 7 have their cause.
   pub bad : status ≡ 2 → IsBadScript held c
   pub container : status ≡ 6 → IsBadContainer held c
-  pub keys : status ≡ 7 → IsBadKeysOrSecrets held c
+  pub wrong_length : status ≡ 7 → IsBadLength held c
   -- What the output got before the call gave up.
   pub fronts : (status ≡ 4) ⊎ (status ≡ 5) → PutsFrontsOf held c output.told status output'.told

@@ -15,7 +15,7 @@ texts_end n t = record { status = 0; text = t.replies.items; files = both_files 
 -- these; and each such order is one of events under which the flat machine's run prints these texts and makes these bundles.
 abbrev pub EndsThreads : NamedSeen → ScriptSeen → HandedOut → (events : List ℕ) → Ended → Type 0
 EndsThreads n s handed events e =
-    (t : Texts) × (threads : AreOfThreads (opening_by handed s) handed.keys.forward handed.keys.backward n.out_bundles n.guest_out t) × (events ≡ order threads.made) × (e ≡ texts_end n t)
+    (t : Texts) × (threads : AreOfThreads (opening_by handed s) handed.keys.forward handed.keys.backward handed.report_key n.out_bundles n.guest_out t) × (events ≡ order threads.made) × (e ≡ texts_end n t)
 
 -- a run's ending is so; a replay has no threads
 abbrev pub ThreadsOf : CommandSeen → ScriptSeen → HandedOut → (events : List ℕ) → Ended → Type 0

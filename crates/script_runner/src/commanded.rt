@@ -4,14 +4,16 @@ ghost use Rattle.std.specs.Prelude.{◌≡◌, ◌≢◌, ◌≤◌, IfOk};
 ghost use Rattle.script_text.specs.Laws.{IsInForm};
 ghost use Rattle.script_text.specs.Reading.{read_of};
 ghost use Rattle.command_files.specs.Commands.{Replay, Run, named_seen, command_seen, script_name};
-ghost use Rattle.script_runner.specs.Ending.{ending_seen};
+ghost use Rattle.script_runner.specs.Ending.{ending_seen, needs_of};
 ghost use Rattle.script_runner.specs.Commanded.{NamedEnd, TakesSome, ScriptEnd, ReadEnd, AnswerEnd, ScriptPart, ReadPart, AnswerPart, Reaches, ReachesPart};
 
 use crate::ending::{Ending, bad, check, of_fault, replay, run, unread};
 use bundle_store::{Files, LoadFault};
-use command_files::{Command, Named, take_inputs};
+use command_files::{Command, Named, Needs, take_inputs};
 use leaf_engine::Gate;
-use script_text::{Reason, Script, ScriptFault, needs_keys, read_script, scripts_are_in_form};
+use script_text::{
+    Reason, Script, ScriptFault, needs_keys, needs_report_key, read_script, scripts_are_in_form,
+};
 use std::alloc::{AllocError, Global};
 use std::thread::Threads;
 
@@ -23,6 +25,16 @@ fn script_name<'a>(command: &Command<'a>) -> &'a str
     match command {
         Command::Replay(named) | Command::Run(named) => named.script,
         Command::Check(script) => script,
+    }
+}
+
+// Which of the two keys a script needs.
+fn needs_of(script: &Script) -> Needs
+    ensures { result ≡ needs_of script.now }
+{
+    Needs {
+        keys: needs_keys(script),
+        report_key: needs_report_key(&script.codes),
     }
 }
 
@@ -45,7 +57,7 @@ fn of_replay<'a, F: Files>(
     ensures not_write { IfOk result (λ e. e.status ≢ 4) }
     ensures few { IfOk result (λ e. e.status ≤ 7) }
 {
-    match take_inputs(alloc, named, needs_keys(script), files) {
+    match take_inputs(alloc, named, needs_of(script), files) {
         Ok(inputs) => replay(alloc, script, named, &inputs),
         Err(fault) => of_fault(alloc, named, fault),
     }
@@ -72,7 +84,7 @@ fn of_run<'a, R: Threads + Sync, F: Files, G: Gate + Sync>(
     ensures not_write { IfOk result (λ e. e.status ≢ 4) }
     ensures few { IfOk result (λ e. e.status ≤ 7) }
 {
-    match take_inputs(alloc, named, needs_keys(script), files) {
+    match take_inputs(alloc, named, needs_of(script), files) {
         Ok(inputs) => run(threads, alloc, script, named, &inputs, gate),
         Err(fault) => of_fault(alloc, named, fault),
     }

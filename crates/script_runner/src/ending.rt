@@ -5,7 +5,7 @@ ghost use Rattle.bundle_store.specs.Containers.{AreInOrder};
 ghost use Rattle.script_text.specs.Laws.{IsInForm};
 ghost use Rattle.script_text.specs.Seen.{ScriptSeen};
 ghost use Rattle.command_files.specs.Commands.{CommandSeen, Replay, Run, named_seen};
-ghost use Rattle.script_runner.specs.Ending.{ending_seen, usage_end, unread_end, bad_end, calls_in, ops_in, check_end, soak_end, verdict_end, container_end, keys_end, secrets_end, report_key_end, unwritten_end, input_name, keys_or_none};
+ghost use Rattle.script_runner.specs.Ending.{ending_seen, usage_end, unread_end, bad_end, calls_in, ops_in, check_end, soak_end, verdict_end, container_end, keys_end, secrets_end, report_key_end, unwritten_end, input_name, keys_or_none, report_key_or_none};
 ghost use Rattle.script_runner.specs.Threads.{texts_end};
 ghost use Rattle.script_runner.specs.Brings.{HandsWords};
 ghost use Rattle.script_runner.specs.Commanded.{handed_in, InputsEnd, EndsRun};
@@ -36,7 +36,7 @@ pub struct Ending<'a> {
 }
 
 const USAGE: &str =
-    "usage: tdx replay|run SCRIPT [--bundles F] [--keys F] [--secrets F] [--out-bundles F] [--guest-out F] | tdx check SCRIPT | tdx soak N | tdx verify FILE KEY\n";
+    "usage: tdx replay|run SCRIPT [--bundles F] [--keys F] [--secrets F] [--out-bundles F] [--guest-out F] [--report-key F] | tdx check SCRIPT | tdx soak N | tdx verify FILE KEY\n";
 
 // An ending that saves nothing.
 fn plain<'a>(alloc: Global, status: u8, text: Vec<u8>) -> Ending<'a>
@@ -106,7 +106,7 @@ fn bad_secrets<'a>(alloc: Global) -> Result<Ending<'a>, AllocError>
     Ok(plain(alloc, 7, "secrets file\n".as_bytes().to_vec(alloc)?))
 }
 
-/// The report key file hasn't its length.
+/// The report key file hasn't its length, or is wanting.
 pub fn bad_report_key<'a>(alloc: Global) -> Result<Ending<'a>, AllocError>
     ensures { IfOk result (λ e. ending_seen e ≡ report_key_end) }
 {
@@ -131,6 +131,7 @@ fn input_name<'a>(named: &Named<'a>, input: Input) -> &'a str
         Input::Bundles => named.bundles,
         Input::Keys => named.keys,
         Input::Secrets => named.secrets,
+        Input::ReportKey => named.report_key,
     };
     name.unwrap_or("")
 }
@@ -152,6 +153,7 @@ pub fn of_fault<'a>(
         InputFault::Container(place) => bad_container(alloc, place),
         InputFault::Keys => bad_keys(alloc),
         InputFault::Secrets => bad_secrets(alloc),
+        InputFault::ReportKey => bad_report_key(alloc),
         InputFault::OutOfMemory => Err(AllocError),
     }
 }
@@ -187,6 +189,16 @@ fn keys_of(keys: &Option<KeyBytes>) -> KeyPair
     }
 }
 
+/// The report key; without its file each byte is 0.
+fn report_key_of(key: &Option<[u8; 48]>) -> [u8; 48]
+    ensures { result ≡ report_key_or_none key.now }
+{
+    match key {
+        Some(key) => *key,
+        None => [0; 48],
+    }
+}
+
 /// A script is replayed. The container's bytes and the guest file's text are made where those are named.
 pub fn replay<'a>(
     alloc: Global,
@@ -200,6 +212,7 @@ pub fn replay<'a>(
     ensures { IfOk result (λ e. EndsRun (Replay (named_seen named.now)) (named_seen named.now) script.now (handed_in inputs.now) (ending_seen e) × HandsWords (handed_in inputs.now)) }
 {
     let keys = keys_of(&inputs.keys);
+    let report_key = report_key_of(&inputs.report_key);
     let Ok(bundles) = opened_bundles(alloc, &keys, &inputs.bundles) else {
         return Err(AllocError);
     };
@@ -213,6 +226,7 @@ pub fn replay<'a>(
         script,
         given,
         &keys,
+        &report_key,
         named.out_bundles,
         named.guest_out,
     ) {
@@ -236,6 +250,7 @@ pub fn run<'a, R: Threads + Sync, G: Gate + Sync>(
     ensures { IfOk result (λ e. EndsRun (Run (named_seen named.now)) (named_seen named.now) script.now (handed_in inputs.now) (ending_seen e) × HandsWords (handed_in inputs.now)) }
 {
     let keys = keys_of(&inputs.keys);
+    let report_key = report_key_of(&inputs.report_key);
     let Ok(bundles) = opened_bundles(alloc, &keys, &inputs.bundles) else {
         return Err(AllocError);
     };
@@ -250,6 +265,7 @@ pub fn run<'a, R: Threads + Sync, G: Gate + Sync>(
         script,
         given,
         &keys,
+        &report_key,
         named.out_bundles,
         named.guest_out,
         gate,

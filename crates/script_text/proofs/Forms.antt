@@ -36,12 +36,13 @@ use Rattle.script_text.specs.declared.schedules.Item.{Item}
 use Rattle.script_text.specs.declared.schedules.Turns.{Turns}
 use Rattle.script_text.specs.Counted.{◌>>=◌, counted_of, number_at, argument}
 use Rattle.script_text.specs.Line.{machine_of, block_of, end_of, abort_of, named_entry, are_given, ranged_of, judged_of, call_of, first_of, list_of, operation_line_of, outside_of, named_of, inside_of, placed_of, entry_of, keyword_of}
-use Rattle.script_text.specs.Blocks.{field_of, slot_place_of, slot_at, fits_slot, with_slot, none_named, code_of, list_place, none_listed, operation_of, operand_count, fit_operands, operands_of, guest_op_of}
+use Rattle.script_text.specs.Blocks.{field_of, slot_place_of, slot_at, fits_slot, with_slot, none_named, code_of, list_place, none_listed, operation_of, operand_count, fit_operands, operands_of, guest_op_of, is_report, reports_in, is_full}
 use Rattle.script_text.specs.Schedule.{item_of, in_range_of, turns_in, with_turns, written_of, schedule_of}
 use Rattle.script_text.specs.Reading.{SoFar, nothing_yet, with_call, with_op, closed_of, entered_of, worded_of, line_of, script_of, ended_of, then_on, read_from, read_of}
 use Rattle.script_text.specs.Spelling.{FitsCall, FitsOp}
 use Rattle.script_text.specs.Seen.{ScriptSeen}
 use Rattle.script_text.specs.Laws.{IsCode, AreOfOthers, IsInForm, ScriptsAreInForm}
+use Rattle.script_text.proofs.Reports.{reports_more, few_more}
 use Rattle.script_text.proofs.Slots.{FitsSlot, Added, added, FitsSlots, still_marked, slot_named, slots_more, none_fit}
 
 -- a value that is given has it
@@ -202,6 +203,7 @@ guest_fits op.Load a b small h = word_gpa_fits a b h
 guest_fits op.Store a b small h = word_gpa_fits a b h
 guest_fits op.Accept a b small h = page_gpa_fits a h
 guest_fits op.Rtmr a b small h = below_and a 4 true h
+guest_fits op.Report a b small h = tt
 guest_fits op.Vmcall a b small h = below_and a 8 true h
 
 -- operands in range are used
@@ -283,6 +285,7 @@ named_entry_fits m listed lp name.MemSeptRemove ns h = (three_fit ns h, tt)
 named_entry_fits m listed lp name.MemPageAdd ns h = (four_fit ns h, tt)
 named_entry_fits m listed lp name.MemPageAug ns h = (three_fit ns h, tt)
 named_entry_fits m listed lp name.MemPageRemove ns h = (two_fit ns h, tt)
+named_entry_fits m listed lp name.MemPageRelocate ns h = (three_fit ns h, tt)
 named_entry_fits m listed lp name.MemRangeBlock ns h = (three_fit ns h, tt)
 named_entry_fits m listed lp name.MemRangeUnblock ns h = (three_fit ns h, tt)
 named_entry_fits m listed lp name.MemTrack ns h = (one_fits ns h, tt)
@@ -454,6 +457,7 @@ FitsBlock m listed codes _ = Unit {0}
 
 record FitsOps (ops : List GuestOp) : Type 0 where
   pub few : length ops ≤ 256
+  pub few_reports : reports_in ops ≤ 4
   pub operands : All FitsOp ops
 
 record FitsCodes (m : Machine) (listed : List Bool) (codes : List CodeSeen) : Type 0 where
@@ -463,12 +467,14 @@ record FitsCodes (m : Machine) (listed : List Bool) (codes : List CodeSeen) : Ty
   pub others : AreOfOthers codes
 
 no_ops : FitsOps []
-no_ops = record { few = omega arith; operands = All-nil FitsOp }
+no_ops = record { few = omega arith; few_reports = omega arith; operands = All-nil FitsOp }
 
 op_added : (ops : List GuestOp) (g : GuestOp) → FitsOps ops → FitsOp g → IfGiven FitsOps (with_op ops g)
 op_added ops g h fit =
-    given_if FitsOps (leb 256 (length ops)) _ reason.Full (Ok (ops ++ g ∷ [])) refl
-    (λ e. record { few = rw length-append (grind (arith, e)); operands = All-push FitsOp ops g h.operands fit })
+    given_if FitsOps (is_full ops g) _ reason.Full (Ok (ops ++ g ∷ [])) refl
+    (λ e. let room = few_more (length ops) (reports_in ops) (is_report g) h.few_reports e in
+    let more = reports_more ops g in
+    record { few = rw length-append (omega (arith, room.0)); few_reports = omega (arith, more, room.1); operands = All-push FitsOp ops g h.operands fit })
 
 -- a list that begins: its mark is set, and all marks before stay
 all_still_marked : (listed : List Bool) (i : ℕ) (codes : List CodeSeen) → i < length listed → All (IsMarked listed) codes → All (IsMarked (set listed i true)) codes
@@ -520,7 +526,7 @@ closed_codes : (m : Machine) (listed : List Bool) (codes : List CodeSeen) (ops :
     → FitsCodes m listed (codes ++ (record { tdr = p.tdr; index = p.index; ops = ops }) ∷ [])
 closed_codes m listed codes ops p h o k = record {
   room = h.room;
-  fit = All-push (IsCode m) codes (record { tdr = p.tdr; index = p.index; ops = ops }) h.fit (record { tdr = k.tdr; index = k.index; few = o.few; operands = o.operands });
+  fit = All-push (IsCode m) codes (record { tdr = p.tdr; index = p.index; ops = ops }) h.fit (record { tdr = k.tdr; index = k.index; few = o.few; few_reports = o.few_reports; operands = o.operands });
   marked = All-push (IsMarked listed) codes (record { tdr = p.tdr; index = p.index; ops = ops }) h.marked k.marked;
   others = others_more codes p ops h.others k.other;
 }

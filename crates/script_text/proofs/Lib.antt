@@ -10,5 +10,6 @@ pub mod FiveWords
 pub mod Ordered
 pub mod Short
 pub mod Names
+pub mod Reports
 pub mod Eights
 pub mod CallLines

@@ -20,7 +20,7 @@ use Rattle.script_text.specs.declared.lines.Block.TheVariants as block
 use Rattle.script_text.specs.declared.lines.Stage.{Stage}
 use Rattle.script_text.specs.declared.lines.Entry.{Entry}
 use Rattle.script_text.specs.declared.lines.Entry.TheVariants as entry
-use Rattle.script_text.specs.Blocks.{operation_of, name_of, second_operand_of, fit_operands, operands_of, guest_op_of, operation_with}
+use Rattle.script_text.specs.Blocks.{operation_of, name_of, numbers_of, fit_operands, operands_of, guest_op_of, operation_with}
 use Rattle.script_text.specs.Counted.{◌>>=◌, argument, IsAnsweredAt}
 use Rattle.script_text.specs.Line.{keyword_of, operation_line_of, operation_in, is_list, placed_of, entry_of}
 use Rattle.script_text.specs.Reading.{SoFar, with_op, entered_of, worded_of}
@@ -33,6 +33,7 @@ operation_named op.Load = refl
 operation_named op.Store = refl
 operation_named op.Accept = refl
 operation_named op.Rtmr = refl
+operation_named op.Report = refl
 operation_named op.Vmcall = refl
 
 -- a name is no keyword and begins no comment
@@ -57,20 +58,17 @@ other_in [] w o named h = cc
 other_in (row ∷ rows) w o named h = other_if (bytes_eq w row.0) w row.0 o row.1 (row_in rows w) refl named.0 (other_in rows w o named.1) h
 
 abbrev operations : List (List ℕ × OpName)
-operations = (codes "set", op.Set) ∷ (codes "secret", op.Secret) ∷ (codes "add", op.Add) ∷ (codes "load", op.Load) ∷ (codes "store", op.Store) ∷ (codes "accept", op.Accept) ∷ (codes "rtmr", op.Rtmr) ∷ (codes "vmcall", op.Vmcall) ∷ []
+operations = (codes "set", op.Set) ∷ (codes "secret", op.Secret) ∷ (codes "add", op.Add) ∷ (codes "load", op.Load) ∷ (codes "store", op.Store) ∷ (codes "accept", op.Accept) ∷ (codes "rtmr", op.Rtmr) ∷ (codes "report", op.Report) ∷ (codes "vmcall", op.Vmcall) ∷ []
 
 is_other : (w : List ℕ) (o : OpName) → operation_of w ≡ Some o → IsOther w
 is_other w o h =
     let r : IsOther (codes "set") = (refl, refl) in
-    other_in operations w o (r, ((refl, refl), ((refl, refl), ((refl, refl), ((refl, refl), ((refl, refl), ((refl, refl), ((refl, refl), tt)))))))) h
+    other_in operations w o (r, ((refl, refl), ((refl, refl), ((refl, refl), ((refl, refl), ((refl, refl), ((refl, refl), ((refl, refl), ((refl, refl), tt))))))))) h
 
 -- an operation with its operands in range
 ranged : (b : Bool) (x g : GuestOp) → cond b (Some x) None ≡ Some g → ((if not b then Err reason.Range else Ok tt) >>= (λ (t : Unit {0}). Ok (entry.Operation x))) ≡ Ok (entry.Operation g)
 ranged true x g h = let e : x ≡ g = cc in ap (λ (y : GuestOp). Ok (entry.Operation y)) e
 ranged false x g h = cc
-
-abbrev numbers_of : OpName → ℕ → ℕ → List (Option ℕ)
-numbers_of o first second = if is_some (second_operand_of o) then Some first ∷ Some second ∷ [] else Some first ∷ []
 
 ranged_line : (o : OpName) (first second : ℕ) (g : GuestOp) → (if fit_operands o first second then Some (guest_op_of o first second) else None) ≡ Some g → operation_line_of (Some o) (numbers_of o first second) ≡ Ok (entry.Operation g)
 unfolding operation_line_of
@@ -81,6 +79,7 @@ ranged_line op.Load first second g h = ranged (fit_operands op.Load first second
 ranged_line op.Store first second g h = ranged (fit_operands op.Store first second) (guest_op_of op.Store first second) g h
 ranged_line op.Accept first second g h = ranged (fit_operands op.Accept first second) (guest_op_of op.Accept first second) g h
 ranged_line op.Rtmr first second g h = ranged (fit_operands op.Rtmr first second) (guest_op_of op.Rtmr first second) g h
+ranged_line op.Report first second g h = ranged (fit_operands op.Report first second) (guest_op_of op.Report first second) g h
 ranged_line op.Vmcall first second g h = ranged (fit_operands op.Vmcall first second) (guest_op_of op.Vmcall first second) g h
 
 unspaced_name : (o : OpName) → (list_all (λ b. not (b == 32)) (name_of o) ≡ true) × (0 < length (name_of o))
@@ -91,6 +90,7 @@ unspaced_name op.Load = (refl, omega arith)
 unspaced_name op.Store = (refl, omega arith)
 unspaced_name op.Accept = (refl, omega arith)
 unspaced_name op.Rtmr = (refl, omega arith)
+unspaced_name op.Report = (refl, omega arith)
 unspaced_name op.Vmcall = (refl, omega arith)
 
 -- a text that begins with a name says that operation

@@ -32,7 +32,7 @@ use Rattle.script_text.specs.declared.lines.Keyword.TheVariants as keyword
 use Rattle.script_text.specs.declared.code_blocks.CodePlace.{CodePlace}
 use Rattle.script_text.specs.declared.operations.OpName.{OpName}
 use Rattle.script_text.specs.declared.schedules.Turns.{Turns}
-use Rattle.script_text.specs.Blocks.{field_of, slot_place_of, slot_at, fits_slot, with_slot, code_of, operation_of, operand_count, fit_operands, operands_of, guest_op_of}
+use Rattle.script_text.specs.Blocks.{field_of, slot_place_of, slot_at, fits_slot, with_slot, code_of, operation_of, operand_count, fit_operands, operands_of, guest_op_of, is_full}
 use Rattle.script_text.specs.Counted.{◌>>=◌, argument}
 use Rattle.script_text.specs.Line.{keyword_of, machine_of, block_of, end_of, abort_of, named_entry, are_given, ranged_of, judged_of, call_of, first_of, list_of, operation_line_of, outside_of, named_of, inside_of, placed_of, entry_of}
 use Rattle.script_text.specs.Reading.{SoFar, entered_of, worded_of, line_of, script_of, ended_of}
@@ -301,6 +301,7 @@ entry_ends m lp d ws name.MemSeptRemove = call_full m lp d _ ws
 entry_ends m lp d ws name.MemPageAdd = call_full m lp d _ ws
 entry_ends m lp d ws name.MemPageAug = call_full m lp d _ ws
 entry_ends m lp d ws name.MemPageRemove = call_full m lp d _ ws
+entry_ends m lp d ws name.MemPageRelocate = call_full m lp d _ ws
 entry_ends m lp d ws name.MemRangeBlock = call_full m lp d _ ws
 entry_ends m lp d ws name.MemRangeUnblock = call_full m lp d _ ws
 entry_ends m lp d ws name.MemTrack = call_full m lp d _ ws
@@ -367,9 +368,9 @@ code_order m d (w ∷ x ∷ y ∷ ws) =
 -- operations
 
 operation_full : (m : Machine) (p : CodePlace) (d : SoFar) (g : GuestOp) (ws : List (List ℕ))
-    → fault_in (entered_of (state (Some m) (Some (block.Code p)) d) (entry.Operation g) ws) ≡ cond (leb 256 (length d.ops)) (Some reason.Full) None
+    → fault_in (entered_of (state (Some m) (Some (block.Code p)) d) (entry.Operation g) ws) ≡ cond (is_full d.ops g) (Some reason.Full) None
 unfolding entered_of
-operation_full m p d g ws = fault_then (leb 256 (length d.ops)) reason.Full _ _ None (λ e. refl)
+operation_full m p d g ws = fault_then (is_full d.ops g) reason.Full _ _ None (λ e. refl)
 
 -- what an operation's line comes to
 abbrev tested : Bool → Bool → Bool → Result (Unit {0}) Reason
@@ -384,9 +385,9 @@ operands_order false false false g f y h = h
 
 named_order_of : (m : Machine) (p : CodePlace) (d : SoFar) (g : GuestOp) (o : OpName) (ns : List (Option ℕ)) (ws : List (List ℕ))
     → fault_in ((operands_of o ns >>= (λ t. Ok (entry.Operation g))) >>= (λ e. entered_of (state (Some m) (Some (block.Code p)) d) e ws))
-    ≡ cond (not (length ns == operand_count o)) (Some reason.Count) (cond (not (list_all is_some ns)) (Some reason.Number) (cond (not (fit_operands o (argument ns 0) (argument ns 1))) (Some reason.Range) (cond (leb 256 (length d.ops)) (Some reason.Full) None)))
+    ≡ cond (not (length ns == operand_count o)) (Some reason.Count) (cond (not (list_all is_some ns)) (Some reason.Number) (cond (not (fit_operands o (argument ns 0) (argument ns 1))) (Some reason.Range) (cond (is_full d.ops g) (Some reason.Full) None)))
 named_order_of m p d g o ns ws =
-    operands_order (not (length ns == operand_count o)) (not (list_all is_some ns)) (not (fit_operands o (argument ns 0) (argument ns 1))) g (λ e. entered_of (state (Some m) (Some (block.Code p)) d) e ws) (cond (leb 256 (length d.ops)) (Some reason.Full) None)
+    operands_order (not (length ns == operand_count o)) (not (list_all is_some ns)) (not (fit_operands o (argument ns 0) (argument ns 1))) g (λ e. entered_of (state (Some m) (Some (block.Code p)) d) e ws) (cond (is_full d.ops g) (Some reason.Full) None)
     (operation_full m p d g ws)
 
 operation_order : (m : Machine) (p : CodePlace) (d : SoFar) (o : Option OpName) (ws : List (List ℕ))

@@ -33,11 +33,12 @@ use Rattle.script_text.specs.declared.lines.Entry.TheVariants as entry
 use Rattle.script_text.specs.declared.lines.Stage.{Stage}
 use Rattle.script_text.specs.Counted.{◌>>=◌}
 use Rattle.script_text.specs.Line.{entry_of, machine_of, block_of, end_of, call_of, operation_line_of}
-use Rattle.script_text.specs.Blocks.{field_of, with_slot, none_named, code_of, none_listed}
+use Rattle.script_text.specs.Blocks.{field_of, with_slot, none_named, code_of, none_listed, is_report, reports_in, is_full}
 use Rattle.script_text.specs.Reading.{SoFar, nothing_yet, called_of, entered_of, worded_of, line_of, read_from}
 use Rattle.script_text.specs.Seen.{ScriptSeen}
 use Rattle.script_text.specs.Spelling.{call_word, call_numbers, call_names, FitsCall, FitsOp, op_word, op_numbers, ops_text, codes_text, calls_text, schedule_text, blocks_text, script_text}
 use Rattle.script_text.specs.Laws.{IsCode, AreOfOthers, IsInForm, ScriptsReadAgain}
+use Rattle.script_text.proofs.Reports.{reports_more, has_room}
 use Rattle.script_text.proofs.FirstBads.{within}
 use Rattle.script_text.proofs.Slots.{FitsSlot, IsUnnamed, slot_is, names_after, Left, LeftFirst, left_first}
 use Rattle.script_text.proofs.Steps.{good_line}
@@ -147,6 +148,7 @@ call_entry s listed m lp (calls.MemSeptRemove a b c) fit h k = rw (h, k) refl
 call_entry s listed m lp (calls.MemPageAdd a b c d) fit h k = rw (h, k) refl
 call_entry s listed m lp (calls.MemPageAug a b c) fit h k = rw (h, k) refl
 call_entry s listed m lp (calls.MemPageRemove a b) fit h k = rw (h, k) refl
+call_entry s listed m lp (calls.MemPageRelocate a b c) fit h k = rw (h, k) refl
 call_entry s listed m lp (calls.MemRangeBlock a b c) fit h k = rw (h, k) refl
 call_entry s listed m lp (calls.MemRangeUnblock a b c) fit h k = rw (h, k) refl
 call_entry s listed m lp (calls.MemTrack a) fit h k = rw (h, k) refl
@@ -313,13 +315,14 @@ op_entry s listed m p (guest.Load r gpa) f h k = rw (h, k, below_is r 8 f.0, bel
 op_entry s listed m p (guest.Store r gpa) f h k = rw (h, k, below_is r 8 f.0, below_is gpa (2 ^ 48) f.1, multiple_is gpa 8 f.2) refl
 op_entry s listed m p (guest.Accept gpa) f h k = rw (h, k, below_is gpa (2 ^ 47) f.0, multiple_is gpa 4096 f.1) refl
 op_entry s listed m p (guest.Rtmr i) f h k = rw (h, k, below_is i 4 f) refl
+op_entry s listed m p guest.Report f h k = rw (h, k) refl
 op_entry s listed m p (guest.Vmcall r) f h k = rw (h, k, below_is r 8 f) refl
 
-op_entered : (d : SoFar) (g : GuestOp) (ws : List (List ℕ)) → length d.ops < 256 → entered_of d (entry.Operation g) ws ≡ Ok (record d { ops = d.ops ++ g ∷ [] })
+op_entered : (d : SoFar) (g : GuestOp) (ws : List (List ℕ)) → is_full d.ops g ≡ false → entered_of d (entry.Operation g) ws ≡ Ok (record d { ops = d.ops ++ g ∷ [] })
 unfolding entered_of
-op_entered d g ws room = let r : leb 256 (length d.ops) ≡ false = grind arith in rw r refl
+op_entered d g ws room = rw room refl
 
-op_said : (m : Machine) (had listed named : List Bool) (schedule : List ℕ) (lists : List CodeSeen) (p : CodePlace) (ops : List GuestOp) (calls : List (List Call)) (g : GuestOp) → FitsOp g → length ops < 256
+op_said : (m : Machine) (had listed named : List Bool) (schedule : List ℕ) (lists : List CodeSeen) (p : CodePlace) (ops : List GuestOp) (calls : List (List Call)) (g : GuestOp) → FitsOp g → is_full ops g ≡ false
     → said (in_list m had listed named schedule lists p ops calls) (op_word g) (op_numbers g) ≡ Ok (in_list m had listed named schedule lists p (ops ++ g ∷ []) calls)
 op_said m had listed named schedule lists p ops calls g f room =
     rw (op_entry (in_list m had listed named schedule lists p ops calls).stage listed m p g f refl refl)
@@ -344,20 +347,22 @@ op_numbers_fit (guest.Load r gpa) f = two_fit r gpa f.0 (omega (arith, f.1))
 op_numbers_fit (guest.Store r gpa) f = two_fit r gpa f.0 (omega (arith, f.1))
 op_numbers_fit (guest.Accept gpa) f = one_fits gpa [] (omega (arith, f.0)) refl
 op_numbers_fit (guest.Rtmr i) f = one_fits i [] (omega (arith, f)) refl
+op_numbers_fit guest.Report f = refl
 op_numbers_fit (guest.Vmcall r) f = one_fits r [] (omega (arith, f)) refl
 
 -- the operations of a list, whatever stands behind them
-ops_passed : (m : Machine) (had listed named : List Bool) (schedule : List ℕ) (lists : List CodeSeen) (p : CodePlace) (calls : List (List Call)) (gs old : List GuestOp) (n : ℕ) (rest : List ℕ) (read : Result ScriptSeen ScriptFault) → length old + length gs ≤ 256 → All FitsOp gs
+ops_passed : (m : Machine) (had listed named : List Bool) (schedule : List ℕ) (lists : List CodeSeen) (p : CodePlace) (calls : List (List Call)) (gs old : List GuestOp) (n : ℕ) (rest : List ℕ) (read : Result ScriptSeen ScriptFault) → length old + length gs ≤ 256 → reports_in old + reports_in gs ≤ 4 → All FitsOp gs
     → ((k : ℕ) → read_from (in_list m had listed named schedule lists p (old ++ gs) calls) k (pieces rest) ≡ read) → read_from (in_list m had listed named schedule lists p old calls) n (pieces (ops_text gs ++ rest)) ≡ read
-ops_passed m had listed named schedule lists p calls [] old n rest read few h go =
+ops_passed m had listed named schedule lists p calls [] old n rest read few few_reports h go =
     let P : List GuestOp → Type 0 = λ gs. read_from (in_list m had listed named schedule lists p gs calls) n (pieces rest) ≡ read in
     subst P (append-nil old) (go n)
-ops_passed m had listed named schedule lists p calls (g ∷ gs) old n rest read few h go =
+ops_passed m had listed named schedule lists p calls (g ∷ gs) old n rest read few few_reports h go =
+    let more = reports_more old g in
     let P : ℕ → List GuestOp → Type 0 = λ k all. read_from (in_list m had listed named schedule lists p all calls) k (pieces rest) ≡ read in
     rw append_assoc
     (line_passed (in_list m had listed named schedule lists p old calls) (in_list m had listed named schedule lists p (old ++ g ∷ []) calls) n (op_word g) (op_numbers g) (ops_text gs ++ rest) (op_is_word g) (op_no_comment g)
-    (op_numbers_fit g (All-head FitsOp g gs h)) (op_said m had listed named schedule lists p old calls g (All-head FitsOp g gs h) (omega arith))
-    ∙ ops_passed m had listed named schedule lists p calls gs (old ++ g ∷ []) (n + 1) rest read (simp length-append (omega arith)) (All-tail FitsOp g gs h) (λ k. subst (P k) (sym (append_assoc old (g ∷ []) gs)) (go k)))
+    (op_numbers_fit g (All-head FitsOp g gs h)) (op_said m had listed named schedule lists p old calls g (All-head FitsOp g gs h) (has_room (length old) (reports_in old) (is_report g) (omega arith) (omega (arith, few_reports))))
+    ∙ ops_passed m had listed named schedule lists p calls gs (old ++ g ∷ []) (n + 1) rest read (simp length-append (omega arith)) (omega (arith, more, few_reports)) (All-tail FitsOp g gs h) (λ k. subst (P k) (sym (append_assoc old (g ∷ []) gs)) (go k)))
 
 abbrev place_of : CodeSeen → CodePlace
 place_of c = record { tdr = c.tdr; index = c.index }
@@ -407,7 +412,7 @@ codes_passed m had named schedule calls (c ∷ cs) old listed n rest read few h 
     subst (λ t. read_from (outside m had listed named schedule old calls) n (pieces t) ≡ read) (sym (code_text_apart c cs rest))
     (line_passed (outside m had listed named schedule old calls) (in_list m had marks named schedule old (place_of c) [] calls) n (codes "code") (c.tdr ∷ c.index ∷ []) (ops_text c.ops ++ (line_text (codes "end") [] ++ (codes_text cs ++ rest))) (record { bytes = refl; some = refl }) refl
     (one_fits c.tdr (c.index ∷ []) (omega (arith, small)) (one_fits c.index [] (omega (arith, is.index)) refl)) (list_said m had listed named schedule old calls c.tdr c.index is.tdr is.index (All-head (IsUnmarked listed) c cs free))
-    ∙ ops_passed m had marks named schedule old (place_of c) calls c.ops [] (n + 1) (line_text (codes "end") [] ++ (codes_text cs ++ rest)) read (omega (arith, is.few)) is.operands
+    ∙ ops_passed m had marks named schedule old (place_of c) calls c.ops [] (n + 1) (line_text (codes "end") [] ++ (codes_text cs ++ rest)) read (omega (arith, is.few)) (omega (arith, is.few_reports)) is.operands
     (λ k. line_passed (in_list m had marks named schedule old (place_of c) c.ops calls) (outside m had marks named schedule (old ++ c ∷ []) calls) k (codes "end") [] (codes_text cs ++ rest) end_is_word refl refl (list_ended m had marks named schedule old (place_of c) c.ops calls)
     ∙ codes_passed m had named schedule calls cs (old ++ c ∷ []) marks (k + 1) rest read few (All-tail (IsCode m) c cs h) apart.1 (still_unmarked m listed c cs is.index (All-tail (IsCode m) c cs h) apart.0 (All-tail (IsUnmarked listed) c cs free))
     (λ marks j. subst (P marks j) (sym (append_assoc old (c ∷ []) cs)) (go marks j))))

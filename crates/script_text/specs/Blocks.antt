@@ -1,5 +1,5 @@
 -- The fields of MNG.RD, output slots, `code` blocks and their operations.
-use Rattle.std.specs.Prelude.{ℕ, ◌+◌, ◌*◌, ◌^◌, ◌%◌, List, Option, Some, None, is_some, Result, Ok, Err, Bool, true, false, not, ◌&&◌, ◌==◌, nat_lt, nat_le, slice_index_or, slice_set, length, replicate, if◌then◌else◌, codes}
+use Rattle.std.specs.Prelude.{ℕ, ◌+◌, ◌*◌, ◌^◌, ◌%◌, List, [], ◌∷◌, Option, Some, None, is_some, Result, Ok, Err, Bool, true, false, not, ◌&&◌, ◌||◌, ◌==◌, nat_lt, nat_le, slice_index_or, slice_set, length, replicate, if◌then◌else◌, codes}
 use Rattle.std.specs.List.{list_all}
 use Rattle.std.specs.Str.{bytes_eq}
 use Rattle.td_words.specs.declared.calls.GuestOp.{GuestOp}
@@ -91,6 +91,7 @@ operation_of word =
     else if bytes_eq word (codes "store") then Some op.Store
     else if bytes_eq word (codes "accept") then Some op.Accept
     else if bytes_eq word (codes "rtmr") then Some op.Rtmr
+    else if bytes_eq word (codes "report") then Some op.Report
     else if bytes_eq word (codes "vmcall") then Some op.Vmcall
     else None
 
@@ -102,12 +103,14 @@ name_of op.Load = codes "load"
 name_of op.Store = codes "store"
 name_of op.Accept = codes "accept"
 name_of op.Rtmr = codes "rtmr"
+name_of op.Report = codes "report"
 name_of op.Vmcall = codes "vmcall"
 
-abbrev pub first_operand_of : OpName → Operand
-first_operand_of op.Accept = operand.PageGpa
-first_operand_of op.Rtmr = operand.RtmrIndex
-first_operand_of _ = operand.Register
+abbrev pub first_operand_of : OpName → Option Operand
+first_operand_of op.Accept = Some operand.PageGpa
+first_operand_of op.Rtmr = Some operand.RtmrIndex
+first_operand_of op.Report = None
+first_operand_of _ = Some operand.Register
 
 abbrev pub second_operand_of : OpName → Option Operand
 second_operand_of op.Set = Some operand.Value
@@ -126,15 +129,21 @@ is_operand operand.RtmrIndex n = nat_lt n 4
 is_operand operand.WordGpa n = nat_lt n (2 ^ 48) && (n % 8 == 0)
 is_operand operand.PageGpa n = nat_lt n (2 ^ 47) && (n % 4096 == 0)
 
-abbrev pub fits_second : Option Operand → ℕ → Bool
-fits_second None n = true
-fits_second (Some o) n = is_operand o n
+-- an operand that there is
+abbrev pub fits_operand : Option Operand → ℕ → Bool
+fits_operand None n = true
+fits_operand (Some o) n = is_operand o n
 
 abbrev pub operand_count : OpName → ℕ
-operand_count o = if is_some (second_operand_of o) then 2 else 1
+operand_count o = if is_some (second_operand_of o) then 2 else if is_some (first_operand_of o) then 1 else 0
+
+-- as many numbers
+abbrev pub numbers_of : OpName → ℕ → ℕ → List (Option ℕ)
+numbers_of o first second =
+    if is_some (second_operand_of o) then Some first ∷ Some second ∷ [] else if is_some (first_operand_of o) then Some first ∷ [] else []
 
 abbrev pub fit_operands : OpName → ℕ → ℕ → Bool
-fit_operands o first second = is_operand (first_operand_of o) first && fits_second (second_operand_of o) second
+fit_operands o first second = fits_operand (first_operand_of o) first && fits_operand (second_operand_of o) second
 
 -- as many numbers as the operation has operands, each in range
 abbrev pub operands_of : OpName → List (Option ℕ) → Result (Unit {0}) Reason
@@ -153,7 +162,20 @@ guest_op_of op.Load register gpa = guest.Load register gpa
 guest_op_of op.Store register gpa = guest.Store register gpa
 guest_op_of op.Accept gpa none = guest.Accept gpa
 guest_op_of op.Rtmr index none = guest.Rtmr index
+guest_op_of op.Report none other = guest.Report
 guest_op_of op.Vmcall register none = guest.Vmcall register
+
+-- a list has at most 256 operations, of which four are reports
+abbrev pub is_report : GuestOp → Bool
+is_report guest.Report = true
+is_report _ = false
+
+abbrev pub reports_in : List GuestOp → ℕ
+reports_in [] = 0
+reports_in (g ∷ gs) = (if is_report g then 1 else 0) + reports_in gs
+
+abbrev pub is_full : List GuestOp → GuestOp → Bool
+is_full ops g = nat_le 256 (length ops) || (is_report g && nat_le 4 (reports_in ops))
 
 -- the operation of a name and those numbers, or the first reason why there is none
 abbrev pub operation_with : OpName → List (Option ℕ) → Result GuestOp Reason

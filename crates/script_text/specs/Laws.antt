@@ -9,16 +9,18 @@ use Rattle.line_words.specs.Words.{pieces}
 use Rattle.script_text.specs.declared.faults.Reason.{Reason}
 use Rattle.script_text.specs.declared.faults.Reason.TheVariants as reason
 use Rattle.script_text.specs.declared.faults.ScriptFault.TheVariants.{Bad}
+use Rattle.script_text.specs.Blocks.{reports_in}
 use Rattle.script_text.specs.Seen.{ScriptSeen}
 use Rattle.script_text.specs.Reading.{SoFar, nothing_yet, line_of, ended_of, read_of}
 use Rattle.script_text.specs.Spelling.{FitsCall, FitsOp, codes_text, script_text}
 use Rattle.script_text.specs.Reasons.{fault_in, line_reasons, holds_at, end_reasons, holds_at_end}
 
--- a list is that of a VCPU, 0 to 7, of a page of the machine, with at most 256 operations
+-- a list is that of a VCPU, 0 to 7, of a page of the machine, with at most 256 operations, of which four are reports
 pub record IsCode (m : Machine) (c : CodeSeen) : Type 0 where
   pub tdr : c.tdr < m.pages
   pub index : c.index < 8
   pub few : length c.ops ≤ 256
+  pub few_reports : reports_in c.ops ≤ 4
   pub operands : All FitsOp c.ops
 
 -- no VCPU has two lists

@@ -95,6 +95,7 @@ named_entry lp name.MemSeptRemove ns = entry.Call lp (calls.MemSeptRemove (argum
 named_entry lp name.MemPageAdd ns = entry.Call lp (calls.MemPageAdd (argument ns 0) (argument ns 1) (argument ns 2) (argument ns 3))
 named_entry lp name.MemPageAug ns = entry.Call lp (calls.MemPageAug (argument ns 0) (argument ns 1) (argument ns 2))
 named_entry lp name.MemPageRemove ns = entry.Call lp (calls.MemPageRemove (argument ns 0) (argument ns 1))
+named_entry lp name.MemPageRelocate ns = entry.Call lp (calls.MemPageRelocate (argument ns 0) (argument ns 1) (argument ns 2))
 named_entry lp name.MemRangeBlock ns = entry.Call lp (calls.MemRangeBlock (argument ns 0) (argument ns 1) (argument ns 2))
 named_entry lp name.MemRangeUnblock ns = entry.Call lp (calls.MemRangeUnblock (argument ns 0) (argument ns 1) (argument ns 2))
 named_entry lp name.MemTrack ns = entry.Call lp (calls.MemTrack (argument ns 0))

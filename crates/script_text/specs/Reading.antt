@@ -18,7 +18,7 @@ use Rattle.script_text.specs.declared.lines.Entry.{Entry}
 use Rattle.script_text.specs.declared.lines.Entry.TheVariants as entry
 use Rattle.script_text.specs.declared.lines.Stage.{Stage}
 use Rattle.script_text.specs.declared.drafts.Draft.{Draft}
-use Rattle.script_text.specs.Blocks.{field_of, with_slot, none_named, list_place, none_listed}
+use Rattle.script_text.specs.Blocks.{field_of, with_slot, none_named, list_place, none_listed, is_full}
 use Rattle.script_text.specs.Counted.{◌>>=◌}
 use Rattle.script_text.specs.Line.{entry_of}
 use Rattle.script_text.specs.Schedule.{schedule_of}
@@ -53,9 +53,9 @@ called_of d lp c = do
   named ← with_slot d.named (output_slot c)
   Ok (record d { calls = calls; named = named })
 
--- at most 256 operations a list
+-- a list with one more operation
 abbrev pub with_op : List GuestOp → GuestOp → Result (List GuestOp) Reason
-with_op ops g = if nat_le 256 (length ops) then Err reason.Full else Ok (ops ++ g ∷ [])
+with_op ops g = if is_full ops g then Err reason.Full else Ok (ops ++ g ∷ [])
 
 -- `end`: the operations of a list are its VCPU's
 abbrev pub closed_of : SoFar → Option Block → SoFar

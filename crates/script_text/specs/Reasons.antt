@@ -2,6 +2,7 @@
 use Rattle.std.specs.Prelude.{ℕ, ◌+◌, ◌*◌, ◌^◌, List, [], ◌∷◌, length, map, Option, Some, None, is_some, Result, Ok, Err, Bool, true, false, not, ◌&&◌, ◌==◌, nat_lt, nat_le, slice_index_or}
 use Rattle.std.specs.List.{list_all}
 use Rattle.td_words.specs.declared.calls.Call.{Call}
+use Rattle.td_words.specs.declared.calls.GuestOp.{GuestOp}
 use Rattle.td_words.specs.declared.machines.Machine.{Machine}
 use Rattle.td_words.specs.Limits.{in_limits}
 use Rattle.line_words.specs.declared.mnemonics.CallName.{CallName}
@@ -18,7 +19,7 @@ use Rattle.script_text.specs.declared.lines.Keyword.{Keyword}
 use Rattle.script_text.specs.declared.lines.Keyword.TheVariants as keyword
 use Rattle.script_text.specs.declared.operations.OpName.{OpName}
 use Rattle.script_text.specs.declared.schedules.Turns.{Turns}
-use Rattle.script_text.specs.Blocks.{field_of, slot_place_of, fits_slot, operation_of, operand_count, fit_operands}
+use Rattle.script_text.specs.Blocks.{field_of, slot_place_of, fits_slot, operation_of, operand_count, fit_operands, guest_op_of, is_full}
 use Rattle.script_text.specs.Counted.{argument}
 use Rattle.script_text.specs.Line.{keyword_of, are_given}
 use Rattle.script_text.specs.Reading.{SoFar}
@@ -131,11 +132,12 @@ abbrev pub turns_count : ℕ → List (List ℕ) → ℕ
 turns_count lps [] = 0
 turns_count lps (w ∷ ws) = times_of (turns_in lps w) + turns_count lps ws
 
--- the schedule has at most 2 ^ 20 items, a processor at most 4,096 calls, and a list at most 256 operations
-abbrev pub full_holds : ℕ → List ℕ → ℕ → ℕ → FirstWord → List (List ℕ) → Bool
+-- the schedule has at most 2 ^ 20 items, a processor at most 4,096 calls, and a list at most 256 operations,
+-- of which four are reports
+abbrev pub full_holds : ℕ → List ℕ → ℕ → List GuestOp → FirstWord → List (List ℕ) → Bool
 full_holds lps schedule calls ops (Key keyword.Schedule) ws = nat_lt (2 ^ 20) (length schedule + turns_count lps ws)
 full_holds lps schedule calls ops (OfCall m) ws = nat_le 4096 calls
-full_holds lps schedule calls ops (OfOperation o) ws = nat_le 256 ops
+full_holds lps schedule calls ops (OfOperation o) ws = is_full ops (guest_op_of o (number_of ws 0) (number_of ws 1))
 full_holds lps schedule calls ops _ ws = false
 
 -- an earlier line named the argument at that place as its output slot
@@ -171,7 +173,7 @@ holds_of d w ws reason.Number = number_holds w ws
 holds_of d w ws reason.Name = name_holds w ws
 holds_of d w ws reason.Range = range_holds (lps_in d.stage.machine) (pages_in d.stage.machine) w ws
 holds_of d w ws reason.Repeated = repeated_holds d.stage.had d.listed w ws
-holds_of d w ws reason.Full = full_holds (lps_in d.stage.machine) d.schedule (length (calls_in d.stage.block d.calls)) (length d.ops) w ws
+holds_of d w ws reason.Full = full_holds (lps_in d.stage.machine) d.schedule (length (calls_in d.stage.block d.calls)) d.ops w ws
 holds_of d w ws reason.Slot = slot_holds d.named w ws
 holds_of d w ws _ = false
 

@@ -36,6 +36,7 @@ call_word (calls.MemSeptRemove tdr gpa level) = codes "MEM.SEPT.REMOVE"
 call_word (calls.MemPageAdd tdr gpa page source) = codes "MEM.PAGE.ADD"
 call_word (calls.MemPageAug tdr gpa page) = codes "MEM.PAGE.AUG"
 call_word (calls.MemPageRemove tdr gpa) = codes "MEM.PAGE.REMOVE"
+call_word (calls.MemPageRelocate tdr gpa page) = codes "MEM.PAGE.RELOCATE"
 call_word (calls.MemRangeBlock tdr gpa level) = codes "MEM.RANGE.BLOCK"
 call_word (calls.MemRangeUnblock tdr gpa level) = codes "MEM.RANGE.UNBLOCK"
 call_word (calls.MemTrack tdr) = codes "MEM.TRACK"
@@ -85,6 +86,7 @@ call_numbers (calls.MemSeptRemove tdr gpa level) = tdr ∷ gpa ∷ level ∷ []
 call_numbers (calls.MemPageAdd tdr gpa page source) = tdr ∷ gpa ∷ page ∷ source ∷ []
 call_numbers (calls.MemPageAug tdr gpa page) = tdr ∷ gpa ∷ page ∷ []
 call_numbers (calls.MemPageRemove tdr gpa) = tdr ∷ gpa ∷ []
+call_numbers (calls.MemPageRelocate tdr gpa page) = tdr ∷ gpa ∷ page ∷ []
 call_numbers (calls.MemRangeBlock tdr gpa level) = tdr ∷ gpa ∷ level ∷ []
 call_numbers (calls.MemRangeUnblock tdr gpa level) = tdr ∷ gpa ∷ level ∷ []
 call_numbers (calls.MemTrack tdr) = tdr ∷ []
@@ -140,6 +142,7 @@ op_word (guest.Load register gpa) = codes "load"
 op_word (guest.Store register gpa) = codes "store"
 op_word (guest.Accept gpa) = codes "accept"
 op_word (guest.Rtmr index) = codes "rtmr"
+op_word guest.Report = codes "report"
 op_word (guest.Vmcall register) = codes "vmcall"
 
 abbrev pub op_numbers : GuestOp → List ℕ
@@ -150,6 +153,7 @@ op_numbers (guest.Load register gpa) = register ∷ gpa ∷ []
 op_numbers (guest.Store register gpa) = register ∷ gpa ∷ []
 op_numbers (guest.Accept gpa) = gpa ∷ []
 op_numbers (guest.Rtmr index) = index ∷ []
+op_numbers guest.Report = []
 op_numbers (guest.Vmcall register) = register ∷ []
 
 -- registers 0 to 7, secret words 0 to 511, RTMRs 0 to 3, values of 64 bits; the addresses of words and of private pages
@@ -161,6 +165,7 @@ FitsOp (guest.Load register gpa) = (register < 8) × (gpa < 2 ^ 48) × (gpa % 8 
 FitsOp (guest.Store register gpa) = (register < 8) × (gpa < 2 ^ 48) × (gpa % 8 ≡ 0)
 FitsOp (guest.Accept gpa) = (gpa < 2 ^ 47) × (gpa % 4096 ≡ 0)
 FitsOp (guest.Rtmr index) = index < 4
+FitsOp guest.Report = Unit {0}
 FitsOp (guest.Vmcall register) = register < 8
 
 abbrev pub ops_text : List GuestOp → List ℕ

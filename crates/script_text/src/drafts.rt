@@ -3,7 +3,7 @@
 ghost use Rattle.std.specs.Prelude.{◌≡◌, map, replicate, [], ◌∷◌, slice_set, true, false, ◌&&◌, is_some, Some, Ok, IfOk, MatchOption};
 ghost use Rattle.line_words.specs.Words.{words, is_printable, is_comment, is_skipped};
 ghost use Rattle.script_text.specs.Counted.{IsAnsweredAt};
-ghost use Rattle.script_text.specs.Blocks.{with_slot};
+ghost use Rattle.script_text.specs.Blocks.{with_slot, is_full};
 ghost use Rattle.script_text.specs.Line.{is_list};
 ghost use Rattle.script_text.specs.Reading.{draft_seen, with_call, called_of, with_op, closed_of, entered_of, worded_of, line_of};
 
@@ -12,7 +12,7 @@ use crate::code_blocks::{CodePlace, list_place};
 use crate::faults::{Reason, Taken, bad};
 use crate::fields::field_in;
 use crate::lines::{Block, Entry, Stage, entry_at, is_marked};
-use crate::operations::short_operation;
+use crate::operations::{is_report, reports_in, short_operation};
 use crate::schedules::schedule_line;
 use line_words::{Line, first_numbers, is_skipped, next_word, without_front_spaces};
 use std::alloc::{AllocError, Global};
@@ -36,6 +36,8 @@ pub struct Draft {
 const MOST_CALLS: usize = 4096;
 
 const MOST_OPS: usize = 256;
+
+const MOST_REPORTS: usize = 4;
 
 fn no_calls(alloc: Global, lps: u8) -> Result<Vec<Vec<Call>>, AllocError>
     ensures { IfOk result (λ v. map (λ list. list.items) v.items ≡ replicate lps []) }
@@ -96,11 +98,18 @@ fn take_call(draft: &mut Draft, number: u64, lp: u8, call: Call) -> Taken
 fn add_op(ops: &mut Vec<GuestOp>, number: u64, op: GuestOp) -> Taken
     ensures { IsAnsweredAt number (with_op ops.old.items op) ops.new.items result }
 {
-    if ops.len() >= MOST_OPS {
+    if is_full(ops.as_slice(), op) {
         return Err(bad(number, Reason::Full));
     }
     ops.push(op)?;
     Ok(())
+}
+
+// Whether a list has no room for an operation.
+fn is_full(ops: &[GuestOp], op: GuestOp) -> bool
+    ensures { result ≡ is_full ops.now op }
+{
+    ops.len() >= MOST_OPS || is_report(op) && reports_in(ops) >= MOST_REPORTS
 }
 
 // The block that is open ends. A list keeps its operations where they are.

@@ -24,4 +24,4 @@ mod scripts;
 pub use faults::{Reason, ScriptFault};
 pub use fields::slot_place;
 pub use laws::{faults_are_first, reasons_in_order, scripts_are_in_form, scripts_read_again};
-pub use scripts::{Script, needs_keys, read_script};
+pub use scripts::{Script, needs_keys, needs_report_key, read_script};

@@ -171,6 +171,7 @@ fn named_entry(lp: u8, call: CallName, numbers: &[Option<u64>]) -> Entry
     let (third, fourth) = (argument(numbers, 2), argument(numbers, 3));
     let (page, tdr, word, vp, gpa) = (first, first, second, second, second);
     let (value, max, level, augmented, start) = (third, third, third, third, third);
+    let moved_to = third;
     let (slot, last_slot) = (slot_at(numbers, 1), slot_at(numbers, 2));
     let (page_slot, destination) = (slot_at(numbers, 3), third);
     let call = match call {
@@ -212,6 +213,11 @@ fn named_entry(lp: u8, call: CallName, numbers: &[Option<u64>]) -> Entry
             page: augmented,
         },
         CallName::MemPageRemove => Call::MemPageRemove { tdr, gpa },
+        CallName::MemPageRelocate => Call::MemPageRelocate {
+            tdr,
+            gpa,
+            page: moved_to,
+        },
         CallName::MemRangeBlock => Call::MemRangeBlock { tdr, gpa, level },
         CallName::MemRangeUnblock => Call::MemRangeUnblock { tdr, gpa, level },
         CallName::MemTrack => Call::MemTrack { tdr },

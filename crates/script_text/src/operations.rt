@@ -1,9 +1,9 @@
 //! The words of guest operations.
 
-ghost use Rattle.std.specs.Prelude.{◌≡◌, ◌∷◌, ◌++◌, [], Some, None, Ok, is_some, map, nat_lt, if◌then◌else◌, MatchOption};
+ghost use Rattle.std.specs.Prelude.{◌≡◌, ◌≤◌, length, ◌∷◌, ◌++◌, [], Some, None, Ok, is_some, map, nat_lt, if◌then◌else◌, MatchOption};
 ghost use Rattle.line_words.specs.Number.{number};
 ghost use Rattle.line_words.specs.Words.{words};
-ghost use Rattle.script_text.specs.Blocks.{operation_of, name_of, second_operand_of, is_operand, fit_operands, guest_op_of, operation_with};
+ghost use Rattle.script_text.specs.Blocks.{operation_of, name_of, second_operand_of, operand_count, is_operand, fit_operands, numbers_of, guest_op_of, operation_with, is_report, reports_in};
 ghost use Rattle.script_text.specs.Line.{operation_in};
 
 use crate::faults::Reason;
@@ -21,6 +21,7 @@ pub enum OpName {
     Store,
     Accept,
     Rtmr,
+    Report,
     Vmcall,
 }
 
@@ -59,6 +60,8 @@ pub fn operation_at(word: &[u8]) -> Option<OpName>
         Some(OpName::Accept)
     } else if is(word, "rtmr") {
         Some(OpName::Rtmr)
+    } else if is(word, "report") {
+        Some(OpName::Report)
     } else if is(word, "vmcall") {
         Some(OpName::Vmcall)
     } else {
@@ -71,8 +74,18 @@ fn has_second(op: OpName) -> bool
     ensures { result ≡ is_some (second_operand_of op) }
 {
     match op {
-        OpName::Accept | OpName::Rtmr | OpName::Vmcall => false,
+        OpName::Accept | OpName::Rtmr | OpName::Report | OpName::Vmcall => false,
         _ => true,
+    }
+}
+
+// How many operands an operation has.
+fn operand_count(op: OpName) -> usize
+    ensures { result ≡ operand_count op }
+{
+    match op {
+        OpName::Report => 0,
+        _ => { if has_second(op) { 2 } else { 1 } }
     }
 }
 
@@ -161,6 +174,7 @@ fn ranged_operation(op: OpName, first: u64, second: u64) -> Option<GuestOp>
             let index = operand_in(Operand::RtmrIndex, first)?;
             Some(GuestOp::Rtmr { index: index as u8 })
         }
+        OpName::Report => Some(GuestOp::Report),
         OpName::Vmcall => {
             let register = register_in(first)?;
             Some(GuestOp::Vmcall { register })
@@ -173,7 +187,7 @@ fn ranged_operation(op: OpName, first: u64, second: u64) -> Option<GuestOp>
 pub fn operation_with(op: OpName, numbers: &[Option<u64>]) -> Result<GuestOp, Reason>
     ensures { result ≡ operation_with op numbers.now }
 {
-    check_count(numbers, if has_second(op) { 2 } else { 1 })?;
+    check_count(numbers, operand_count(op))?;
     if !are_numbers(numbers) {
         return Err(Reason::Number);
     }
@@ -181,10 +195,13 @@ pub fn operation_with(op: OpName, numbers: &[Option<u64>]) -> Result<GuestOp, Re
 }
 
 // The numbers that a text's words are, where they are as many as the operation has operands; 0 where it
-// has no second one. None tells nothing.
+// has none. None tells nothing.
 fn operand_numbers(op: OpName, text: &[u8]) -> Option<(u64, u64)>
-    ensures { MatchOption result Unit (λ n. map number (words text.now) ≡ (if is_some (second_operand_of op) then Some n.0 ∷ Some n.1 ∷ [] else Some n.0 ∷ [])) }
+    ensures { MatchOption result Unit (λ n. map number (words text.now) ≡ numbers_of op n.0 n.1) }
 {
+    if let OpName::Report = op {
+        return None;
+    }
     let (number, rest) = next_number(text)?;
     let first = number?;
     if has_second(op) {
@@ -206,7 +223,7 @@ pub fn last_number(text: &[u8]) -> Option<u64>
 }
 
 // The operation whose name a text begins with, and what stands behind the space after that. None tells
-// nothing. Those come first that lists have most of.
+// nothing, nor of `report`, behind which nothing stands. Those come first that lists have most of.
 fn named_operation(text: &[u8]) -> Option<(OpName, &[u8])>
     ensures { MatchOption result Unit (λ x. text.now ≡ name_of x.0 ++ 32 ∷ x.1.now) }
 {
@@ -240,4 +257,28 @@ pub fn short_operation(text: &[u8]) -> Option<GuestOp>
     let (op, rest) = named_operation(text)?;
     let (first, second) = operand_numbers(op, rest)?;
     ranged_operation(op, first, second)
+}
+
+/// Whether an operation is a report.
+pub fn is_report(op: GuestOp) -> bool
+    ensures { result ≡ is_report op }
+{
+    match op {
+        GuestOp::Report => true,
+        _ => false,
+    }
+}
+
+/// How many of a list's operations are reports.
+pub fn reports_in(ops: &[GuestOp]) -> usize
+    ensures count { result ≡ reports_in ops.now }
+    ensures few { result ≤ length ops.now }
+{
+    match ops {
+        [] => 0,
+        [op, further @ ..] => {
+            let others = reports_in(further);
+            if is_report(*op) { others + 1 } else { others }
+        }
+    }
 }

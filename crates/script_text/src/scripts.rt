@@ -3,7 +3,7 @@
 ghost use Rattle.std.specs.Prelude.{◌≡◌, ◌≤◌, ◌^◌, length};
 ghost use Rattle.std.specs.List.{list_any};
 ghost use Rattle.line_words.specs.Words.{pieces};
-ghost use Rattle.script_text.specs.Needs.{names_a_slot, needs_keys};
+ghost use Rattle.script_text.specs.Needs.{names_a_slot, needs_keys, needs_report_key};
 ghost use Rattle.script_text.specs.Reading.{IsAnswered, read_of, read_from, ended_of, nothing_yet, draft_seen};
 
 use crate::code_blocks::none_listed;
@@ -11,6 +11,7 @@ use crate::drafts::{Draft, take_line};
 use crate::faults::{Reason, ScriptFault, bad};
 use crate::fields::none_named;
 use crate::lines::Stage;
+use crate::operations::reports_in;
 use line_words::next_line;
 use std::alloc::Global;
 use std::marker::Model;
@@ -112,4 +113,14 @@ pub fn needs_keys(script: &Script) -> bool
     ensures { result ≡ needs_keys script.now.calls }
 {
     some_names_a_slot(&script.calls)
+}
+
+/// Whether one of these lists has a report: it is made under the report key.
+pub fn needs_report_key(codes: &[Code]) -> bool
+    ensures { result ≡ needs_report_key codes.now }
+{
+    match codes {
+        [] => false,
+        [code, further @ ..] => reports_in(&code.ops) > 0 || needs_report_key(further),
+    }
 }

@@ -103,6 +103,7 @@ const COUNTED_IN_BLOCK: &[&str] = &[
     "3 COUNT | MEM.SEPT.ADD 1 0 3 | MEM.SEPT.ADD 1 0 3 5 5 | MEM.SEPT.RD 1 0 | MEM.SEPT.RD 1 0 3 5",
     "3 COUNT | MEM.PAGE.ADD 1 0 8 | MEM.PAGE.ADD x 0 8 0 0 | MR.EXTEND 1 | MR.EXTEND 1 0 0",
     "3 COUNT | MEM.PAGE.AUG 1 0 | MEM.PAGE.AUG 1 0 8 0 | MEM.PAGE.AUG x 0 8 0 | MEM.PAGE.AUG",
+    "3 COUNT | MEM.PAGE.RELOCATE 1 0 | MEM.PAGE.RELOCATE 1 0 8 0 | MEM.PAGE.RELOCATE x 0 8 0",
     "3 COUNT | MEM.PAGE.REMOVE 1 | MEM.PAGE.REMOVE 1 0 8 | MEM.TRACK | MEM.TRACK 1 2 | MEM.TRACK x y",
     "3 COUNT | MEM.RANGE.BLOCK 1 0 | MEM.RANGE.BLOCK 1 0 3 8 | MEM.RANGE.BLOCK x 0",
     "3 COUNT | MEM.RANGE.UNBLOCK 1 0 | MEM.RANGE.UNBLOCK 1 0 3 8 | MEM.RANGE.UNBLOCK x 0",
@@ -187,6 +188,7 @@ const CALLS: &[&str] = &[
     "MemSeptRemove { tdr: 1, gpa: 18, level: 3 } | MEM.SEPT.REMOVE 0x1 0x12 0x3",
     "MemPageAdd { tdr: 1, gpa: 18, page: 8, source: 0 } | MEM.PAGE.ADD 1 0x12 8 0",
     "MemPageAug { tdr: 1, gpa: 18, page: 8 } | MEM.PAGE.AUG 1 0x12 8 | MEM.PAGE.AUG 01 18 0x8",
+    "MemPageRelocate { tdr: 1, gpa: 18, page: 8 } | MEM.PAGE.RELOCATE 1 0x12 8 | MEM.PAGE.RELOCATE 01 18 0x8",
     "MemPageRemove { tdr: 1, gpa: 4096 } | MEM.PAGE.REMOVE 1 4096 | MEM.PAGE.REMOVE 0x1 0x1000",
     "MemRangeBlock { tdr: 1, gpa: 18, level: 3 } | MEM.RANGE.BLOCK 1 18 3",
     "MemRangeBlock { tdr: 1, gpa: 18, level: 3 } | MEM.RANGE.BLOCK 0x1 0x12 0x3",
@@ -237,7 +239,7 @@ const IN_LIST: &[&str] = &[
     "3 COUNT | secret | secret 0 | secret x | secret 8 | secret 0 0 0 | secret 8 512 x",
     "3 COUNT | end 0 | set | set 0 | set x | set 8 0 0 | add 0 | add 0 0 0 | load 0 | load x 0 0",
     "3 COUNT | store 0 | store 0 0 0 0 0 0 0 | accept | accept 1 0 | rtmr | rtmr 4 0 | vmcall",
-    "3 COUNT | vmcall 0 0 | vmcall x 0",
+    "3 COUNT | vmcall 0 0 | vmcall x 0 | report 0 | report x",
     "3 NUMBER | set x 0 | set 8 x | set 0 18446744073709551616 | add x 8 | add 8 x | load 0 0x",
     "3 NUMBER | load x 1 | store 8 x | store x 0 | accept x | rtmr 0y | vmcall -1 | vmcall #",
     "3 NUMBER | secret x 512 | secret 8 x | secret 0 -1 | secret 0 0x",
@@ -248,6 +250,9 @@ const IN_LIST: &[&str] = &[
     "3 RANGE | store 0 281474976710656 | store 0 281474976710652 | store 0 7 | store 9 8",
     "3 RANGE | accept 140737488355328 | accept 140737488351231 | accept 2048 | accept 1",
     "3 RANGE | rtmr 4 | rtmr 256 | vmcall 8 | vmcall 256",
+    "Report | report\nreport\nreport\nreport",
+    "7 FULL | report\nreport\nreport\nreport\nreport",
+    "8 FULL | report\nreport\nset 0 0\nreport\nreport\nreport",
 ];
 
 const OPERATIONS: &[&str] = &[
@@ -264,6 +269,7 @@ const OPERATIONS: &[&str] = &[
     "Accept { gpa: 140737488351232 } | accept 140737488351232 | accept 0x7FFFFFFFF000",
     "Accept { gpa: 0 } | accept 0",
     "Rtmr { index: 3 } | rtmr 3 | rtmr 0x3",
+    "Report | report |  report ",
     "Vmcall { register: 7 } | vmcall 7 | vmcall 07",
 ];
 

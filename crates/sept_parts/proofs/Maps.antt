@@ -34,7 +34,7 @@ use Rattle.lock_words.specs.Grips.{holds_alone}
 use Rattle.lock_words.specs.LockWords.{put_word}
 use Rattle.leaf_engine.specs.Changes.{Change, Memory, changed_all}
 use Rattle.leaf_engine.specs.Trees.{done, only}
-use Rattle.leaf_engine.specs.Means.{Instant, Means, AnswersAs, MayFillAll, MayOweAll, work_of, OfCall, hold}
+use Rattle.leaf_engine.specs.Means.{Instant, Means, AnswersAs, FillsAllowed, MayOweAll, work_of, OfCall, hold, grasp_of}
 use Rattle.leaf_parts.specs.Arguments.{checked, AllHold}
 use Rattle.leaf_parts.proofs.Begun.{IsTd, TwoControls, page_lock, op_lock, locks-kept}
 use Rattle.leaf_parts.proofs.Checks.{checks-mean}
@@ -157,7 +157,7 @@ module _ (m : Machine) (c : Instant) (hs : List Held) (x : Mapping) (table : ℕ
     own-then : w'.pages.owners t ≡ t
     own-then = subst (λ (y : Pages). y.owners t ≡ t) (sym pages) (rw (tdr-apart w t p a.alive.kind a.host) (a.lawful.pages.tdr t a.alive.kind))
 
-    pub map-end : AnswersAs (work_of (OfCall row)) w (only (Done value.Nothing)) → MayFillAll m (hold c hs) w fills → Respects (hold c hs) w w'
+    pub map-end : AnswersAs (work_of (OfCall row)) w (only (Done value.Nothing)) → FillsAllowed m (hold c hs) (grasp_of c hs) w fills → Respects (hold c hs) w w'
         → (let mem = changed_all later after in Shows m mem.words mem.slots (record (c.state) { world = w' })) → MayOweAll m (hold c hs) w' after later
         → Means m c (work_of (OfCall row)) hs (done fills (changes ++ later)) []
     map-end answers may_fill respects shows owes = (
@@ -186,7 +186,7 @@ pub record CanMap (m : Machine) (x : Mapping) : Type 0 where
 -- and what it shows of its own: the page may be filled, and is, and the act respects the rules
 pub record Fills (m : Machine) (c : Instant) (row : Row) (x : Mapping) (words : ℕ → ℕ → ℕ) (fills : List Change) : Type 0 where
   pub filled : IsFilled m c x words fills
-  pub allowed : MayFillAll m (hold c (map_locks x)) c.state.world fills
+  pub allowed : FillsAllowed m (hold c (map_locks x)) (grasp_of c (map_locks x)) c.state.world fills
   pub respects : Respects (hold c (map_locks x)) c.state.world (row.act c.state.world)
 
 pub holds-map : (x : Mapping) (kept : List Held) → (x.page == x.tdr) ≡ false → HoldsTree (map_locks x ++ kept) x.tdr

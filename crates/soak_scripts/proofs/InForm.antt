@@ -12,6 +12,7 @@ use Rattle.td_words.specs.declared.calls.Call.TheVariants as call
 use Rattle.td_words.specs.declared.calls.GuestOp.{GuestOp}
 use Rattle.td_words.specs.declared.calls.GuestOp.TheVariants as op
 use Rattle.td_words.specs.Slots.{output_slot}
+use Rattle.script_text.specs.Blocks.{reports_in}
 use Rattle.script_text.specs.Spelling.{FitsCall, FitsOp, call_numbers}
 use Rattle.script_text.specs.Laws.{IsCode, IsInForm}
 use Rattle.soak_scripts.specs.Soak.{page_word, summed, sum_ops, guest_list, create_lines, stream_lines, tree_lines, add_lines, export_lines, import_lines, begin_lines, pause_lines, state_lines, first_lines, commit_lines, source_lines, destination_lines, soak_of, source_script, destination_script}
@@ -168,15 +169,21 @@ gpa_fits i = ap (λ (x : ℕ). x % 8) (omega arith) ∙ mul-mod_right 8 (512 * i
 record AreOps (ops : List GuestOp) (many : ℕ) : Type 0 where
   fit : All FitsOp ops
   few : length ops ≤ many
+  no_reports : reports_in ops ≡ 0
+
+reports-append : (xs ys : List GuestOp) → reports_in (xs ++ ys) ≡ reports_in xs + reports_in ys
+reports-append [] ys = omega arith
+reports-append (x ∷ xs) ys = let more = reports-append xs ys in omega (arith, more)
 
 summing : (i : ℕ) → i ≤ 100 → AreOps (sum_ops i) (2 * i)
-summing zero within = record { fit = All-nil FitsOp; few = omega arith }
+summing zero within = record { fit = All-nil FitsOp; few = omega arith; no_reports = refl }
 summing (suc i) within =
     let h = summing i (omega (arith, within)) in
     record {
       fit = All-append FitsOp (sum_ops i) (op.Load 1 (4096 * i) ∷ op.Add 0 1 ∷ []) h.fit
           (All-cons FitsOp (op.Load 1 (4096 * i)) (op.Add 0 1 ∷ []) (omega arith, omega (arith, within), gpa_fits i) (All-cons FitsOp (op.Add 0 1) [] (omega arith, omega arith) (All-nil FitsOp)));
       few = let e = length-append (sum_ops i) (op.Load 1 (4096 * i) ∷ op.Add 0 1 ∷ []) in let f = h.few in omega (arith, e, f);
+      no_reports = reports-append (sum_ops i) (op.Load 1 (4096 * i) ∷ op.Add 0 1 ∷ []) ∙ ap (λ (n : ℕ). n + 0) h.no_reports;
     }
 
 listed : (n : ℕ) → n ≤ 512 → IsCode (record { lps = 1; pages = 1024; hkids = 1 }) (guest_list n)
@@ -187,6 +194,7 @@ listed n few =
       tdr = omega arith;
       index = omega arith;
       few = let e = length-append (sum_ops (summed n)) (op.Vmcall 0 ∷ []) in let f = h.few in omega (arith, e, f, s);
+      few_reports = let e = reports-append (sum_ops (summed n)) (op.Vmcall 0 ∷ []) in let none = h.no_reports in omega (arith, e, none);
       operands = All-append FitsOp (sum_ops (summed n)) (op.Vmcall 0 ∷ []) h.fit (All-cons FitsOp (op.Vmcall 0) [] (omega arith) (All-nil FitsOp));
     }
 

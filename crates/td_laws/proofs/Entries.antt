@@ -14,12 +14,12 @@ use Rattle.td_words.specs.declared.calls.Call.{Call}
 use Rattle.td_words.specs.declared.calls.Call.TheVariants as call
 use Rattle.td_words.specs.declared.calls.GuestOp.{GuestOp}
 use Rattle.td_words.specs.Packing.{Entry}
-use Rattle.flat_core.specs.World.{World, put}
+use Rattle.flat_core.specs.World.{World, put, free_entry}
 use Rattle.flat_core.specs.Opening.{Opening}
 use Rattle.flat_core.specs.Row.{OperationRow, Passes}
 use Rattle.flat_core.specs.Conditions.{is_host_in}
 use Rattle.flat_core.specs.Tree.{number_at, entry_at, same_state}
-use Rattle.flat_core.specs.Effects.{put_in, tell_words}
+use Rattle.flat_core.specs.Effects.{put_in, unmap_page, tell_words}
 use Rattle.flat_core.specs.Inputs.{Input, input_in}
 use Rattle.flat_core.specs.MemRows.{open_states, blocked_states, removed_states, blocked_state, unblocked_state}
 use Rattle.flat_core.specs.ExportRows.{writable_states, write_blocked, write_blocked_states, write_unblocked, restored_states}
@@ -29,7 +29,8 @@ use Rattle.flat_core.specs.Table.{row_of}
 use Rattle.flat_core.specs.Guest.{ByRow, operation_of, accept_page, is_pending_at, reach}
 use Rattle.flat_core.proofs.Acts.{event_world}
 use Rattle.flat_core.proofs.Operations.{operation_row}
-use Rattle.flat_core.proofs.Passed.{sept_passed, page_passed, augment_passed, block_passed, unblock_passed, remove_passed, sept_remove_passed}
+use Rattle.flat_core.proofs.EntryStates.{entry_set}
+use Rattle.flat_core.proofs.Passed.{sept_passed, page_passed, augment_passed, block_passed, unblock_passed, remove_passed, relocate_passed, sept_remove_passed}
 use Rattle.td_laws.specs.Steps.{is_among, may_move}
 use Rattle.td_laws.specs.Entries.{next_entries, EventsMoveEntries}
 use Rattle.td_laws.proofs.Steps.{may_stay, all_at}
@@ -107,6 +108,13 @@ module _ (o : Opening) (w : World) (t level number : ℕ) where
       set_moves tdr 0 (number_at 0 gpa) _ (goes_on (λ a. entry.Pending) _ (entry.Free ∷ []) (augment_passed o.machine w tdr gpa page ps).free refl)
   call_moves me owned (call.MemPageRemove tdr gpa) ps =
       set_moves tdr 0 (number_at 0 gpa) _ (goes_on (λ a. entry.Free) _ removed_states (remove_passed o.machine w tdr gpa ps).state refl)
+  call_moves me owned (call.MemPageRelocate tdr gpa page) ps =
+      let n : ℕ = number_at 0 gpa in
+      let was : EntryState = (entry_at w tdr 0 gpa).state in
+      let goes : May was (unblocked_state was) = goes_on unblocked_state was removed_states (relocate_passed o.machine w tdr gpa page ps).named.state refl in
+      entry_set (unmap_page tdr 0 n w) tdr 0 n (record { state = unblocked_state was; page = page; mark = 0 }) (λ (x : Entry). May old x.state) t level number
+      (λ i j k. let same : w.tds.entries t level number ≡ w.tds.entries tdr 0 n = λ h. w.tds.entries (i h) (j h) (k h) in subst (λ (x : Entry). May x.state (unblocked_state was)) (sym same) goes)
+      (λ off. entry_set w tdr 0 n free_entry (λ (x : Entry). May old x.state) t level number (λ i j k. absurd (off i j k)) (λ apart. stays old))
   call_moves me owned (call.MemRangeBlock tdr gpa l) ps =
       set_moves tdr l (number_at l gpa) _ (goes_on blocked_state (entry_at w tdr l gpa).state open_states (block_passed o.machine w tdr gpa l ps).state refl)
   call_moves me owned (call.MemRangeUnblock tdr gpa l) ps =
@@ -138,6 +146,7 @@ module _ (o : Opening) (w : World) (t level number : ℕ) where
       (λ r gpa. stays old)
       (λ gpa. accept_moves u gpa (is_pending_at w u gpa) refl)
       (λ i. stays old)
+      (stays old)
       (λ r. stays old) op row e
 
   reach_moves : (u v : ℕ) (access : Access) (r gpa page : ℕ) → Moves (reach u v access r gpa page w)

@@ -59,6 +59,7 @@ module _ (o : Opening) (w : World) (h : ℕ) where
       (λ r gpa. refl)
       (λ gpa. accepted Stays (is_pending_at w u gpa) u gpa w (λ y. refl) (λ y. refl))
       (λ i. refl)
+      refl
       (λ r. refl) op row e
 
   reach_stays : (u v : ℕ) (access : Access) (r gpa page : ℕ) → Stays (reach u v access r gpa page w)

@@ -89,6 +89,7 @@ module _ {A : Type 0} (values : Tds → ℕ → A) (same : (tds : Tds) (entries 
       (λ r gpa. refl)
       (λ gpa. accepted (λ (x : World). values x.tds t ≡ values w.tds t) (is_pending_at w u gpa) u gpa w (λ y. same w.tds _ t) (λ y. refl))
       (λ i. refl)
+      refl
       (λ r. refl) op row e
 
   reach_leaves : (u v : ℕ) (access : Access) (r gpa page : ℕ) → values (reach u v access r gpa page w).tds t ≡ values w.tds t

@@ -107,6 +107,11 @@ pub enum Call {
         tdr: u64,
         gpa: u64,
     },
+    MemPageRelocate {
+        tdr: u64,
+        gpa: u64,
+        page: u64,
+    },
     MemRangeBlock {
         tdr: u64,
         gpa: u64,
@@ -247,5 +252,6 @@ pub enum GuestOp {
     Store { register: u8, gpa: u64 },
     Accept { gpa: u64 },
     Rtmr { index: u8 },
+    Report,
     Vmcall { register: u8 },
 }

@@ -11,7 +11,7 @@ use Rattle.flat_core.specs.Opening.{Opening}
 use Rattle.flat_core.specs.Row.{OperationRow}
 use Rattle.flat_core.specs.Tree.{page_of_gpa}
 use Rattle.flat_core.specs.Translations.{look_up}
-use Rattle.flat_core.specs.Guest.{ByRow, Private, set_value, take_secret, add_registers, shared_load, shared_store, accept, extend_rtmr, call_host, operation_of, is_private, walk_level}
+use Rattle.flat_core.specs.Guest.{ByRow, Private, set_value, take_secret, add_registers, shared_load, shared_store, accept, extend_rtmr, report_facts, call_host, operation_of, is_private, walk_level}
 use Rattle.leaf_engine.specs.Guests.{WordGuest, Step, Operates, Accesses, Loads, Leaves, private_step, operation_step, due_step, staying_step, step_of}
 
 abbrev pub StepFits : Opening → (line : ℕ) → WordGuest → Step → Type 0
@@ -31,6 +31,7 @@ module _ (o : Opening) (line : ℕ) (codes : ℕ → ℕ → List GuestOp) (ts :
   operation-fits (op.Add r k) = (add_registers g.vp r k, refl)
   operation-fits (op.Accept gpa) = (accept g.tdr g.vp gpa, refl)
   operation-fits (op.Rtmr k) = (extend_rtmr g.tdr g.vp line k, refl)
+  operation-fits op.Report = (report_facts g.tdr g.vp line, refl)
   operation-fits (op.Vmcall r) = (call_host g.vp r, refl)
   operation-fits (op.Load r gpa) = by (is_private gpa) refl
     where

@@ -58,6 +58,7 @@ module _ (o : Opening) (w : World) (p : ℕ) where
       (λ r gpa. refl)
       (λ gpa. accepted (λ x. noted x ≡ noted w) (is_pending_at w t gpa) t gpa w (λ y. refl) (λ y. refl))
       (λ i. refl)
+      refl
       (λ r. refl) op row is
 
   reach_notes : (t v : ℕ) (access : Access) (r gpa page : ℕ) → noted (reach t v access r gpa page w) ≡ noted w

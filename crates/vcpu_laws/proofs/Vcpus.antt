@@ -96,6 +96,7 @@ module _ (o : Opening) (w : World) (v : ℕ) where
         accepts gpa true = moves_on g.vp (v == g.vp) refl
         accepts gpa false = moves_on g.vp (v == g.vp) refl
     operation_changes (op.Rtmr i) = by_row (op.Rtmr i) _ (moves_on g.vp (v == g.vp) refl)
+    operation_changes op.Report = by_row op.Report _ (moves_on g.vp (v == g.vp) refl)
     operation_changes (op.Vmcall r) = by_row (op.Vmcall r) _ (moves_on g.vp (v == g.vp) refl)
 
     -- an access to a word of a private page
@@ -121,6 +122,7 @@ module _ (o : Opening) (w : World) (v : ℕ) where
     access_changes (op.Store r gpa) = either_access (op.Store r gpa) (is_private gpa) _ _ (by_access (op.Store r gpa) Write r gpa (λ page. moves_on g.vp (v == g.vp) refl)) (λ access r gpa page e. cc)
     access_changes (op.Accept gpa) = λ access r gpa page e. cc
     access_changes (op.Rtmr i) = λ access r gpa page e. cc
+    access_changes op.Report = λ access r gpa page e. cc
     access_changes (op.Vmcall r) = λ access r gpa page e. cc
 
 module _ (o : Opening) (w : World) (p : ℕ) (lp : Lp) (v : ℕ) where

@@ -14,7 +14,7 @@ use Rattle.command_files.specs.Commands.{NamedSeen}
 use Rattle.command_files.specs.Inputs.{Reads, TakesInputs}
 use Rattle.view_runner.specs.declared.commands.Shown.{Shown}
 use Rattle.view_runner.specs.declared.ending.Told.{Told}
-use Rattle.view_runner.specs.Endings.{told_seen, opened_by, given_by, run_view, keys_due, InputsEnd, ScriptEnd, ReadPart, AnswerPart}
+use Rattle.view_runner.specs.Endings.{told_seen, opened_by, given_by, run_view, needs_due, InputsEnd, ScriptEnd, ReadPart, AnswerPart}
 
 -- what is given is what the inputs hand out
 pub as_given : (x : Shown) (text : List ℕ) (s : ScriptSeen) (inputs : Inputs) (secrets : List ℕ) (sealed : List BundleSeen) (arrived : List SlotIncoming) (r : Result Told AllocError)
@@ -25,12 +25,12 @@ as_given x text s inputs secrets sealed arrived r words bundles opened h =
 
 module _ (contents : Option (List ℕ → Option (List ℕ))) (x : Shown) (n : NamedSeen) (text : List ℕ) (s : ScriptSeen) (old new : Reads) where
   -- a fault of the inputs is told
-  pub fault_ends : (f : InputFault) (r : Result Told AllocError) → TakesInputs contents (keys_due n.bundles s.calls) n old new (Err f) → IfOk r (λ e. InputsEnd x n text s (Err f) (told_seen e)) → IfOk r (λ e. ScriptEnd contents x n text s old new (told_seen e))
+  pub fault_ends : (f : InputFault) (r : Result Told AllocError) → TakesInputs contents (needs_due n s) n old new (Err f) → IfOk r (λ e. InputsEnd x n text s (Err f) (told_seen e)) → IfOk r (λ e. ScriptEnd contents x n text s old new (told_seen e))
   fault_ends f (Ok e) takes ends = (Err f, takes, ends)
   fault_ends f (Err e) takes ends = tt
 
   -- so is a run
-  pub run_ends : (inputs : Inputs) (r : Result Told AllocError) → TakesInputs contents (keys_due n.bundles s.calls) n old new (Ok inputs) → IfOk r (λ e. told_seen e ≡ run_view x text s (given_by inputs)) → IfOk r (λ e. ScriptEnd contents x n text s old new (told_seen e))
+  pub run_ends : (inputs : Inputs) (r : Result Told AllocError) → TakesInputs contents (needs_due n s) n old new (Ok inputs) → IfOk r (λ e. told_seen e ≡ run_view x text s (given_by inputs)) → IfOk r (λ e. ScriptEnd contents x n text s old new (told_seen e))
   run_ends inputs (Ok e) takes h = (Ok inputs, takes, h)
   run_ends inputs (Err e) takes h = tt
 

@@ -19,6 +19,7 @@ use Rattle.command_files.specs.declared.inputs.InputFault.{InputFault}
 use Rattle.command_files.specs.declared.inputs.InputFault.TheVariants as fault
 use Rattle.command_files.specs.declared.inputs.Inputs.{Inputs}
 use Rattle.command_files.specs.declared.inputs.KeyBytes.{KeyBytes}
+use Rattle.command_files.specs.declared.inputs.Needs.{Needs}
 use Rattle.command_files.specs.Commands.{NamedSeen}
 use Rattle.command_files.specs.Inputs.{Reads, Loads, TakesInputs}
 use Rattle.incoming.specs.Arrivals.{SlotIncoming, incoming_in, at_slot}
@@ -80,6 +81,10 @@ keys_end = record { status = 7; text = codes "key file" ++ 10 ∷ [] }
 abbrev pub secrets_end : Ended
 secrets_end = record { status = 7; text = codes "secrets file" ++ 10 ∷ [] }
 
+-- the report key file hasn't its length, which never comes, since none is named
+abbrev pub report_key_end : Ended
+report_key_end = record { status = 7; text = codes "report key file" ++ 10 ∷ [] }
+
 -- ---- a script's run
 
 -- the bundles of a container, opened under the keys of a key file; without one each byte of these is 0
@@ -108,11 +113,16 @@ abbrev pub input_name : NamedSeen → Input → List ℕ
 input_name n input.Bundles = name_in n.bundles
 input_name n input.Keys = name_in n.keys
 input_name n input.Secrets = name_in n.secrets
+input_name n input.ReportKey = name_in n.report_key
 
 -- No bundle is sealed, so the key file is needed where a container is named alone, and a call makes a bundle or takes one.
 abbrev pub keys_due : (container : Option (List ℕ)) → List (List Call) → Bool
 keys_due None calls = false
 keys_due (Some name) calls = needs_keys calls
+
+-- No report is shown, so a report key is never needed.
+abbrev pub needs_due : NamedSeen → ScriptSeen → Needs
+needs_due n s = record { keys = keys_due n.bundles s.calls; report_key = false }
 
 -- ---- the ending that is due by what the loads answered; want of memory is no ending
 
@@ -130,11 +140,12 @@ InputsEnd x n text s (Err (fault.Unread i)) e = e ≡ unread_end (input_name n i
 InputsEnd x n text s (Err (fault.Container place)) e = e ≡ container_end place
 InputsEnd x n text s (Err fault.Keys) e = e ≡ keys_end
 InputsEnd x n text s (Err fault.Secrets) e = e ≡ secrets_end
+InputsEnd x n text s (Err fault.ReportKey) e = e ≡ report_key_end
 InputsEnd x n text s (Err fault.OutOfMemory) e = ⊥
 
 -- the inputs are loaded behind a script
 abbrev pub ScriptEnd : Option (List ℕ → Option (List ℕ)) → Shown → NamedSeen → (text : List ℕ) → ScriptSeen → Reads → Reads → Ended → Type 0
-ScriptEnd contents x n text s old new e = (r : Result Inputs InputFault) × TakesInputs contents (keys_due n.bundles s.calls) n old new r × InputsEnd x n text s r e
+ScriptEnd contents x n text s old new e = (r : Result Inputs InputFault) × TakesInputs contents (needs_due n s) n old new r × InputsEnd x n text s r e
 
 -- and nothing else is loaded where it isn't in the grammar, or isn't there
 abbrev pub ReadEnd : Option (List ℕ → Option (List ℕ)) → Shown → NamedSeen → (text : List ℕ) → Reads → Reads → Result ScriptSeen ScriptFault → Ended → Type 0
@@ -173,7 +184,7 @@ LoadsBundles contents name old new = (answer : Result (Vec ℕ) LoadFault) × Lo
 
 -- or the inputs of a script
 abbrev pub TakesSome : Option (List ℕ → Option (List ℕ)) → NamedSeen → ScriptSeen → Reads → Reads → Type 0
-TakesSome contents n s old new = (r : Result Inputs InputFault) × TakesInputs contents (keys_due n.bundles s.calls) n old new r
+TakesSome contents n s old new = (r : Result Inputs InputFault) × TakesInputs contents (needs_due n s) n old new r
 
 -- behind a script nothing was loaded, or its inputs; and these only where what was loaded is a script
 abbrev pub ReadPart : Option (List ℕ → Option (List ℕ)) → NamedSeen → Reads → Reads → Result ScriptSeen ScriptFault → Type 0

@@ -63,6 +63,7 @@ named_in rows = option_map (λ script. record {
   secrets = first_of (codes "secrets") rows;
   out_bundles = None;
   guest_out = None;
+  report_key = None;
 }) (first_of (codes "SCRIPT") rows)
 
 -- the events of a script's run

@@ -83,6 +83,7 @@ fn named_in<'a>(found: &ArgMatches<'a>) -> Option<Named<'a>>
             secrets: value_of(found, "secrets"),
             out_bundles: None,
             guest_out: None,
+            report_key: None,
         }),
         None => None,
     }

@@ -5,7 +5,7 @@ ghost use Rattle.bundle_store.specs.Containers.{container_in};
 ghost use Rattle.command_files.specs.Commands.{named_seen};
 ghost use Rattle.script_text.specs.Seen.{ScriptSeen};
 ghost use Rattle.view_runner.specs.declared.commands.Shown.{Shown};
-ghost use Rattle.view_runner.specs.Endings.{told_seen, usage_end, bad_end, unread_end, container_end, keys_end, secrets_end, container_view, input_name, BundlesEnd, InputsEnd};
+ghost use Rattle.view_runner.specs.Endings.{told_seen, usage_end, bad_end, unread_end, container_end, keys_end, secrets_end, report_key_end, container_view, input_name, BundlesEnd, InputsEnd};
 
 use bundle_lines::bundle_lines;
 use bundle_store::{ContainerFault, LoadFault, read_container};
@@ -87,6 +87,16 @@ fn bad_secrets(alloc: Global) -> Result<Told, AllocError>
     })
 }
 
+/// The report key file hasn't its length.
+fn bad_report_key(alloc: Global) -> Result<Told, AllocError>
+    ensures { IfOk result (λ e. told_seen e ≡ report_key_end) }
+{
+    Ok(Told {
+        status: 7,
+        text: "report key file\n".as_bytes().to_vec(alloc)?,
+    })
+}
+
 fn input_name<'a>(named: &Named<'a>, input: Input) -> &'a str
     ensures { result.now ≡ input_name (named_seen named.now) input }
 {
@@ -94,6 +104,7 @@ fn input_name<'a>(named: &Named<'a>, input: Input) -> &'a str
         Input::Bundles => named.bundles,
         Input::Keys => named.keys,
         Input::Secrets => named.secrets,
+        Input::ReportKey => named.report_key,
     };
     name.unwrap_or("")
 }
@@ -108,6 +119,7 @@ pub fn of_fault(alloc: Global, named: &Named<'_>, fault: InputFault) -> Result<T
         InputFault::Container(place) => bad_container(alloc, place),
         InputFault::Keys => bad_keys(alloc),
         InputFault::Secrets => bad_secrets(alloc),
+        InputFault::ReportKey => bad_report_key(alloc),
         InputFault::OutOfMemory => Err(AllocError),
     }
 }

@@ -7,12 +7,12 @@ ghost use Rattle.leaf_table.specs.Given.{given_in};
 ghost use Rattle.script_text.specs.Laws.{IsInForm};
 ghost use Rattle.script_text.specs.Reading.{read_of};
 ghost use Rattle.view_runner.specs.declared.commands.Shown.TheVariants.{Trace};
-ghost use Rattle.view_runner.specs.Endings.{told_seen, opened_by, given_by, run_view, keys_due, ScriptEnd, ReadEnd, AnswerEnd, ReachesRun, TakesSome, ReadPart, AnswerPart, LoadsRun};
+ghost use Rattle.view_runner.specs.Endings.{told_seen, opened_by, given_by, run_view, keys_due, needs_due, ScriptEnd, ReadEnd, AnswerEnd, ReachesRun, TakesSome, ReadPart, AnswerPart, LoadsRun};
 
 use crate::commands::Shown;
 use crate::ending::{Told, bad, of_fault, unread};
 use bundle_store::{Files, LoadFault};
-use command_files::{Inputs, KeyBytes, Named, take_inputs};
+use command_files::{Inputs, KeyBytes, Named, Needs, take_inputs};
 use field_lines::Form;
 use incoming::IncomingBundles;
 use leaf_table::Given;
@@ -134,6 +134,16 @@ fn keys_due(container: Option<&str>, script: &Script) -> bool
     }
 }
 
+// Which of the two keys is needed.
+fn needs_due(named: &Named<'_>, script: &Script) -> Needs
+    ensures { result ≡ needs_due (named_seen named.now) script.now }
+{
+    Needs {
+        keys: keys_due(named.bundles, script),
+        report_key: false,
+    }
+}
+
 // What a script comes to: its inputs are taken, and then its run is shown.
 fn of_script<F: Files>(
     alloc: Global,
@@ -151,7 +161,7 @@ fn of_script<F: Files>(
     ensures writes { F.write_faults files.new ≡ F.write_faults files.old }
     ensures few { IfOk result (λ e. e.status ≤ 7) }
 {
-    match take_inputs(alloc, named, keys_due(named.bundles, script), files) {
+    match take_inputs(alloc, named, needs_due(named, script), files) {
         Ok(inputs) => of_inputs(alloc, shown, text, script, &inputs),
         Err(fault) => of_fault(alloc, named, fault),
     }

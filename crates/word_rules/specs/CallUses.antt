@@ -20,7 +20,7 @@ use Rattle.flat_core.specs.Table.{row_of}
 use Rattle.word_rules.specs.Guards.{Guard, Locked, Role, Grip, MeetsAll}
 use Rattle.word_rules.specs.Rules.{Unused}
 use Rattle.word_rules.specs.Views.{no_page}
-use Rattle.word_rules.specs.Uses.{Use, HeadPage, HeadTdr, HeadOp, Taken, GivenBack, HostRead, HostWrite, PageRdmd, CacheWb, Reclaim, MngCreate, KeyConfig, Addcx, MngInit, MngRdLife, MngRdOp, MngRdEpoch, VpFlushDone, KeyFreeid, MrExtend, MrFinalize, VpCreate, VpInit, VpEnter, Enters, SeptAdd, SeptRd, PageAdd, PageAddPages, TakesPage, ReclaimsControl, ReclaimsRest, AddsEntry, ChangesOp, BeginsEpochs, GivesHkid, FreesHkid, line_of, PageAug, BlockNoted, BlockTested, BlockTestedShared, VpFlush, SeptRemove, PageRemove, RangeBlock, RangeUnblock, Track, GivesPageBack, GivesNodeBack, Tracks, ExportStreamCreate, ExportBlockWrite, ExportBlockWriteEntry, ExportUnblockWrite, ExportPause, ExportAbort, ExportRestore, ExportImmutable, ExportMemory, ExportMemoryRunning, ExportMemoryPaused, ExportMemoryStream, ExportMemoryWordsPaused, ExportTokens, ExportTdState, ExportVpState, ImportImmutable, ImportMemory, ImportMemoryWords, ImportTokens, ImportTdState, ImportVpState, ImportCommit, ImportEnd, ImportAbort}
+use Rattle.word_rules.specs.Uses.{Use, HeadPage, HeadTdr, HeadOp, Taken, GivenBack, HostRead, HostWrite, PageRdmd, CacheWb, Reclaim, MngCreate, KeyConfig, Addcx, MngInit, MngRdLife, MngRdOp, MngRdEpoch, VpFlushDone, KeyFreeid, MrExtend, MrFinalize, VpCreate, VpInit, VpEnter, Enters, SeptAdd, SeptRd, PageAdd, PageAddPages, TakesPage, ReclaimsControl, ReclaimsRest, AddsEntry, ChangesOp, BeginsEpochs, GivesHkid, FreesHkid, line_of, PageAug, BlockNoted, BlockTested, BlockTestedShared, VpFlush, SeptRemove, PageRemove, RangeBlock, RangeUnblock, Track, Relocate, GivesPageBack, GivesNodeBack, Tracks, ExportStreamCreate, ExportBlockWrite, ExportBlockWriteEntry, ExportUnblockWrite, ExportPause, ExportAbort, ExportRestore, ExportImmutable, ExportMemory, ExportMemoryRunning, ExportMemoryPaused, ExportMemoryStream, ExportMemoryWordsPaused, ExportTokens, ExportTdState, ExportVpState, ImportImmutable, ImportMemory, ImportMemoryWords, ImportTokens, ImportTdState, ImportVpState, ImportCommit, ImportEnd, ImportAbort}
 use Rattle.word_rules.specs.Spots.{guard_at}
 
 -- the locks of a row's tries are held, each in its mode
@@ -73,8 +73,8 @@ abbrev pub fill_uses : (tdr page : ℕ) → EntryState → (named : ℕ) → Lis
 fill_uses t p entry.Free named = taken_uses p ++ of_td t AddsEntry ∷ []
 fill_uses t p _ named = of_both t named ImportMemoryWords ∷ []
 
--- the uses of a call, in the order of the leaf table. One is left out: no lock gives what EXPORT.MEM loads the words of a
--- page under while guests may run, that nobody may write there (`ExportMemoryWords`)
+-- the uses of a call, in the order of the leaf table. Two are left out, by which words of a private page are read while guests may
+-- run: `ExportMemoryWords`, and `RelocateWords` of MEM.PAGE.RELOCATE's copy. No lock keeps stores off these words.
 abbrev pub uses_of : Opening → World → Call → List CallUse
 uses_of o w (call.HostRead page word) = of_page page HostRead ∷ []
 uses_of o w (call.HostWrite page word value) = of_page page HostWrite ∷ []
@@ -106,6 +106,9 @@ uses_of o w (call.MemPageAdd tdr gpa page source) =
 uses_of o w (call.MemPageAug tdr gpa page) = td_uses tdr ++ (taken_uses page ++ of_td tdr PageAug ∷ of_td tdr AddsEntry ∷ [])
 uses_of o w (call.MemPageRemove tdr gpa) =
     let page = (entry_at w tdr 0 gpa).page in td_uses tdr ++ (of_page page HeadPage ∷ of_td tdr BlockTested ∷ of_td tdr PageRemove ∷ of_page page GivenBack ∷ of_both tdr page GivesPageBack ∷ [])
+uses_of o w (call.MemPageRelocate tdr gpa page) =
+    let left = (entry_at w tdr 0 gpa).page in
+    td_uses tdr ++ (of_page left HeadPage ∷ of_td tdr BlockTested ∷ (taken_uses page ++ of_td tdr Relocate ∷ of_td tdr AddsEntry ∷ of_page left GivenBack ∷ of_both tdr left GivesPageBack ∷ []))
 uses_of o w (call.MemRangeBlock tdr gpa level) = let page = (entry_at w tdr level gpa).page in td_uses tdr ++ (of_page page HeadPage ∷ of_td tdr RangeBlock ∷ of_page page BlockNoted ∷ [])
 uses_of o w (call.MemRangeUnblock tdr gpa level) = let page = (entry_at w tdr level gpa).page in td_uses tdr ++ (of_page page HeadPage ∷ of_td tdr BlockTested ∷ of_td tdr RangeUnblock ∷ [])
 uses_of o w (call.MemTrack tdr) = td_uses tdr ++ of_td tdr Track ∷ of_td tdr Tracks ∷ []

@@ -1,5 +1,6 @@
 use Rattle.access_core.specs.OperationMeanings.{set-means, add-means, vmcall-means, shared_load-means, shared_store-means}
 use Rattle.access_core.specs.RtmrMeanings.{rtmr-means}
+use Rattle.access_core.specs.ReportMeanings.{report-means}
 use Rattle.access_core.specs.AcceptMeanings.{accept-means}
 use Rattle.access_core.specs.WalkMeanings.{walks-mean, walks-are-told}
 use Rattle.access_core.specs.ReachMeanings.{accesses-mean}
@@ -22,6 +23,9 @@ returns-clause-store c = shared_store-means
 
 pub returns-clause-rtmr : goal.returns-clause-rtmr
 returns-clause-rtmr c = rtmr-means
+
+pub returns-clause-report : goal.returns-clause-report
+returns-clause-report c = report-means
 
 pub returns-clause-accept : goal.returns-clause-accept
 returns-clause-accept c = accept-means

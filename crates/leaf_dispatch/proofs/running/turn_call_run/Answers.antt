@@ -1,4 +1,4 @@
-use Rattle.std.proofs.Common.{length, List, refl, sym, subst, arith}
+use Rattle.std.proofs.Common.{length, List, None, refl, sym, subst, arith}
 use Rattle.td_words.specs.declared.machines.Machine.{Machine}
 use Rattle.flat_core.specs.World.{Made}
 use Rattle.leaf_engine.specs.Turns.{Standing}
@@ -9,7 +9,7 @@ use Rattle.leaf_dispatch.specs.Running.{run_seen, made_in_run, IsKept, RunTurned
 use Rattle.leaf_table.specs.Given.{given_in}
 use Rattle.leaf_table.specs.Table.{task_of}
 use Rattle.leaf_dispatch.proofs.Keeping.{can-turn-at, run-turned}
-use Rattle.leaf_dispatch.proofs.Making.{counts_bundles, counts_words, call-room}
+use Rattle.leaf_dispatch.proofs.Making.{counts_bundles, counts_words, call-room, call-facts}
 use Rattle.leaf_dispatch.proofs.PageRooms.{turned-room}
 use Rattle.leaf_dispatch.proofs.running.turn_call_run.Goals as goal
 
@@ -43,7 +43,7 @@ returns-clause-turned g c =
     let k = subst (λ (z : Machine). IsKept z e s c.begin_where_none.new.kept) c.requires.at c.begin_where_none.ensures.kept in (
       made,
       c.add_made.ensures,
-      subst (λ (z : Machine). RunTurned (g.B.Bench.did c.args.bench.now) z e s c.turn_kept-made.new.bench c.leave_call.new.kept c.leave_call.new.turn made) (sym c.requires.at)
-          (run-turned (g.B.Bench.did c.args.bench.now) c.turn_kept-made.new.bench _ e s c.begin_where_none.new.kept c.turn_kept-made.new.kept c.leave_call.new.kept c.leave_call.new.turn c.turn_kept-made.result made k c.turn_kept-made.ensures.turned c.leave_call.ensures.turn
-          c.leave_call.ensures.act refl c.leave_call.ensures.kept),
+      subst (λ (z : Machine). RunTurned (g.B.Bench.did c.args.bench.now) z e s c.turn_kept-made.new.bench c.leave_call.new.kept c.leave_call.new.turn made None) (sym c.requires.at)
+          (run-turned (g.B.Bench.did c.args.bench.now) c.turn_kept-made.new.bench _ e s c.begin_where_none.new.kept c.turn_kept-made.new.kept c.leave_call.new.kept c.leave_call.new.turn c.turn_kept-made.result made None k c.turn_kept-made.ensures.turned c.leave_call.ensures.turn
+          c.leave_call.ensures.act refl (call-facts (g.B.Bench.did c.args.bench.now) c.turn_kept-made.new.bench _ (given_in c.args.given) c.args.place c.args.call.now s c.begin_where_none.new.kept c.turn_kept-made.new.kept c.turn_kept-made.result k c.turn_kept-made.ensures.turned) c.leave_call.ensures.kept),
     )

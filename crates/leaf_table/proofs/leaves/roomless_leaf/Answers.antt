@@ -34,6 +34,10 @@ pub returns-in-MemPageRemove-clause-task : goal.returns-in-MemPageRemove-clause-
 returns-in-MemPageRemove-clause-task c =
     c.by_plan-in-MemPageRemove.ensures.task ∙ c.plan-in-MemPageRemove.ensures ∙ sym (ap (task_of (given_in c.args.given) c.args.place) c.in-MemPageRemove.is)
 
+pub returns-in-MemPageRelocate-clause-task : goal.returns-in-MemPageRelocate-clause-task
+returns-in-MemPageRelocate-clause-task c =
+    c.by_plan-in-MemPageRelocate.ensures.task ∙ c.plan-in-MemPageRelocate.ensures ∙ sym (ap (task_of (given_in c.args.given) c.args.place) c.in-MemPageRelocate.is)
+
 pub returns-in-MemRangeBlock-clause-task : goal.returns-in-MemRangeBlock-clause-task
 returns-in-MemRangeBlock-clause-task c =
     c.by_plan-in-MemRangeBlock.ensures.task ∙ c.plan-in-MemRangeBlock.ensures ∙ sym (ap (task_of (given_in c.args.given) c.args.place) c.in-MemRangeBlock.is)

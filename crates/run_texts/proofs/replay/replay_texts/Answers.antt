@@ -16,4 +16,4 @@ pub returns : goal.returns
 returns c =
     let o = opening_of (given_in c.args.given) c.args.script.now in
     let end = subst (AreAtEnd o c.args.script.now.schedule) (sym c.deref-2.ensures.value) c.in_ok-lps.ensures in
-    tells c.all_texts.result _ _ _ _ _ _ _ _ c.all_texts.ensures end.replies (seals-end o c.args.script.now.schedule _ end c.args.keys.now.forward c.args.keys.now.backward) end.notes
+    tells c.all_texts.result _ _ _ _ _ _ _ _ c.all_texts.ensures end.replies (seals-end o c.args.script.now.schedule _ end c.args.keys.now.forward c.args.keys.now.backward) (end.notes c.args.report_key.now)

@@ -148,12 +148,13 @@ returns g c =
     c.in_ok-lanes.ensures.processors c.in_ok-lanes.ensures.benches c.as_mut_slice.ensures.value c.run_all.ensures c.run_all.auto.lanes now-is c.in_ok-table.ensures.machine (ap (λ (q : PassSeen). q.lists) pass) c.close.ensures in
     let forward = c.args.keys.now.forward in
     let backward = c.args.keys.now.backward in
+    let key = c.args.report_key.now in
     record {
       each =
-          told-of (λ t. TellAll out name (concat (lines_seen 0 c.as_slice.result.now)) (container_text forward backward (bundles_seen c.as_slice.result.now)) (concat (notes_seen 0 c.as_slice.result.now)) t)
-          (AreOfThreads (opening_of (given_in c.args.given) script) forward backward out name) c.all_texts.result
+          told-of (λ t. TellAll out name (concat (lines_seen 0 c.as_slice.result.now)) (container_text forward backward (bundles_seen c.as_slice.result.now)) (concat (notes_seen key 0 c.as_slice.result.now)) t)
+          (AreOfThreads (opening_of (given_in c.args.given) script) forward backward key out name) c.all_texts.result
           (λ t told.
-          of-threads c.laws_of_turns.ensures c.threads_are_runs.ensures (opening_of (given_in c.args.given) script) (open-of (given_in c.args.given) script c.requires.form) (given_in c.args.given) script.codes first lanes now c.close.result.words h (some-calls script c.requires.form) forward backward out name t
-          (subst (λ (x : List LpState). TellAll out name (concat (lines_seen 0 x)) (container_text forward backward (bundles_seen x)) (concat (notes_seen 0 x)) t) (c.as_slice.ensures.value ∙ c.in_ok-ended.ensures.processors) told))
+          of-threads c.laws_of_turns.ensures c.threads_are_runs.ensures (opening_of (given_in c.args.given) script) (open-of (given_in c.args.given) script c.requires.form) (given_in c.args.given) script.codes first lanes now c.close.result.words h (some-calls script c.requires.form) forward backward key out name t
+          (subst (λ (x : List LpState). TellAll out name (concat (lines_seen 0 x)) (container_text forward backward (bundles_seen x)) (concat (notes_seen key 0 x)) t) (c.as_slice.ensures.value ∙ c.in_ok-ended.ensures.processors) told))
           c.all_texts.ensures;
     }

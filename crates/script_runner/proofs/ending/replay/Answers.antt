@@ -16,7 +16,7 @@ returns-in-Ok-replay_texts c =
     let fit = hands_words c.args.inputs.now c.deref-3.result.now keys.forward keys.backward c.deref.result.now c.deref-4.result.now c.in-Ok.bundles c.deref-3.ensures.value c.deref-4.ensures.value c.deref.ensures.value c.keys_of-keys.ensures.forward c.keys_of-keys.ensures.backward c.in-Ok.ensures c.come_in_as_words.ensures in (
       subst (λ (e : Ended). EndsRun (Replay n) n s handed e) (sym c.of_texts.ensures)
           (subst (λ (h : HandedOut). EndsRun (Replay n) n s h (texts_end n c.in-Ok-replay_texts.texts))
-          (λ i. held (c.deref-2.ensures.value i) (c.keys_of-keys.ensures.forward i) (c.keys_of-keys.ensures.backward i) (c.deref.ensures.value i))
-          (replay-given n s c.deref-2.result.now keys.forward keys.backward c.deref.result.now c.in-Ok.bundles c.in-Ok.ensures c.in-Ok-replay_texts.texts c.in-Ok-replay_texts.ensures)),
+          (λ i. held (c.deref-2.ensures.value i) (c.keys_of-keys.ensures.forward i) (c.keys_of-keys.ensures.backward i) (c.deref.ensures.value i) (c.report_key_of-report_key.ensures i))
+          (replay-given n s c.deref-2.result.now keys.forward keys.backward c.deref.result.now c.in-Ok.bundles c.in-Ok.ensures c.report_key_of-report_key.result c.in-Ok-replay_texts.texts c.in-Ok-replay_texts.ensures)),
       fit,
     )

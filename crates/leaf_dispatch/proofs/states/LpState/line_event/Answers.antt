@@ -14,37 +14,65 @@ use Rattle.leaf_dispatch.proofs.states.LpState.line_event.Goals as goal
 pub invariant_of-self-clause-inside : goal.invariant_of-self-clause-inside
 invariant_of-self-clause-inside g c =
     let l = c.args.self.now in
-    let done = line-goes-on l.place (given_in l.given) l.codes.now c.args.call.now c.args.further.now l.cached c.turn_line.new.cached l.replies.items (map note_seen l.notes.items) l.told.items l.bundles.made c.turn_line.new.bundles.made (g.B.Bench.did c.args.bench.now) c.turn_line.new.bench c.turn_line.new.kept c.turn_line.new.turn c.turn_line.ensures.turned.0 c.turns_in_pieces.ensures
+    let done = line-goes-on l.place (given_in l.given) l.codes.now c.args.call.now c.args.further.now l.cached c.turn_line.new.cached l.replies.items (map (note_seen l.reports.items) l.notes.items) l.told.items l.bundles.made c.turn_line.new.bundles.made (g.B.Bench.did c.args.bench.now) c.turn_line.new.bench c.turn_line.new.kept c.turn_line.new.turn c.turn_line.ensures.turned.0 c.turns_in_pieces.ensures
     c.turn_line.ensures.entered.0 l.lines.now l.guest l.run.host l.run.other l.step_run c.requires.lines (none-acts (acting l.guest l.run.other) c.requires.own) l.inside (host-alone l.place.machine l.lines.now l.run (let n = ap length c.requires.lines in omega (arith, n)) l.under_way) c.turn_line.ensures.stays c.turn_line.ensures.turned.2 c.turn_line.ensures.cached c.turn_line.ensures.turned.1.made c.turn_line.ensures.entered.2 c.turn_line.ensures.entered.3 c.turn_line.new.guest c.turn_line.ensures.entered.1 c.in-None.is in
     done.keeps
 
 pub invariant_of-self-clause-note_room : goal.invariant_of-self-clause-note_room
 invariant_of-self-clause-note_room g c =
     let l = c.args.self.now in
-    let done = line-goes-on l.place (given_in l.given) l.codes.now c.args.call.now c.args.further.now l.cached c.turn_line.new.cached l.replies.items (map note_seen l.notes.items) l.told.items l.bundles.made c.turn_line.new.bundles.made (g.B.Bench.did c.args.bench.now) c.turn_line.new.bench c.turn_line.new.kept c.turn_line.new.turn c.turn_line.ensures.turned.0 c.turns_in_pieces.ensures
+    let done = line-goes-on l.place (given_in l.given) l.codes.now c.args.call.now c.args.further.now l.cached c.turn_line.new.cached l.replies.items (map (note_seen l.reports.items) l.notes.items) l.told.items l.bundles.made c.turn_line.new.bundles.made (g.B.Bench.did c.args.bench.now) c.turn_line.new.bench c.turn_line.new.kept c.turn_line.new.turn c.turn_line.ensures.turned.0 c.turns_in_pieces.ensures
     c.turn_line.ensures.entered.0 l.lines.now l.guest l.run.host l.run.other l.step_run c.requires.lines (none-acts (acting l.guest l.run.other) c.requires.own) l.inside (host-alone l.place.machine l.lines.now l.run (let n = ap length c.requires.lines in omega (arith, n)) l.under_way) c.turn_line.ensures.stays c.turn_line.ensures.turned.2 c.turn_line.ensures.cached c.turn_line.ensures.turned.1.made c.turn_line.ensures.entered.2 c.turn_line.ensures.entered.3 c.turn_line.new.guest c.turn_line.ensures.entered.1 c.in-None.is in
     let room = done.room (longest_in l.codes.now) in let had = l.note_room in omega (arith, room, had)
 
 pub invariant_of-self-clause-word_room : goal.invariant_of-self-clause-word_room
 invariant_of-self-clause-word_room g c =
     let l = c.args.self.now in
-    let done = line-goes-on l.place (given_in l.given) l.codes.now c.args.call.now c.args.further.now l.cached c.turn_line.new.cached l.replies.items (map note_seen l.notes.items) l.told.items l.bundles.made c.turn_line.new.bundles.made (g.B.Bench.did c.args.bench.now) c.turn_line.new.bench c.turn_line.new.kept c.turn_line.new.turn c.turn_line.ensures.turned.0 c.turns_in_pieces.ensures
+    let done = line-goes-on l.place (given_in l.given) l.codes.now c.args.call.now c.args.further.now l.cached c.turn_line.new.cached l.replies.items (map (note_seen l.reports.items) l.notes.items) l.told.items l.bundles.made c.turn_line.new.bundles.made (g.B.Bench.did c.args.bench.now) c.turn_line.new.bench c.turn_line.new.kept c.turn_line.new.turn c.turn_line.ensures.turned.0 c.turns_in_pieces.ensures
     c.turn_line.ensures.entered.0 l.lines.now l.guest l.run.host l.run.other l.step_run c.requires.lines (none-acts (acting l.guest l.run.other) c.requires.own) l.inside (host-alone l.place.machine l.lines.now l.run (let n = ap length c.requires.lines in omega (arith, n)) l.under_way) c.turn_line.ensures.stays c.turn_line.ensures.turned.2 c.turn_line.ensures.cached c.turn_line.ensures.turned.1.made c.turn_line.ensures.entered.2 c.turn_line.ensures.entered.3 c.turn_line.new.guest c.turn_line.ensures.entered.1 c.in-None.is in
     let room = done.room (longest_in l.codes.now) in let had = l.word_room in omega (arith, room, had)
+
+pub invariant_of-self-clause-fact_room : goal.invariant_of-self-clause-fact_room
+invariant_of-self-clause-fact_room g c =
+    let l = c.args.self.now in
+    let done = line-goes-on l.place (given_in l.given) l.codes.now c.args.call.now c.args.further.now l.cached c.turn_line.new.cached l.replies.items (map (note_seen l.reports.items) l.notes.items) l.told.items l.bundles.made c.turn_line.new.bundles.made (g.B.Bench.did c.args.bench.now) c.turn_line.new.bench c.turn_line.new.kept c.turn_line.new.turn c.turn_line.ensures.turned.0 c.turns_in_pieces.ensures
+    c.turn_line.ensures.entered.0 l.lines.now l.guest l.run.host l.run.other l.step_run c.requires.lines (none-acts (acting l.guest l.run.other) c.requires.own) l.inside (host-alone l.place.machine l.lines.now l.run (let n = ap length c.requires.lines in omega (arith, n)) l.under_way) c.turn_line.ensures.stays c.turn_line.ensures.turned.2 c.turn_line.ensures.cached c.turn_line.ensures.turned.1.made c.turn_line.ensures.entered.2 c.turn_line.ensures.entered.3 c.turn_line.new.guest c.turn_line.ensures.entered.1 c.in-None.is in
+    let room = done.reports in let had = l.fact_room in omega (arith, room, had)
+
+pub invariant_of-self-clause-few_facts : goal.invariant_of-self-clause-few_facts
+invariant_of-self-clause-few_facts g c =
+    let l = c.args.self.now in
+    let done = line-goes-on l.place (given_in l.given) l.codes.now c.args.call.now c.args.further.now l.cached c.turn_line.new.cached l.replies.items (map (note_seen l.reports.items) l.notes.items) l.told.items l.bundles.made c.turn_line.new.bundles.made (g.B.Bench.did c.args.bench.now) c.turn_line.new.bench c.turn_line.new.kept c.turn_line.new.turn c.turn_line.ensures.turned.0 c.turns_in_pieces.ensures
+    c.turn_line.ensures.entered.0 l.lines.now l.guest l.run.host l.run.other l.step_run c.requires.lines (none-acts (acting l.guest l.run.other) c.requires.own) l.inside (host-alone l.place.machine l.lines.now l.run (let n = ap length c.requires.lines in omega (arith, n)) l.under_way) c.turn_line.ensures.stays c.turn_line.ensures.turned.2 c.turn_line.ensures.cached c.turn_line.ensures.turned.1.made c.turn_line.ensures.entered.2 c.turn_line.ensures.entered.3 c.turn_line.new.guest c.turn_line.ensures.entered.1 c.in-None.is in
+    let room = done.reports in let had = l.few_facts in omega (arith, room, had)
 
 pub returns-in-None-clause-moved : goal.returns-in-None-clause-moved
 returns-in-None-clause-moved g c =
     let l = c.args.self.now in
-    let done = line-goes-on l.place (given_in l.given) l.codes.now c.args.call.now c.args.further.now l.cached c.turn_line.new.cached l.replies.items (map note_seen l.notes.items) l.told.items l.bundles.made c.turn_line.new.bundles.made (g.B.Bench.did c.args.bench.now) c.turn_line.new.bench c.turn_line.new.kept c.turn_line.new.turn c.turn_line.ensures.turned.0 c.turns_in_pieces.ensures
+    let done = line-goes-on l.place (given_in l.given) l.codes.now c.args.call.now c.args.further.now l.cached c.turn_line.new.cached l.replies.items (map (note_seen l.reports.items) l.notes.items) l.told.items l.bundles.made c.turn_line.new.bundles.made (g.B.Bench.did c.args.bench.now) c.turn_line.new.bench c.turn_line.new.kept c.turn_line.new.turn c.turn_line.ensures.turned.0 c.turns_in_pieces.ensures
     c.turn_line.ensures.entered.0 l.lines.now l.guest l.run.host l.run.other l.step_run c.requires.lines (none-acts (acting l.guest l.run.other) c.requires.own) l.inside (host-alone l.place.machine l.lines.now l.run (let n = ap length c.requires.lines in omega (arith, n)) l.under_way) c.turn_line.ensures.stays c.turn_line.ensures.turned.2 c.turn_line.ensures.cached c.turn_line.ensures.turned.1.made c.turn_line.ensures.entered.2 c.turn_line.ensures.entered.3 c.turn_line.new.guest c.turn_line.ensures.entered.1 c.in-None.is in
     ((done.moved.pieces, done.moved.did_them, (refl, refl, refl, record { event_is = c.turn_line.new.turn.event; turns = done.moved.turn; tells = done.moved.tells })), done.moved.fewer)
 
 pub returns-in-Ok-clause-moved : goal.returns-in-Ok-clause-moved
 returns-in-Ok-clause-moved g c =
     let l = c.args.self.now in
-    let done = line-has-ended l.place (given_in l.given) l.codes.now c.args.call.now c.args.further.now l.cached c.turn_line.new.cached l.replies.items (map note_seen l.notes.items) l.told.items l.bundles.made c.turn_line.new.bundles.made (g.B.Bench.did c.args.bench.now) c.turn_line.new.bench c.turn_line.new.kept c.turn_line.new.turn c.turn_line.ensures.turned.0 c.turns_in_pieces.ensures
+    let done = line-has-ended l.place (given_in l.given) l.codes.now c.args.call.now c.args.further.now l.cached c.turn_line.new.cached l.replies.items (map (note_seen l.reports.items) l.notes.items) l.told.items l.bundles.made c.turn_line.new.bundles.made (g.B.Bench.did c.args.bench.now) c.turn_line.new.bench c.turn_line.new.kept c.turn_line.new.turn c.turn_line.ensures.turned.0 c.turns_in_pieces.ensures
     c.turn_line.ensures.entered.0 l.lines.now l.guest l.run.host l.run.other l.step_run c.requires.lines (none-acts (acting l.guest l.run.other) c.requires.own) l.inside (host-alone l.place.machine l.lines.now l.run (let n = ap length c.requires.lines in omega (arith, n)) l.under_way) c.turn_line.ensures.stays c.turn_line.ensures.turned.2 c.turn_line.ensures.cached c.turn_line.ensures.turned.1.made c.turn_line.ensures.entered.2 c.turn_line.ensures.entered.3 c.in-Some.reply c.push.new.self.items c.in-Some.is c.in-Ok.ensures.items in
     ((done.moved.pieces, done.moved.did_them, (refl, refl, refl, record { event_is = c.turn_line.new.turn.event; turns = done.moved.turn; tells = done.moved.tells })), done.moved.fewer)
+
+pub invariant_of-self-in-Some-clause-fact_room : goal.invariant_of-self-in-Some-clause-fact_room
+invariant_of-self-in-Some-clause-fact_room g c =
+    let l = c.args.self.now in
+    let done = line-has-ended l.place (given_in l.given) l.codes.now c.args.call.now c.args.further.now l.cached c.turn_line.new.cached l.replies.items (map (note_seen l.reports.items) l.notes.items) l.told.items l.bundles.made c.turn_line.new.bundles.made (g.B.Bench.did c.args.bench.now) c.turn_line.new.bench c.turn_line.new.kept c.turn_line.new.turn c.turn_line.ensures.turned.0 c.turns_in_pieces.ensures
+    c.turn_line.ensures.entered.0 l.lines.now l.guest l.run.host l.run.other l.step_run c.requires.lines (none-acts (acting l.guest l.run.other) c.requires.own) l.inside (host-alone l.place.machine l.lines.now l.run (let n = ap length c.requires.lines in omega (arith, n)) l.under_way) c.turn_line.ensures.stays c.turn_line.ensures.turned.2 c.turn_line.ensures.cached c.turn_line.ensures.turned.1.made c.turn_line.ensures.entered.2 c.turn_line.ensures.entered.3 c.in-Some.reply c.push.new.self.items c.in-Some.is c.in-Ok.ensures.items in
+    let room = done.reports in let had = l.fact_room in omega (arith, room, had)
+
+pub invariant_of-self-in-Some-clause-few_facts : goal.invariant_of-self-in-Some-clause-few_facts
+invariant_of-self-in-Some-clause-few_facts g c =
+    let l = c.args.self.now in
+    let done = line-has-ended l.place (given_in l.given) l.codes.now c.args.call.now c.args.further.now l.cached c.turn_line.new.cached l.replies.items (map (note_seen l.reports.items) l.notes.items) l.told.items l.bundles.made c.turn_line.new.bundles.made (g.B.Bench.did c.args.bench.now) c.turn_line.new.bench c.turn_line.new.kept c.turn_line.new.turn c.turn_line.ensures.turned.0 c.turns_in_pieces.ensures
+    c.turn_line.ensures.entered.0 l.lines.now l.guest l.run.host l.run.other l.step_run c.requires.lines (none-acts (acting l.guest l.run.other) c.requires.own) l.inside (host-alone l.place.machine l.lines.now l.run (let n = ap length c.requires.lines in omega (arith, n)) l.under_way) c.turn_line.ensures.stays c.turn_line.ensures.turned.2 c.turn_line.ensures.cached c.turn_line.ensures.turned.1.made c.turn_line.ensures.entered.2 c.turn_line.ensures.entered.3 c.in-Some.reply c.push.new.self.items c.in-Some.is c.in-Ok.ensures.items in
+    let room = done.reports in let had = l.few_facts in omega (arith, room, had)
 
 -- the room for bundles
 

@@ -24,6 +24,9 @@ returns-in-SeptRd-clause-decides c = rw (c.in-SeptRd.is) c.decide-in-SeptRd.ensu
 pub returns-in-PageRemove-clause-decides : goal.returns-in-PageRemove-clause-decides
 returns-in-PageRemove-clause-decides c = rw (c.in-PageRemove.is) c.decide-in-PageRemove.ensures.decides
 
+pub returns-in-PageRelocate-clause-decides : goal.returns-in-PageRelocate-clause-decides
+returns-in-PageRelocate-clause-decides c = rw (c.in-PageRelocate.is) c.decide-in-PageRelocate.ensures.decides
+
 pub returns-in-RangeBlock-clause-decides : goal.returns-in-RangeBlock-clause-decides
 returns-in-RangeBlock-clause-decides c = rw (c.in-RangeBlock.is) c.decide-in-RangeBlock.ensures.decides
 

@@ -1,0 +1,15 @@
+pub mod Turns
+pub mod Grown
+pub mod Images
+pub mod Ends
+pub mod Lives
+pub mod Runners
+pub mod Once
+pub mod Lineages
+pub mod Memories
+pub mod OneWay
+pub mod Sealing
+pub mod Secrets
+pub mod Inputs
+pub mod RowsStay
+pub mod Worked

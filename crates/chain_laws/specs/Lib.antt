@@ -1,0 +1,9 @@
+pub mod Chains
+pub mod Laws
+pub mod Lineages
+pub mod Memories
+pub mod Keys
+pub mod Sealing
+pub mod Secrets
+pub mod Inputs
+pub mod Worked

@@ -1,0 +1,3 @@
+pub mod RelocateTrees
+pub mod RelocateShows
+pub mod RelocateMeanings
