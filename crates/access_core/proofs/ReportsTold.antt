@@ -1,5 +1,5 @@
 -- What a report was told, part by part: the TDCS page, R, MRTD, the RTMRs, the registers and the position.
-use Rattle.std.proofs.Common.{◌≡◌, ℕ, ◌+◌, ◌<◌, ◌≤◌, List, [], ◌∷◌, length, take, drop, Option, None, Result, Ok, Err, true, false, refl, ap, sym, ◌∙◌, subst, arith}
+use Rattle.std.proofs.Common.{◌≡◌, ℕ, ◌+◌, ◌<◌, ◌≤◌, List, [], ◌∷◌, length, take, drop, None, Result, Ok, Err, true, false, refl, ap, sym, ◌∙◌, subst, arith}
 use Rattle.td_words.specs.declared.machines.Machine.{Machine}
 use Rattle.td_words.specs.declared.replies.Value.TheVariants as value
 use Rattle.td_words.specs.declared.replies.Reply.TheVariants.{Done}
@@ -13,7 +13,7 @@ use Rattle.leaf_engine.specs.Trees.{Tree, Lock, Load, Test, End, Since, feed, an
 use Rattle.leaf_parts.specs.Words.{page_told}
 use Rattle.access_core.specs.OperationTrees.{with_position, put_next}
 use Rattle.access_core.specs.RtmrTrees.{with_words, register_at}
-use Rattle.access_core.specs.ReportTrees.{mrtd_at, rtmrs_at, facts_told, report_end, report_held, report_tree}
+use Rattle.access_core.specs.ReportTrees.{rtmrs_at, facts_told, report_end, report_held, report_tree}
 use Rattle.access_core.proofs.WordsTold.{words-stop, words-go, words-fed}
 
 -- behind R

@@ -1,5 +1,5 @@
 -- The leaf of a guest's report means its row.
-use Rattle.std.proofs.Common.{◌≡◌, ℕ, zero, suc, ◌+◌, ◌*◌, ◌<◌, true, ◌==◌, List, [], ◌∷◌, ◌++◌, slice_index, Option, Some, refl, ap, sym, ◌∙◌, subst, inl, inr, arith}
+use Rattle.std.proofs.Common.{◌≡◌, ℕ, zero, suc, ◌+◌, ◌<◌, true, List, [], ◌∷◌, ◌++◌, slice_index, Some, refl, ap, sym, ◌∙◌, subst, inl, inr, arith}
 use Rattle.std.proofs.lemmas.Bool.{eq-eqb}
 use Rattle.td_words.specs.declared.names.Mode.TheVariants.{Shared}
 use Rattle.td_words.specs.declared.machines.Machine.{Machine}
@@ -13,7 +13,7 @@ use Rattle.flat_core.specs.Lawful.{Lawful}
 use Rattle.word_rules.specs.Lines.{in_lines}
 use Rattle.word_rules.specs.Rules.{TdcsWord, RtmrWord, Whole, KeepsNothing, reads}
 use Rattle.word_rules.specs.Spots.{or_unused, tdcs_classes, is_current, is_empty}
-use Rattle.word_rules.specs.Permissions.{MayAt, Writes}
+use Rattle.word_rules.specs.Permissions.{MayAt}
 use Rattle.word_rules.specs.Cells.{Shows, td_lock_lines, tdcs_lines, lock_word}
 use Rattle.lock_words.specs.Grips.{holds}
 use Rattle.lock_words.specs.LockWords.{tdcs_of}
@@ -26,7 +26,7 @@ use Rattle.leaf_parts.proofs.Checks.{spot_of, tdr-load, tdcs-load}
 use Rattle.leaf_parts.proofs.Told.{page-back, tdcs-spot}
 use Rattle.access_core.specs.OperationTrees.{with_position}
 use Rattle.access_core.specs.VpShows.{passed-shown}
-use Rattle.access_core.specs.GuestWords.{kept-respects, vp-in, vp-writes, writes-beside, position-load, register-load}
+use Rattle.access_core.specs.GuestWords.{kept-respects, vp-in, vp-writes, position-load, register-load}
 use Rattle.access_core.specs.RtmrTrees.{with_words, register_at}
 use Rattle.access_core.specs.RtmrShows.{rtmr-line, rtmr-class}
 use Rattle.access_core.specs.RtmrMeanings.{running-controls, listed, words-mean}

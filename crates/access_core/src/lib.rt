@@ -24,4 +24,4 @@ pub use private_accesses::{PrivateLoad, PrivateStore};
 pub use reports::Report;
 pub use rtmrs::Rtmr;
 pub use shared_accesses::{SharedLoad, SharedStore};
-pub use walk_loads::WalkLoad;
+pub use walk_loads::{WalkLoad, entry_address, rights_told};

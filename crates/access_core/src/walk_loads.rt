@@ -1,8 +1,10 @@
 //! The loads of a guest's walk.
 
 ghost use Rattle.std.specs.Prelude.{◌≡◌, ◌<◌, ◌≤◌, ◌^◌};
+ghost use Rattle.td_words.specs.Address.{word_at};
 ghost use Rattle.td_words.specs.Limits.{IsMachine};
 ghost use Rattle.flat_core.specs.Locks.{one_if};
+ghost use Rattle.sept_walk.specs.SecureEpt.{index_at};
 ghost use Rattle.word_rules.specs.Rules.{TheRights};
 ghost use Rattle.word_rules.specs.Views.{look, rights_by, named_by};
 
@@ -79,7 +81,7 @@ impl Plan for WalkLoad {
 
     fn decide(&self, told: Told) -> Result<Verdict, Stop> {
         let mut told = told;
-        let word = told.load(word_address(self.page, index(self.level, self.gpa)))?;
+        let word = told.load(entry_address(self.page, self.level, self.gpa))?;
         Ok(Verdict::answer(Value::Number(rights_told(word))))
     }
 
@@ -90,9 +92,17 @@ impl Plan for WalkLoad {
     ghost means = { λ l. walks-mean l.place l.tdr l.vp l.access l.gpa l.level l.page l.machine l.private l.low };
 }
 
+/// Where the entry of a level that maps a GPA stands, in a secure EPT page.
+pub fn entry_address(page: u16, level: u8, gpa: u64) -> u32
+    requires { level ≤ 3 }
+    ensures { result ≡ word_at page (index_at level gpa) }
+{
+    word_address(page, index(level, gpa))
+}
+
 /// What a word tells of its entry: the page that it names, and below it three bits, whether a walk
 /// goes on behind it, whether it lets read, and whether it lets write.
-fn rights_told(word: u64) -> u64
+pub fn rights_told(word: u64) -> u64
     ensures { result ≡ look TheRights word }
 {
     match Entry::unpack(word) {

@@ -11,7 +11,12 @@ use Rattle.step_core.specs.declared.items.Taken.{Taken}
 use Rattle.leaf_engine.specs.declared.needs.Need.TheVariants as need
 use Rattle.leaf_engine.specs.Decides.{Wants}
 use Rattle.leaf_engine.specs.Items.{IsLoaded, AreChanged}
-use Rattle.leaf_engine.specs.Trees.{Tree, acts, settle, passed, changes_of}
+use Rattle.leaf_engine.specs.Trees.{Tree, acts, fed, settle, passed, changes_of}
+use Rattle.td_words.specs.declared.names.Access.{Access}
+use Rattle.sept_walk.specs.SecureEpt.{index_at}
+use Rattle.word_rules.specs.Rules.{TheRights}
+use Rattle.word_rules.specs.Views.{look}
+use Rattle.access_core.specs.WalkTrees.{walk_tree}
 use Rattle.access_core.specs.OperationTrees.{put_register, put_next, set_tree, add_tree, loaded}
 use Rattle.access_core.specs.ReachTrees.{private_load_tree, private_stored, private_store_tree}
 use Rattle.guest_turns.specs.Turns.{MadeAtOnce}
@@ -53,3 +58,9 @@ store-made did m v r gpa page p x bench made =
     at-once did m (private_store_tree v r gpa page) (load_of (word_at v 4) p ∷ load_of (word_at v (8 + r)) x ∷ []) (private_stored v gpa page p x)
     (store_of (word_at page (word_of_gpa gpa)) x ∷ store_of (word_at v 4) ((p + 1) % 2 ^ 64) ∷ []) (Done (value.Number x)) bench made
     ((word_at v 4, refl, refl), ((word_at v (8 + r), refl, refl), refl)) refl (two-puts m (Word page (word_of_gpa gpa)) x (Word v 4) ((p + 1) % 2 ^ 64))
+
+pub walk-made : {B : Type 0} (did : List Taken → B → Type 0) (m : Machine) (t : ℕ) (access : Access) (gpa level page x : ℕ) (bench : B) → did (load_of (word_at page (index_at level gpa)) x ∷ []) bench
+    → MadeAtOnce did m (walk_tree t access gpa level page) bench (Done (value.Number (look TheRights x)))
+walk-made did m t access gpa level page x bench made =
+    at-once did m (walk_tree t access gpa level page) (load_of (word_at page (index_at level gpa)) x ∷ []) (fed (walk_tree t access gpa level page) x) [] (Done (value.Number (look TheRights x))) bench made
+    ((word_at page (index_at level gpa), refl, refl), refl) refl (refl, refl)

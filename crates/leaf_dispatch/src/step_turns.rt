@@ -3,6 +3,7 @@
 ghost use Rattle.std.specs.Prelude.{◌≡◌, ℕ, ◌+◌, ◌<◌, ◌≤◌, true, length, vec_capacity, is_none, Option, Some, None};
 ghost use Rattle.report_core.specs.declared.facts.Facts.{Facts};
 ghost use Rattle.td_words.specs.Limits.{IsMachine};
+ghost use Rattle.td_words.specs.declared.names.Access.{Access};
 ghost use Rattle.td_words.specs.declared.replies.Reply.TheVariants.{Done, Exited};
 ghost use Rattle.td_words.specs.declared.replies.Value.TheVariants.{Nothing, Number};
 ghost use Rattle.leaf_engine.specs.declared.events.Event.TheVariants as event;
@@ -11,6 +12,7 @@ ghost use Rattle.leaf_engine.specs.OwnLists.{running};
 ghost use Rattle.leaf_engine.specs.Merges.{IsOperation, IsStepOf};
 ghost use Rattle.leaf_parts.specs.Words.{page_told};
 ghost use Rattle.access_core.specs.ReachTrees.{access_tree};
+ghost use Rattle.access_core.specs.WalkTrees.{walk_tree};
 ghost use Rattle.guest_turns.specs.Turns.{MadeAtOnce};
 ghost use Rattle.leaf_table.specs.Steps.{step_seen};
 ghost use Rattle.leaf_table.specs.Given.{given_in};
@@ -26,7 +28,8 @@ use crate::exits::leave_guest;
 use crate::running::turn_step_run;
 use crate::step_runs::StepRun;
 use guest_turns::{
-    LeafTurn, add_registers, begin_shared, load_private, set_register, store_private, turn_shared,
+    LeafTurn, add_registers, begin_shared, load_entry, load_private, set_register, store_private,
+    turn_shared,
 };
 use leaf_engine::{Event, Place};
 use leaf_parts::page_told;
@@ -155,10 +158,14 @@ fn turn_new_step<'a, B: Bench>(
             );
             0
         }
-        Step::Loads { .. } => {
-            turn_other_step(
-                kept, reports, place, given, tdr, vp, line, step, bench, turn,
-            );
+        Step::Loads {
+            access: _,
+            gpa,
+            level,
+            page,
+        } => {
+            let rights = load_walked(place, gpa, level, page, bench);
+            moved_at_once(rights, turn);
             0
         }
         Step::Leaves(outcome) => {
@@ -271,7 +278,20 @@ fn access_private<B: Bench>(
     }
 }
 
-// The turn of a step that is one event and has moved that word.
+// The load of an entry in a walk, of a page which is the machine's; any other is read as page 0. It answers
+// what the entry's word tells.
+fn load_walked<B: Bench>(place: Place, gpa: u64, level: u8, page: u64, bench: &mut B) -> u64
+    requires machine { IsMachine place.machine }
+    requires at { place.machine ≡ B.machine bench.old }
+    requires low { level ≤ 3 }
+    ensures made { (tdr : ℕ) (access : Access) → MadeAtOnce (B.did bench.old) place.machine (walk_tree tdr access gpa level (page_told place.machine.pages page)) bench.new (Done (Number result)) }
+    ensures machine { B.machine bench.new ≡ B.machine bench.old }
+{
+    let page = page_told(place.machine.pages, page);
+    load_entry(bench, gpa, level, page)
+}
+
+// The turn of a step that is one event and has moved that word, or loaded what that number tells.
 fn moved_at_once(word: u64, turn: &mut LeafTurn)
     ensures { turn.new ≡ record { event = event.Act; act = Some (Done (Number word)); reply = Some (Done (Number word)) } }
 {

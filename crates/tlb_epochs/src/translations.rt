@@ -137,16 +137,13 @@ impl Tlb {
 fn find(cached: &[Cached], tdr: u16, gpa_page: u64, access: Access) -> Option<u16>
     ensures { result ≡ flat.look_up cached.now tdr gpa_page access }
 {
-    match cached {
-        [] => None,
-        [oldest, newer @ ..] => {
-            if oldest.is_of_page(tdr, gpa_page) && oldest.allows(access) {
-                Some(oldest.page())
-            } else {
-                find(newer, tdr, gpa_page, access)
-            }
+    for i in 0..cached.len() {
+        let one = &cached[i];
+        if one.is_of_page(tdr, gpa_page) && one.allows(access) {
+            return Some(one.page());
         }
     }
+    None
 }
 
 fn take_off_page(cached: &mut ArrayVec<Cached, ROOM>, tdr: u16, gpa_page: u64)

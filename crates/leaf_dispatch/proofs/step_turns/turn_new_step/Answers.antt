@@ -1,13 +1,10 @@
-use Rattle.std.proofs.Common.{◌+◌, ◌≤◌, Option, None, length, ap, refl, sym, subst}
+use Rattle.std.proofs.Common.{◌+◌, ◌≤◌, None, length, ap, refl, sym, subst}
 use Rattle.std.specs.Prelude.{vec_capacity}
 use Rattle.leaf_dispatch.specs.BundleRooms.{count_of}
-use Rattle.leaf_dispatch.specs.NoteRooms.{run_room}
 use Rattle.td_words.specs.declared.replies.Reply.TheVariants.{Done}
 use Rattle.td_words.specs.declared.replies.Value.TheVariants.{Number}
-use Rattle.leaf_engine.specs.Guests.{Step, Accesses}
+use Rattle.leaf_engine.specs.Guests.{Step, Accesses, Loads}
 use Rattle.leaf_engine.specs.OwnLists.{running}
-use Rattle.leaf_engine.specs.Turns.{Standing}
-use Rattle.guest_turns.specs.SharedTurns.{standing_of, IsIn}
 use Rattle.leaf_table.specs.Ends.{step_reports, step_ends}
 use Rattle.leaf_table.specs.Given.{given_in}
 use Rattle.leaf_table.specs.Steps.{step_seen}
@@ -17,7 +14,6 @@ use Rattle.leaf_dispatch.specs.Exits.{IsCounted}
 use Rattle.leaf_dispatch.proofs.AtOnce.{step-once}
 use Rattle.leaf_dispatch.proofs.Counting.{exit-counted}
 use Rattle.leaf_dispatch.proofs.Making.{none-reported}
-use Rattle.leaf_dispatch.proofs.ShortRuns.{nothing-kept}
 use Rattle.leaf_dispatch.proofs.step_turns.turn_new_step.Goals as goal
 
 pub returns-in-Accesses-clause-turned : goal.returns-in-Accesses-clause-turned
@@ -38,13 +34,10 @@ returns-in-Operates-clause-turned g c =
 
 pub returns-in-Loads-clause-turned : goal.returns-in-Loads-clause-turned
 returns-in-Loads-clause-turned g c =
-    let none = nothing-kept standing_of IsIn c.args.kept.now.shared c.args.kept.now.other c.requires.none.0 c.requires.none.1 in
     let turned =
-    subst
-    (λ (k : Option Standing). StepTurned (g.B.Bench.did c.args.bench.now) c.args.place.machine (step_ends c.args.tdr c.args.line (step_seen c.args.step)) (running (step_task (given_in c.args.given) c.args.place c.args.tdr c.args.vp c.args.line (step_seen c.args.step)) k) c.turn_other_step.new.bench
-    c.turn_other_step.new.kept c.turn_other_step.new.turn c.turn_other_step.ensures.turned.0)
-    none c.turn_other_step.ensures.turned.2 in
-    (c.turn_other_step.ensures.turned.0, c.turn_other_step.ensures.turned.1, (turned, subst (λ (z : Step). IsCounted z 0 turned.turned.0) (sym (ap step_seen c.in-Loads.is)) tt))
+    step-once (g.B.Bench.did c.args.bench.now) (given_in c.args.given) c.args.place _ c.args.tdr c.args.vp c.args.line (step_seen c.args.step) (Loads c.in-Loads.access c.in-Loads.gpa c.in-Loads.level c.in-Loads.page) c.load_walked-rights.new.bench (Done (Number c.load_walked-rights.result)) c.args.kept.now c.moved_at_once.new.turn
+    refl (ap step_seen c.in-Loads.is) refl (c.load_walked-rights.ensures.made c.args.tdr c.in-Loads.access) c.requires.none c.moved_at_once.ensures in
+    (None, none-reported c.args.reports.now, (turned, subst (λ (z : Step). IsCounted z 0 turned.turned.0) (sym (ap step_seen c.in-Loads.is)) tt))
 
 pub returns-in-Leaves-clause-turned : goal.returns-in-Leaves-clause-turned
 returns-in-Leaves-clause-turned g c =
@@ -56,8 +49,3 @@ returns-in-Leaves-clause-turned g c =
 pub turn_new_operation-requires-clause-fact_room : goal.turn_new_operation-requires-clause-fact_room
 turn_new_operation-requires-clause-fact_room g c =
     subst (λ (s : Step). length c.args.reports.now.items + count_of (step_reports c.args.line s) ≤ vec_capacity c.args.reports.now) (ap step_seen c.in-Operates.is) c.requires.fact_room
-
-pub turn_other_step-requires-clause-fact_room : goal.turn_other_step-requires-clause-fact_room
-turn_other_step-requires-clause-fact_room g c =
-    let none = nothing-kept standing_of IsIn c.args.kept.now.shared c.args.kept.now.other c.requires.none.0 c.requires.none.1 in
-    subst (λ (k : Option Standing). length c.args.reports.now.items + run_room (count_of (step_reports c.args.line (step_seen c.args.step))) k ≤ vec_capacity c.args.reports.now) (sym none) c.requires.fact_room

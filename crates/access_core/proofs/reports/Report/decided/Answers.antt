@@ -1,10 +1,9 @@
-use Rattle.std.proofs.Common.{◌∷◌, [], Ok, sym, subst, List}
+use Rattle.std.proofs.Common.{Ok, sym, subst, List}
 use Rattle.td_words.specs.declared.replies.Value.TheVariants as value
 use Rattle.td_words.specs.declared.replies.Reply.TheVariants.{Done}
 use Rattle.leaf_engine.specs.Changes.{Change}
 use Rattle.leaf_engine.specs.Decides.{Decides}
 use Rattle.leaf_engine.proofs.Decided.{decided-changes}
-use Rattle.access_core.specs.OperationTrees.{put_next}
 use Rattle.access_core.specs.ReportTrees.{report_tree}
 use Rattle.access_core.proofs.reports.Report.decided.Goals as goal
 
