@@ -29,9 +29,9 @@ use Rattle.script_runner.specs.Threads.{ThreadsOf}
 use Rattle.script_runner.specs.Brings.{sealed_by, CarryingLaws}
 use Rattle.script_runner.proofs.Brings.{of_run}
 use Rattle.script_runner.specs.Done.{HoldsOfRun, PutsRun, PutsThreads, PutsBlind, PutsHeadline}
-use Rattle.mig_laws.specs.Image.{ImageLaw}
 use Rattle.script_runner.proofs.Accesses.{own-accesses}
-use Rattle.script_runner.proofs.Images.{starts-from-pauses}
+use Rattle.script_runner.proofs.Images.{takes-over}
+use Rattle.script_runner.specs.Images.{TakingLaws}
 
 module _ (laws : BlindLaws) where
   -- containers that show the same, and are read, have the same bytes but for what is hidden
@@ -105,17 +105,17 @@ module _ (laws : BlindLaws) where
       (h, is_blind_run h.command h.script (handed_held k h.command) h.order (laws.forms.in_form h.bytes h.script h.reads))
 
   -- with the accesses of the same run, what it committed, and what its container brings over
-  pub holds-of-run : AccessesAreOwn → ImageLaw → CarryingLaws → (c : Option CommandSeen) (loads loads' : List Loaded) (puts puts' : List Put) (answer : Result (Unit {0}) PutFault) (r : PutsRun c loads loads' puts puts' answer)
+  pub holds-of-run : AccessesAreOwn → TakingLaws → CarryingLaws → (c : Option CommandSeen) (loads loads' : List Loaded) (puts puts' : List Put) (answer : Result (Unit {0}) PutFault) (r : PutsRun c loads loads' puts puts' answer)
       → ThreadsOf r.command r.script r.handed r.order (success_end r.command r.script r.handed r.order) → HoldsOfRun r.command r.script r.handed r.order
   holds-of-run law image carrying c loads loads' puts puts' answer r threads = record {
     threads = threads;
     accesses = own-accesses law (opening_by r.handed r.script) r.order;
     blind = of_put c loads loads' puts puts' answer r;
-    images = starts-from-pauses image (opening_by r.handed r.script) r.order;
+    images = takes-over image (opening_by r.handed r.script) r.order;
     brings = of_run carrying c loads loads' puts puts' answer r;
   }
 
-  pub headline : AccessesAreOwn → ImageLaw → CarryingLaws → (c : Option CommandSeen) (loads loads' : List Loaded) (puts puts' : List Put) (w w' : Writes) → PutsThreads c loads loads' puts puts' w w'
+  pub headline : AccessesAreOwn → TakingLaws → CarryingLaws → (c : Option CommandSeen) (loads loads' : List Loaded) (puts puts' : List Put) (w w' : Writes) → PutsThreads c loads loads' puts puts' w w'
       → PutsHeadline c loads loads' puts puts' w w'
   headline law image carrying c loads loads' puts puts' w w' h =
       record { run = h.0; saved = h.1; holds = holds-of-run law image carrying c loads loads' puts puts' (Ok tt) h.0 h.2 }

@@ -1,7 +1,6 @@
 -- What the top call promises follows from what it does.
 use Rattle.std.proofs.Common.{◌≡◌, ◌⊎◌, inl, inr, refl, ap, ℕ, ◌≤◌, List, Option, Some, None, IfSome, arith}
 use Rattle.flat_core.specs.AccessLaw.{AccessesAreOwn}
-use Rattle.mig_laws.specs.Image.{ImageLaw}
 use Rattle.command_files.specs.Commands.{CommandSeen, AskedSeen, OfScript, Soak, Verify}
 use Rattle.command_files.specs.Inputs.{Reads}
 use Rattle.bundle_store.specs.Outside.{Rose}
@@ -9,6 +8,7 @@ use Rattle.script_runner.specs.Saving.{Writes}
 use Rattle.script_runner.specs.Done.{PutsHeadline}
 use Rattle.script_runner.specs.Blind.{BlindLaws}
 use Rattle.script_runner.specs.Brings.{CarryingLaws}
+use Rattle.script_runner.specs.Images.{TakingLaws}
 use Rattle.script_runner.specs.Commanded.{Outputs, DoesCommand}
 use Rattle.script_runner.specs.Asked.{OfScripts}
 use Rattle.script_runner.specs.Promised.{ByHistories, ByContents}
@@ -23,7 +23,7 @@ use Rattle.script_runner.proofs.Verified.{does_verify}
 
 -- ---- of one command on a script
 
-module _ (access : AccessesAreOwn) (worlds : BlindLaws) (image : ImageLaw) (carrying : CarryingLaws) where
+module _ (access : AccessesAreOwn) (worlds : BlindLaws) (image : TakingLaws) (carrying : CarryingLaws) where
   module _ (contents : Option (List ℕ → Option (List ℕ))) (r r' : Reads) (w w' : Writes) (o o' : Outputs) (status : ℕ) where
     abbrev Does : Option AskedSeen → Type 0
     Does asked = DoesCommand contents asked r r' w w' o o' status

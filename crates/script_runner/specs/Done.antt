@@ -22,7 +22,7 @@ use Rattle.script_runner.specs.Ending.{ToSave, Ended, usage_end, bad_end, unread
 use Rattle.script_runner.specs.Saving.{Writes, AllSaved, named_once}
 use Rattle.script_runner.specs.Threads.{ThreadsOf}
 use Rattle.script_runner.specs.Accesses.{OwnAccesses}
-use Rattle.script_runner.specs.Images.{StartsFromPauses}
+use Rattle.script_runner.specs.Images.{TakesOver}
 use Rattle.script_runner.specs.Brings.{HandsWords, sealed_by, BringsOver}
 use Rattle.script_runner.specs.Blind.{IsBlindRun}
 use Rattle.script_runner.specs.Ends.{IsRead}
@@ -87,7 +87,7 @@ pub record HoldsOfRun (c : CommandSeen) (s : ScriptSeen) (handed : HandedOut) (o
   pub threads : ThreadsOf c s handed order (success_end c s handed order)
   pub accesses : OwnAccesses (opening_by handed s) order
   pub blind : IsBlindRun c s handed order (success_end c s handed order).text
-  pub images : StartsFromPauses (opening_by handed s) order
+  pub images : TakesOver (opening_by handed s) order
   pub brings : BringsOver handed s order (sealed_by handed s order)
 
 -- The named script was loaded first. What was handed out is in the grammar, and one put was given just the reply lines of the

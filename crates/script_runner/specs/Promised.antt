@@ -5,7 +5,7 @@ use Rattle.command_files.specs.Commands.{CommandSeen, Check}
 use Rattle.command_files.specs.Inputs.{Reads}
 use Rattle.script_runner.specs.Ending.{ending_of, handed_held, opening_by}
 use Rattle.script_runner.specs.Accesses.{OwnAccesses}
-use Rattle.script_runner.specs.Images.{StartsFromPauses}
+use Rattle.script_runner.specs.Images.{TakesOver}
 use Rattle.script_runner.specs.Brings.{sealed_by, BringsOver, FileBringsOver}
 use Rattle.script_runner.specs.Saving.{Writes, out_names}
 use Rattle.script_runner.specs.Ends.{Faults, EndsWith, OneRun, IsComplete, IsBadScript, IsBadContainer, IsBadLength, ShowsThreads, ShowsBlind, ReadCause, WriteCause, PutsFrontsOf}
@@ -46,8 +46,8 @@ pub record ByHistories (c : Option CommandSeen) (contents : Option (List ℕ →
   -- payloads alone. Private are secret words, and the payloads of states and pages that came in.
   pub put_blind : status ≡ 0 → PutsBlind c loaded.loads loaded'.loads output.puts output'.puts
   -- Each TD that the run committed started from the pause of its source: of every run that made all
-  -- bundles that came in and opened, whatever its script.
-  pub put_images : status ≡ 0 → (run : PutsRun c loaded.loads loaded'.loads output.puts output'.puts (Ok tt)) × StartsFromPauses (opening_by run.handed run.script) run.order
+  -- bundles that came in and opened, whatever its script. And the run took none of them twice, whoever made it.
+  pub put_images : status ≡ 0 → (run : PutsRun c loaded.loads loaded'.loads output.puts output'.puts (Ok tt)) × TakesOver (opening_by run.handed run.script) run.order
   -- The container that the run seals brings its bundles over: where a run of any script is handed out just that container and the same
   -- keys, each comes in as it was made, none is forged there, and each TD that is committed there started from this run's pause.
   pub put_brings : status ≡ 0 → (run : PutsRun c loaded.loads loaded'.loads output.puts output'.puts (Ok tt)) × BringsOver run.handed run.script run.order (sealed_by run.handed run.script run.order)
@@ -87,7 +87,7 @@ pub record ByContents (held : List ℕ → Option (List ℕ)) (c : Option Comman
   pub one_accesses : status ≡ 0 → (run : OneRun held c output.told output'.told written written') × OwnAccesses (opening_by (handed_held held run.command) run.script) run.order
   pub one_threads : status ≡ 0 → ShowsThreads held c output.told output'.told written written'
   pub one_blind : status ≡ 0 → ShowsBlind held c output.told output'.told written written'
-  pub one_images : status ≡ 0 → (run : OneRun held c output.told output'.told written written') × StartsFromPauses (opening_by (handed_held held run.command) run.script) run.order
+  pub one_images : status ≡ 0 → (run : OneRun held c output.told output'.told written written') × TakesOver (opening_by (handed_held held run.command) run.script) run.order
   -- The named container file then has just the container that the run seals, which is the one that is the same in two worlds, and
   -- brings the bundles of that run over.
   pub one_brings : status ≡ 0 → (run : OneRun held c output.told output'.told written written') × FileBringsOver run.command written'.contents (handed_held held run.command) run.script run.order

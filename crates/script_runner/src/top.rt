@@ -11,6 +11,7 @@ ghost use Rattle.script_runner.specs.Verified.{DoesVerify, VerifiesHeld};
 ghost use Rattle.script_runner.specs.Promised.{ByHistories, ByContents};
 ghost use Rattle.script_runner.specs.Blind.{BlindLaws};
 ghost use Rattle.script_runner.specs.Brings.{CarryingLaws};
+ghost use Rattle.script_runner.specs.Images.{TakingLaws};
 
 use crate::commanded::of_command;
 use crate::ending::{Ending, soak, unwritten, usage};
@@ -23,7 +24,7 @@ use flat_core::translation_law;
 use image_laws::{container_law, covered_law};
 use isol_laws::two_world_law;
 use leaf_engine::Gate;
-use mig_laws::image_law;
+use mig_laws::{image_law, once_law};
 use script_text::scripts_are_in_form;
 use script_words::scripts_give_words;
 use std::alloc::{AllocError, Global};
@@ -49,6 +50,14 @@ fn laws_of_carrying()
     bundle_law();
     scripts_are_in_form();
     scripts_give_words();
+}
+
+// By which laws what comes in is the source's, and comes in once.
+fn laws_of_taking()
+    ensures { TakingLaws }
+{
+    image_law();
+    once_law();
 }
 
 const MEMORY: &str = "out of memory\n";
@@ -259,7 +268,7 @@ pub fn tdx_main<R: Threads + Sync, F: Files, K: Sink, G: Gate + Sync>(
 {
     translation_law();
     laws_of_worlds();
-    image_law();
+    laws_of_taking();
     laws_of_carrying();
     do_command(threads, alloc, words, files, out, gate)
 }
