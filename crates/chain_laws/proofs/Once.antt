@@ -29,7 +29,8 @@ use Rattle.mig_laws.specs.Ivs.{is_filling, IsExporting, IsImporting}
 use Rattle.mig_laws.proofs.Rows.{taken_back, over_beside, row-beside}
 use Rattle.mig_laws.proofs.OneMore.{filling_fills, td_state_fills, vp_state_fills, commit_fills, token_fills}
 use Rattle.mig_laws.proofs.Rest.{Filled}
-use Rattle.mig_laws.proofs.RestRows.{is_import, row-rests}
+use Rattle.mig_laws.proofs.Changes.{is_import}
+use Rattle.mig_laws.proofs.RestRows.{row-rests}
 use Rattle.runner_laws.proofs.Moves.{Asked, asked, operation_same, reach_same, left_same}
 use Rattle.runner_laws.proofs.Commits.{same_importing}
 use Rattle.runner_laws.proofs.Unstarted.{same_exporting}

@@ -36,7 +36,8 @@ use Rattle.mig_laws.proofs.Rows.{taken_back}
 use Rattle.mig_laws.proofs.Ivs.{back_token, given_up_fills}
 use Rattle.mig_laws.proofs.OneMore.{filling_fills, td_state_fills, vp_state_fills, commit_fills, token_fills}
 use Rattle.mig_laws.proofs.Rest.{Filled}
-use Rattle.mig_laws.proofs.RestRows.{is_import, row-rests}
+use Rattle.mig_laws.proofs.Changes.{is_import}
+use Rattle.mig_laws.proofs.RestRows.{row-rests}
 
 -- what is said of each token back
 abbrev Back : (Made → Type 0) → Made → Type 0

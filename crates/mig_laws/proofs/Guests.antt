@@ -39,7 +39,7 @@ use Rattle.mig_laws.specs.Ivs.{IsExporting}
 use Rattle.mig_laws.specs.Source.{AreSentTracked}
 use Rattle.mig_laws.proofs.Stays.{PageStays, IsBeside, same_page, session_stays, all_stays, left_now, unmoved}
 use Rattle.mig_laws.proofs.Entries.{Place, fresh_goes, restated}
-use Rattle.mig_laws.proofs.Rows.{le_same}
+use Rattle.mig_laws.proofs.CallChanges.{le_same}
 
 -- an operation of a guest, and its count step
 

@@ -44,7 +44,8 @@ use Rattle.mig_laws.proofs.Rows.{taken_back}
 use Rattle.mig_laws.proofs.States.{place_in, is_vp_kind}
 use Rattle.mig_laws.proofs.Counts.{counts_more, count_at, counts_zero, still_front, all_more, last_stays}
 use Rattle.mig_laws.proofs.Rest.{vp_state, ImportStays, IsAtRest, same_import, destination_rests, import_stays, Rest, rest, at_rest}
-use Rattle.mig_laws.proofs.RestRows.{apart_pages, Aside, aside, aside_stays, counted_apart, quiet}
+use Rattle.mig_laws.proofs.CallChanges.{apart_pages}
+use Rattle.mig_laws.proofs.RestRows.{Aside, aside, aside_stays, counted_apart, quiet}
 use Rattle.mig_laws.proofs.OneMore.{IsTaken, taken, only_kind, token_kind, no_token, other_kind, off_kind, is_created, first_op, filling_fills, td_state_fills, vp_state_fills, commit_fills, token_fills, fills_importing, any_at, now_imported, one_more_holds, same_epoch, same_pages, start_later}
 use Rattle.mig_laws.proofs.Given.{starts_from_pause}
 

@@ -1,5 +1,7 @@
 pub mod Stays
 pub mod Entries
+pub mod Changes
+pub mod CallChanges
 pub mod Rows
 pub mod Ivs
 pub mod Places

@@ -47,7 +47,8 @@ use Rattle.mig_laws.proofs.Counts.{count_at}
 use Rattle.mig_laws.proofs.OneMore.{only_kind, token_kind, no_token, other_kind, filling_fills}
 use Rattle.mig_laws.proofs.OneMore.{td_state_fills, vp_state_fills, commit_fills, token_fills, fills_importing}
 use Rattle.mig_laws.proofs.Rest.{Filled, IsAtRest}
-use Rattle.mig_laws.proofs.RestRows.{is_import, row-rests, operation_rests, reach_rests, left_rests}
+use Rattle.mig_laws.proofs.Changes.{is_import}
+use Rattle.mig_laws.proofs.RestRows.{row-rests, operation_rests, reach_rests, left_rests}
 use Rattle.mig_laws.proofs.ImportsKeep.{is_due}
 use Rattle.mig_laws.proofs.Source.{always_source}
 

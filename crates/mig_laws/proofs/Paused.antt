@@ -323,7 +323,7 @@ module _ (o : Opening) (me : ℕ) (w : World) (l : Lawful o.machine w) (src : So
   row-pauses (call.ImportAbort t slot) ps =
       let u : World = set_op t op.FailedImport w in
       pauses_back u (back_token w t slot) refl (pauses_stay w u (over_beside o me w l t op.FailedImport refl) (calm_over t op.FailedImport w refl) h)
-  row-pauses c ps = pauses_stay w (After c) (row-beside o me w l c ps refl) (row-calm o me w c ps refl refl) h
+  row-pauses c ps = pauses_stay w (After c) (row-beside o me w l c ps refl) (row-calm o me w l c ps refl refl) h
 
 -- Guests: the TD of one runs, and so isn't paused
 pub calm_of : (w v : World) → v.hidden.paused ≡ w.hidden.paused → v.tds.ops ≡ w.tds.ops → v.hidden.memories ≡ w.hidden.memories → IsCalm w v

@@ -32,7 +32,8 @@ use Rattle.flat_core.specs.ExportRows.{abortable_ops}
 use Rattle.mig_laws.specs.Ivs.{is_forward, IsExporting, IvsHold, AbortsHold}
 use Rattle.mig_laws.specs.Source.{is_page_at, later_of, last_of, last_payload, IsSent, ArePagesSent, AreSentTracked, SourceHolds}
 use Rattle.mig_laws.proofs.Stays.{PageStays, IsBeside, beside, unmoved}
-use Rattle.mig_laws.proofs.Rows.{le_same, over_beside, row-beside}
+use Rattle.mig_laws.proofs.CallChanges.{le_same}
+use Rattle.mig_laws.proofs.Rows.{over_beside, row-beside}
 use Rattle.mig_laws.proofs.Ivs.{IsGiven, back_token, beside_ivs, row-ivs}
 use Rattle.mig_laws.proofs.Aborts.{row-aborts}
 

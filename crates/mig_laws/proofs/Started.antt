@@ -49,17 +49,17 @@ use Rattle.mig_laws.specs.States.{StatesHold, IsStateOf, in_32_bits}
 use Rattle.mig_laws.specs.Image.{IsStarted}
 use Rattle.mig_laws.specs.Started.{is_td_state, is_vp_state, IsWhole, AreNoted, StartsHold, StartsIn, StartsAreKept, MayExport, SourcesAreStarted, EveryRunIsASource, unsent_states, MissingAreUnsent}
 use Rattle.mig_laws.proofs.Stays.{IsBeside}
+use Rattle.mig_laws.proofs.CallChanges.{call-keeps}
 use Rattle.mig_laws.proofs.Rows.{over_beside, row-beside, never_exporting, taken_back}
 use Rattle.mig_laws.proofs.Ivs.{IsGiven, back_token}
 use Rattle.mig_laws.proofs.Places.{by_places, at_place, IsPlaceOf, within, last, place_of_more, count-append, count_yes, count_no, count_none, last-append, last_none}
 use Rattle.mig_laws.proofs.Joined.{page_of_session}
-use Rattle.mig_laws.proofs.Calm.{row-calm}
 use Rattle.mig_laws.proofs.Guests.{operation_beside, left_beside, reached_beside, never_stored}
 use Rattle.mig_laws.proofs.Paused.{no_start_yet, not_post, only_live, abortable_stands, is_pausing}
 use Rattle.mig_laws.proofs.States.{states_kept, never_of, paused_stands, place_in, is_vp_kind}
 use Rattle.mig_laws.proofs.WellRuns.{well_kept}
 use Rattle.mig_laws.proofs.OneMore.{any_at}
-use Rattle.mig_laws.proofs.RestRows.{apart_pages}
+use Rattle.mig_laws.proofs.CallChanges.{apart_pages}
 
 -- what is noted of a TD, and of a virtual processor
 pub record Notes : Type 0 where
@@ -490,7 +490,7 @@ module _ (o : Opening) (me : ℕ) (w : World) (l : Lawful o.machine w) (src : So
   row-starts (call.ExportStateVp t p slot) ps = vp_starts t p slot ps
   row-starts (call.ImportAbort t slot) ps =
       starts_back (set_op t op.FailedImport w) (back_token w t slot) refl (starts_stay w (set_op t op.FailedImport w) (over_beside o me w l t op.FailedImport refl) refl (notes_same w _ refl refl refl refl refl) h)
-  row-starts c ps = starts_stay w (Then c) (row-beside o me w l c ps refl) (row-calm o me w c ps refl refl).noted (row-notes o me w l c ps refl) h
+  row-starts c ps = starts_stay w (Then c) (row-beside o me w l c ps refl) ((call-keeps o me w l c).paused refl) (row-notes o me w l c ps refl) h
 
 -- a guest's event notes nothing, and pauses nothing
 abbrev IsPlain : World → World → Type 0

@@ -428,7 +428,7 @@ module _ (o : Opening) (me : ℕ) (w : World) (l : Lawful o.machine w) (src : So
   row-states (call.ImportAbort t slot) ps =
       let u : World = set_op t op.FailedImport w in
       states_back u (back_token w t slot) refl (states_stay w u (over_beside o me w l t op.FailedImport refl) (calm_over t op.FailedImport w refl) (still_same w u refl refl refl refl refl) h)
-  row-states c ps = states_stay w (After c) (row-beside o me w l c ps refl) (row-calm o me w c ps refl refl) (row-still o me w l c ps refl) h
+  row-states c ps = states_stay w (After c) (row-beside o me w l c ps refl) (row-calm o me w l c ps refl refl) (row-still o me w l c ps refl) h
 
 module _ (o : Opening) (bundles : ℕ → Option Incoming) (s : State) (p : ℕ) (all : IsGuarded o s) (src : SourceHolds s.world) (pauses : PausesHold s.world) (h : StatesHold s.world) where
   abbrev q : Opening

@@ -7,9 +7,7 @@ use Rattle.td_words.specs.declared.names.Access.{Access}
 use Rattle.td_words.specs.declared.names.Access.TheVariants.{Read, Write}
 use Rattle.td_words.specs.declared.names.LifeState.{LifeState}
 use Rattle.td_words.specs.declared.names.PageKind.TheVariants as kind
-use Rattle.td_words.specs.declared.names.OpState.TheVariants as op
 use Rattle.td_words.specs.declared.calls.Call.{Call}
-use Rattle.td_words.specs.declared.calls.Call.TheVariants as call
 use Rattle.td_words.specs.declared.calls.GuestOp.{GuestOp}
 use Rattle.td_words.specs.NameNumber.{op_number}
 use Rattle.td_words.specs.Slots.{output_slot}
@@ -17,24 +15,20 @@ use Rattle.flat_core.specs.World.{World, VpImage, Pages}
 use Rattle.flat_core.specs.Opening.{Opening}
 use Rattle.flat_core.specs.Row.{OperationRow, Passes}
 use Rattle.flat_core.specs.Conditions.{running_ops}
-use Rattle.flat_core.specs.Tree.{page_of_gpa, entry_at}
-use Rattle.flat_core.specs.Effects.{begin_memory, pass_operation, tell_words}
-use Rattle.flat_core.specs.Sessions.{count_bundle}
-use Rattle.flat_core.specs.Inputs.{Input, input_in}
+use Rattle.flat_core.specs.Effects.{pass_operation, tell_words}
 use Rattle.flat_core.specs.Guest.{ByRow, operation_of, is_pending_at, reach}
 use Rattle.flat_core.specs.ExportRows.{vp_image, image_of}
-use Rattle.flat_core.specs.ImportRows.{vp_state_ops}
 use Rattle.flat_core.specs.Table.{row_of}
 use Rattle.flat_core.specs.Lawful.{IsAlive, IsPageOf, ArePagesOf, Lawful}
-use Rattle.flat_core.proofs.Tests.{by_test, host_kind, same_self}
+use Rattle.flat_core.proofs.Tests.{by_test, same_self}
 use Rattle.flat_core.proofs.Parts.{IsLive}
 use Rattle.flat_core.proofs.Operations.{operation_row, accepted}
 use Rattle.flat_core.proofs.Streams.{page_among}
-use Rattle.flat_core.proofs.Passed.{vp_of}
-use Rattle.flat_bundles.proofs.Fills.{fill_either}
 use Rattle.mig_laws.specs.Ivs.{IsExporting}
 use Rattle.mig_laws.specs.Paused.{is_paused}
-use Rattle.mig_laws.proofs.Rows.{never_exporting, taken_back}
+use Rattle.mig_laws.proofs.Changes.{pauses_none, Td, Goes, each_goes}
+use Rattle.mig_laws.proofs.CallChanges.{call-changes}
+use Rattle.mig_laws.proofs.Rest.{VpState}
 use Rattle.mig_laws.proofs.Calm.{IsCalm}
 use Rattle.mig_laws.proofs.Paused.{running_unpaused}
 
@@ -74,84 +68,15 @@ other_vp w t x p q a all own off e = by_test (q == p)
     let no : true ≡ false = sym (eq-eqb x t same) ∙ off in cc))
     (λ y. y)
 
-module _ (o : Opening) (me : ℕ) (w : World) (l : Lawful o.machine w) where
-  abbrev After : Call → World
-  After c = (row_of o me c).act w
-
-  not_t : (v : World) (t : ℕ) → (IsExporting v t → ⊥) → (x : ℕ) → IsExporting v x → (x == t) ≡ false
-  not_t v t none x a = by_test (x == t) (λ y. absurd (none (subst (λ (z : ℕ). IsExporting v z) (eqb-true x t y) a))) (λ y. y)
-
-  created_still : (t page : ℕ) → w.pages.kinds page ≡ kind.Nda → (IsExporting (After (call.VpCreate t page)) t → ⊥) → IsStill w (After (call.VpCreate t page))
-  created_still t page host none =
-      let v : World = After (call.VpCreate t page) in
-      record {
-        build = λ x a. (let y = not_t v t none x a in (refl, rw y refl));
-        rtmrs = λ x a p. refl;
-        vp = λ x a p q h.
-            let alive = taken_back w page kind.Tdvpr t 0 0 (λ e. cc) v.tds refl x a.alive in
-            let off : (q == page) ≡ false = by_test (q == page)
-            (λ y. absurd (let no : kind.Tdvpr ≡ kind.Nda = sym (page_among w.pages x kind.Tdvpr (w.tds.vps x) q (l.tds.vps x alive) h).kind ∙ (ap w.pages.kinds (eqb-true q page y) ∙ host) in cc))
-            (λ y. y) in
-            rw off refl;
-      }
-
-  initialized_still : (t p value : ℕ) → w.pages.owners p ≡ t → (IsExporting (After (call.VpInit t p value)) t → ⊥) → IsStill w (After (call.VpInit t p value))
-  initialized_still t p value own none =
-      let v : World = After (call.VpInit t p value) in
-      record {
-        build = λ x a. (refl, refl);
-        rtmrs = λ x a e. refl;
-        vp = λ x a e q h.
-            let off = other_vp w t x p q (record { kind = a.alive.kind; life = a.alive.life }) l.tds.vps own (not_t v t none x a) h in
-            let registers : (r : ℕ) → v.hidden.registers q r ≡ w.hidden.registers q r = λ r. rw off refl in
-            λ j. record { registers = λ r. registers r j; position = w.vps.positions q };
-      }
-
-  imported_still : (t p slot : ℕ) → w.pages.owners p ≡ t → (IsExporting (After (call.ImportStateVp t p slot)) t → ⊥) → IsStill w (After (call.ImportStateVp t p slot))
-  imported_still t p slot own none =
-      let v : World = After (call.ImportStateVp t p slot) in
-      record {
-        build = λ x a. (refl, refl);
-        rtmrs = λ x a e. refl;
-        vp = λ x a e q h. (let off = other_vp w t x p q (record { kind = a.alive.kind; life = a.alive.life }) l.tds.vps own (not_t v t none x a) h in rw off refl);
-      }
-
-  pub row-still : (c : Call) → Passes ((row_of o me c).items w) → output_slot c ≡ None → IsStill w (After c)
-  row-still (call.MngCreate t k) ps none =
-      let v : World = After (call.MngCreate t k) in
-      let other = not_t v t (λ a. let no : false ≡ true = rw (same_self t) at a.standing in cc) in
-      record { build = λ x a. (let y = other x a in (rw y refl, rw y refl)); rtmrs = λ x a p. (let y = other x a in rw y refl); vp = λ x a p q h. refl }
-  row-still (call.MrFinalize t) ps none =
-      let v : World = After (call.MrFinalize t) in
-      let other = not_t v t (λ a. let no : false ≡ true = rw (same_self t) at a.standing in cc) in
-      record { build = λ x a. (let y = other x a in (rw y refl, refl)); rtmrs = λ x a p. refl; vp = λ x a p q h. refl }
-  row-still (call.VpCreate t page) ps none =
-      created_still t page (host_kind _ (search)) (λ a. never_exporting (op.Initialized ∷ op.MemoryImport ∷ []) (w.tds.ops t) (refl, refl, refl) (search) a.standing)
-  row-still (call.VpInit t p value) ps none =
-      initialized_still t p value (vp_of w t p (search)).owner
-      (λ a. never_exporting (op.Initialized ∷ []) (w.tds.ops t) (refl, refl, refl) (search) a.standing)
-  row-still (call.ImportStateImmutable t slot) ps none =
-      let v : World = After (call.ImportStateImmutable t slot) in
-      let other = not_t v t (λ a. let no : false ≡ true = rw (same_self t) at a.standing in cc) in
-      record { build = λ x a. (let y = other x a in (rw y refl, refl)); rtmrs = λ x a p. refl; vp = λ x a p q h. refl }
-  row-still (call.ImportMem t slot page) ps none =
-      let x : Input = input_in (o.bundles slot) in
-      fill_either (λ u. IsStill w (count_bundle t x.header.stream (begin_memory t (page_of_gpa x.header.gpa) x.words u))) t x.header.gpa page x.words (entry_at w t 0 x.header.gpa).state w
-      (still_same w _ refl refl refl refl refl) (still_same w _ refl refl refl refl refl)
-  row-still (call.ImportStateTd t slot) ps none =
-      let v : World = After (call.ImportStateTd t slot) in
-      let other = not_t v t (λ a. let no : false ≡ true = rw (same_self t) at a.standing in cc) in
-      record { build = λ x a. (refl, refl); rtmrs = λ x a p. (let y = other x a in rw y refl); vp = λ x a p q h. refl }
-  row-still (call.ImportStateVp t p slot) ps none =
-      imported_still t p slot (vp_of w t p (search)).owner
-      (λ a. never_exporting vp_state_ops (w.tds.ops t) (refl, refl, refl) (search) a.standing)
-  row-still (call.ImportAbort t slot) ps none = cc
-  row-still (call.ExportStateImmutable t slot) ps none = cc
-  row-still (call.ExportMem t gpa k slot) ps none = cc
-  row-still (call.ExportTrack t slot start) ps none = cc
-  row-still (call.ExportStateTd t slot) ps none = cc
-  row-still (call.ExportStateVp t p slot) ps none = cc
-  row-still c ps none = still_same w (After c) refl refl refl refl refl
+pub row-still : (o : Opening) (me : ℕ) (w : World) → Lawful o.machine w → (c : Call) → Passes ((row_of o me c).items w) → output_slot c ≡ None → IsStill w ((row_of o me c).act w)
+row-still o me w l c ps none =
+    let v : World = (row_of o me c).act w in
+    let goes : (x : ℕ) → IsExporting v x → Goes (pauses_none c) w v x = each_goes w v (call-changes o me w l c ps) none in
+    record {
+      build = λ x a. (ap (λ (z : Td). z.mrtd) (goes x a).td_is, ap (λ (z : Td). z.vps) (goes x a).td_is);
+      rtmrs = λ x a p. ap (λ (z : Td). z.rtmrs) (goes x a).td_is;
+      vp = λ x a p q h. ap (λ (z : VpState). let y : VpImage = record { registers = z.registers; position = z.position } in y) ((goes x a).vps ((goes x a).alive a.alive) q h);
+    }
 
 -- a guest's event changes RTMRs of its own TD, and registers and position of its own virtual processor, and the TD runs
 module _ (o : Opening) (w : World) (l : Lawful o.machine w) (t v : ℕ) (runs : list_any (λ a. op_number a == op_number (w.tds.ops t)) running_ops ≡ true) (page : IsPageOf w.pages t v kind.Tdvpr) where

@@ -1,5 +1,5 @@
 -- Each act leaves the lists of bundles well made.
-use Rattle.std.proofs.Common.{◌≡◌, ◌≢◌, refl, sym, ◌∙◌, ap, subst, ℕ, zero, suc, ◌+◌, ◌-◌, ◌%◌, ◌^◌, ◌<◌, ◌≤◌, List, [], ◌∷◌, length, None, Bool, true, false, not, ◌==◌, ◌||◌, get_or, arith}
+use Rattle.std.proofs.Common.{◌≡◌, ◌≢◌, refl, sym, ◌∙◌, ap, subst, ℕ, zero, suc, ◌+◌, ◌-◌, ◌%◌, ◌^◌, ◌<◌, ◌≤◌, List, [], ◌∷◌, length, Bool, true, false, not, ◌==◌, ◌||◌, get_or, arith}
 use Rattle.std.specs.List.{All, list_any}
 use Rattle.std.proofs.lemmas.Bool.{eqb-true, eqb-false, ne_eqb, and_parts, and_left, ltb-true, not-true}
 use Rattle.std.proofs.lemmas.List.Elements.{All-weaker}
@@ -11,40 +11,32 @@ use Rattle.td_words.specs.declared.calls.Call.{Call}
 use Rattle.td_words.specs.declared.calls.Call.TheVariants as call
 use Rattle.td_words.specs.NameNumber.{op_number}
 use Rattle.td_words.specs.Packing.{Entry, is_exported}
-use Rattle.td_words.specs.Slots.{output_slot}
-use Rattle.flat_core.specs.World.{World, ClearHeader, Made, put}
+use Rattle.flat_core.specs.World.{World, Made}
 use Rattle.flat_core.specs.Opening.{Opening}
 use Rattle.flat_core.specs.Row.{Passes}
-use Rattle.flat_core.specs.Conditions.{blocking_ops}
 use Rattle.flat_core.specs.Digests.{six_words}
 use Rattle.flat_core.specs.Tree.{page_of_gpa, number_at, entry_at}
-use Rattle.flat_core.specs.Effects.{put_in, set_op, begin_memory, restate}
-use Rattle.flat_core.specs.Sessions.{About, about, stream_page, stream_counter, bundles_so_far, payload_words, count_bundle, make_bundle, begin_session, set_mig_epoch, count_export, note_td_export, note_vp_export}
-use Rattle.flat_core.specs.Inputs.{input_in}
-use Rattle.flat_core.specs.ExportRows.{live_ops, abortable_ops, restoring_ops, write_blocked, write_unblocked}
+use Rattle.flat_core.specs.Effects.{set_op, restate}
+use Rattle.flat_core.specs.Sessions.{About, about, stream_page, stream_counter, bundles_so_far, payload_words, make_bundle, begin_session, set_mig_epoch, count_export, note_td_export, note_vp_export}
+use Rattle.flat_core.specs.ExportRows.{abortable_ops}
 use Rattle.flat_core.specs.BundleRows.{session_ops, paused_ops, start_epoch}
-use Rattle.flat_core.specs.ImportRows.{first_ops, td_state_ops, import_token_ops, filling_ops, vp_state_ops, fill_page, is_start}
 use Rattle.flat_core.specs.Table.{row_of}
 use Rattle.flat_core.specs.Lawful.{IsAlive, Lawful, all_differ, is_exporting}
-use Rattle.flat_core.proofs.Tests.{by_test, host_kind, same_self}
-use Rattle.flat_core.proofs.Keeps.{free_of}
-use Rattle.flat_core.proofs.Exports.{free_unmarked}
-use Rattle.flat_core.proofs.Ranges.{block_restates, unblock_restates, page_removed, sept_removed, paused_exporting, abortable_exporting}
-use Rattle.flat_core.proofs.ImportKeeps.{td_state_importing, vp_state_importing}
+use Rattle.flat_core.proofs.Tests.{by_test, same_self}
+use Rattle.flat_core.proofs.Ranges.{paused_exporting, abortable_exporting}
 use Rattle.flat_core.proofs.Streams.{stream_among, stream_owned}
-use Rattle.flat_core.proofs.Passed.{TdPassed, td_alive, sept_passed, block_passed, unblock_passed, remove_passed, relocate_passed, sept_remove_passed}
-use Rattle.flat_bundles.proofs.Fills.{fill_either}
+use Rattle.flat_core.proofs.Passed.{TdPassed, td_alive}
 use Rattle.mig_laws.specs.Ivs.{IsExporting, IvsHold}
 use Rattle.mig_laws.specs.Source.{is_page_at}
 use Rattle.mig_laws.specs.WellMade.{is_of, is_on, IsBehind, IsMarked, AgreesWith, SessionAgrees, WellHolds}
-use Rattle.mig_laws.proofs.Stays.{IsBeside}
-use Rattle.mig_laws.proofs.Rows.{never_exporting, never_then, not_among, over_beside, row-beside}
+use Rattle.mig_laws.proofs.Changes.{numbers, each_goes}
+use Rattle.mig_laws.proofs.CallChanges.{over_goes, call-changes}
+use Rattle.mig_laws.proofs.Rows.{not_among, over_beside, row-beside}
 use Rattle.mig_laws.proofs.Ivs.{IsGiven, ivs_stay, session_same, begun_ivs, back_token}
-use Rattle.mig_laws.proofs.OneMore.{token_fills, fills_importing}
 use Rattle.mig_laws.proofs.Places.{count_none}
 use Rattle.mig_laws.proofs.Joined.{forward_of, session_of}
 use Rattle.mig_laws.proofs.WellMade.{AgreesWithOwn, new_bundle, made_well, well_back}
-use Rattle.mig_laws.proofs.WellStays.{WellStays, stays_well, well_beside, NumbersStay, numbers_well, marks, Seen, seen, seen_exporting, seen_well}
+use Rattle.mig_laws.proofs.WellStays.{WellStays, stays_well, well_beside, numbers_well, Seen, seen, seen_exporting, seen_well}
 
 same_le : (n : ℕ) → n ≤ n
 same_le n = omega arith
@@ -346,158 +338,6 @@ module _ (o : Opening) (me : ℕ) (w : World) (l : Lawful o.machine w) (i : IvsH
   abbrev After : Call → World
   After c = (row_of o me c).act w
 
-  unmarked : {A : Type 0} (e : Entry) → is_exported e.state ≡ false → is_exported e.state ≡ true → A
-  unmarked e off on = absurd (let no : true ≡ false = sym on ∙ off in cc)
-
-  -- where nothing is asked of what changes but an entry of one TD
-  entry_numbers : (v : World) (t level n : ℕ) (e : Entry) → v.streams.counters ≡ w.streams.counters → v.tds.mig_epochs ≡ w.tds.mig_epochs → v.tds.ops ≡ w.tds.ops
-      → v.tds.entries ≡ put w.tds.entries t (put_in (w.tds.entries t) level n e) → (is_exported (w.tds.entries t level n).state ≡ true → e.mark ≡ (w.tds.entries t level n).mark) → (x : ℕ) → NumbersStay w v x
-  entry_numbers v t level n e counters epochs ops entries mark x = record {
-    counter = λ k m. ap (λ (f : ℕ → ℕ). f (stream_page w x k)) counters;
-    epoch = ap (λ (f : ℕ → ℕ). f x) epochs;
-    mark = λ j exported. ap (λ (f : ℕ → ℕ → ℕ → Entry). (f x 0 j).mark) entries ∙ marks w t level n e mark x j exported;
-    started = λ z. ap (λ (f : ℕ → OpState). f x) ops ∙ z;
-  }
-
-  -- where an op state comes that is none of an export
-  over_numbers : (t : ℕ) (s : OpState) → is_exporting s ≡ false → (x : ℕ) → IsExporting (set_op t s w) x → NumbersStay w (set_op t s w) x
-  over_numbers t s off x a = by_test (x == t)
-      (λ y. absurd (let now : is_exporting s ≡ true = rw y at a.standing in let no : true ≡ false = sym now ∙ off in cc))
-      (λ y. record { counter = λ j m. refl; epoch = refl; mark = λ n e. refl; started = λ e. rw y e })
-
-  -- a TD is imported, whose stream counts a bundle: another TD's streams are others
-  import_numbers : (v : World) (t k : ℕ) → IsBeside w v → IsAlive w.pages w.tds t → k < length (w.tds.streams t) → (IsExporting v t → ⊥) → v.streams.counters ≡ put w.streams.counters (stream_page w t k) (stream_counter w t k + 1)
-      → ((x : ℕ) → (x == t) ≡ false → v.tds.mig_epochs x ≡ w.tds.mig_epochs x) → ((x n : ℕ) → (x == t) ≡ false → v.tds.entries x 0 n ≡ w.tds.entries x 0 n) → ((x : ℕ) → (x == t) ≡ false → v.tds.ops x ≡ w.tds.ops x)
-      → (x : ℕ) → IsExporting v x → NumbersStay w v x
-  import_numbers v t k beside alive few none counters epochs entries ops x a = by_test (x == t)
-      (λ y. absurd (none (subst (λ (z : ℕ). IsExporting v z) (eqb-true x t y) a)))
-      (λ y. record {
-        counter = λ j m. ap (λ (f : ℕ → ℕ). f (stream_page w x j)) counters ∙ other j m y;
-        epoch = epochs x y;
-        mark = λ n e. ap (λ (z : Entry). z.mark) (entries x n y);
-        started = λ e. ops x y ∙ e;
-      })
-    where
-      other : (j : ℕ) → j < length (w.tds.streams x) → (x == t) ≡ false → put w.streams.counters (stream_page w t k) (stream_counter w t k + 1) (stream_page w x j) ≡ stream_counter w x j
-      other j m y =
-          let off : (stream_page w x j == stream_page w t k) ≡ false = by_test (stream_page w x j == stream_page w t k)
-          (λ z. absurd (eqb-false x t y (own_pages o w l x t j k (beside.each x a).session.exporting.alive alive m few (eqb-true _ _ z)).0))
-          (λ z. z) in
-          rw off refl
-
-  page_numbers : (t k gpa page : ℕ) (ws : ℕ → ℕ) → let v = count_bundle t k (begin_memory t (page_of_gpa gpa) ws (fill_page t gpa page ws (entry_at w t 0 gpa).state w)) in
-      IsBeside w v → IsAlive w.pages w.tds t → k < length (w.tds.streams t) → (is_exporting (w.tds.ops t) ≡ true → ⊥) → (x : ℕ) → IsExporting v x → NumbersStay w v x
-  page_numbers t k gpa page ws =
-      fill_either (λ u. let v = count_bundle t k (begin_memory t (page_of_gpa gpa) ws u) in
-      IsBeside w v → IsAlive w.pages w.tds t → k < length (w.tds.streams t) → (is_exporting (w.tds.ops t) ≡ true → ⊥) → (x : ℕ) → IsExporting v x → NumbersStay w v x) t gpa page ws (entry_at w t 0 gpa).state w
-      (λ b alive few none x a. import_numbers _ t k b alive few (λ e. none e.standing) refl (λ z y. refl) (λ z n y. rw y refl) (λ z y. refl) x a)
-      (λ b alive few none x a. import_numbers _ t k b alive few (λ e. none e.standing) refl (λ z y. refl) (λ z n y. refl) (λ z y. refl) x a)
-
-  numbers : (c : Call) → Passes ((row_of o me c).items w) → output_slot c ≡ None → (x : ℕ) → IsExporting (After c) x → NumbersStay w (After c) x
-  numbers (call.MngCreate t k) ps none x a = by_test (x == t)
-      (λ y. absurd (let no : false ≡ true = rw y at a.standing in cc))
-      (λ y. record { counter = λ j m. refl; epoch = rw y refl; mark = λ n e. rw y refl; started = λ e. rw y e })
-  numbers (call.MngInit t) ps none x a = by_test (x == t)
-      (λ y. absurd (let no : false ≡ true = rw y at a.standing in cc))
-      (λ y. record { counter = λ j m. refl; epoch = refl; mark = λ n e. refl; started = λ e. rw y e })
-  numbers (call.MrFinalize t) ps none x a = by_test (x == t)
-      (λ y. absurd (let no : false ≡ true = rw y at a.standing in cc))
-      (λ y. record { counter = λ j m. refl; epoch = refl; mark = λ n e. refl; started = λ e. rw y e })
-  numbers (call.MemSeptAdd t gpa level page) ps none x a =
-      let e = entry_at w t level gpa in
-      entry_numbers (After (call.MemSeptAdd t gpa level page)) t level (number_at level gpa) _ refl refl refl refl (unmarked e (free_unmarked e.state (free_of e.state (sept_passed o.machine w t gpa level page ps).free))) x
-  numbers (call.MemSeptRemove t gpa level) ps none x a =
-      let e = entry_at w t level gpa in
-      let q = sept_remove_passed o.machine w t gpa level ps in
-      entry_numbers (After (call.MemSeptRemove t gpa level)) t level (number_at level gpa) _ refl refl refl refl (unmarked e (sept_removed e.state q.state).unmarked) x
-  numbers (call.MemPageAdd t gpa page source) ps none x a =
-      let e = entry_at w t 0 gpa in
-      entry_numbers (After (call.MemPageAdd t gpa page source)) t 0 (number_at 0 gpa) _ refl refl refl refl (unmarked e (free_unmarked e.state (free_of e.state (search)))) x
-  numbers (call.MemPageAug t gpa page) ps none x a =
-      let e = entry_at w t 0 gpa in
-      entry_numbers (After (call.MemPageAug t gpa page)) t 0 (number_at 0 gpa) _ refl refl refl refl (unmarked e (free_unmarked e.state (free_of e.state (search)))) x
-  numbers (call.MemPageRemove t gpa) ps none x a =
-      let e = entry_at w t 0 gpa in
-      let q = remove_passed o.machine w t gpa ps in
-      entry_numbers (After (call.MemPageRemove t gpa)) t 0 (number_at 0 gpa) _ refl refl refl refl (unmarked e (page_removed e.state q.state).unmarked) x
-  numbers (call.MemPageRelocate t gpa page) ps none x a =
-      let q = (relocate_passed o.machine w t gpa page ps).named in
-      by_test (x == t)
-      (λ y. absurd (never_exporting blocking_ops (w.tds.ops t) (refl, refl, refl) q.op (subst (λ (u : ℕ). is_exporting (w.tds.ops u) ≡ true) (eqb-true x t y) a.standing)))
-      (λ y. record { counter = λ k m. refl; epoch = refl; mark = λ j e. rw y refl; started = λ e. e })
-  numbers (call.MemRangeBlock t gpa level) ps none x a =
-      let e = entry_at w t level gpa in
-      let q = block_passed o.machine w t gpa level ps in
-      entry_numbers (After (call.MemRangeBlock t gpa level)) t level (number_at level gpa) _ refl refl refl refl (unmarked e (block_restates e.state q.state).unmarked) x
-  numbers (call.MemRangeUnblock t gpa level) ps none x a =
-      let e = entry_at w t level gpa in
-      let q = unblock_passed o.machine w t gpa level ps in
-      entry_numbers (After (call.MemRangeUnblock t gpa level)) t level (number_at level gpa) _ refl refl refl refl (unmarked e (unblock_restates e.state q.state).unmarked) x
-  numbers (call.MigStreamCreate t page) ps none x a =
-      let host : w.pages.kinds page ≡ kind.Nda = host_kind _ (search) in
-      let alive = ((row-beside o me w l (call.MigStreamCreate t page) ps refl).each x a).session.exporting.alive in
-      record {
-        counter = λ k m. by_test (stream_page w x k == page)
-            (λ y. absurd (let no : kind.Migsc ≡ kind.Nda = sym (stream_owned o.machine w l x k alive m).kind ∙ (ap w.pages.kinds (eqb-true (stream_page w x k) page y) ∙ host) in cc))
-            (λ y. rw y refl);
-        epoch = refl;
-        mark = λ n e. refl;
-        started = λ e. e;
-      }
-  numbers (call.ExportBlockw t gpa) ps none x a =
-      entry_numbers (After (call.ExportBlockw t gpa)) t 0 (number_at 0 gpa) (record { state = write_blocked (entry_at w t 0 gpa).state; page = (entry_at w t 0 gpa).page; mark = (entry_at w t 0 gpa).mark }) refl refl refl refl (λ e. refl) x
-  numbers (call.ExportUnblockw t gpa) ps none x a =
-      entry_numbers (After (call.ExportUnblockw t gpa)) t 0 (number_at 0 gpa) (record { state = write_unblocked (entry_at w t 0 gpa).state; page = (entry_at w t 0 gpa).page; mark = (entry_at w t 0 gpa).mark }) refl refl refl refl (λ e. refl) x
-  numbers (call.ExportPause t) ps none x a = record {
-    counter = λ k m. refl;
-    epoch = refl;
-    mark = λ n e. refl;
-    started = λ e. by_test (x == t)
-        (λ y. absurd (never_of op.PostExport live_ops (w.tds.ops t) refl (search) (ap w.tds.ops (sym (eqb-true x t y)) ∙ e)))
-        (λ y. rw y e);
-  }
-  numbers (call.ExportAbort t) ps none x a = over_numbers t op.Runnable refl x a
-  numbers (call.ExportAbortByToken t slot) ps none x a = over_numbers t op.Runnable refl x a
-  numbers (call.ImportEnd t) ps none x a = over_numbers t op.Runnable refl x a
-  numbers (call.ImportCommit t) ps none x a = by_test (x == t)
-      (λ y. absurd (let no : false ≡ true = rw y at a.standing in cc))
-      (λ y. record { counter = λ j m. refl; epoch = refl; mark = λ n e. refl; started = λ e. rw y e })
-  numbers (call.ImportStateImmutable t slot) ps none x a =
-      let td : TdPassed w t first_ops = search in
-      import_numbers (After (call.ImportStateImmutable t slot)) t 0 (row-beside o me w l (call.ImportStateImmutable t slot) ps refl) (td_alive td) (ltb-true _ _ (search))
-      (λ b. let no : false ≡ true = rw (same_self t) at b.standing in cc) refl (λ z y. rw y refl) (λ z n y. refl) (λ z y. rw y refl) x a
-  numbers (call.ImportMem t slot page) ps none x a =
-      let h : ClearHeader = (input_in (o.bundles slot)).header in
-      let td : TdPassed w t filling_ops = search in
-      page_numbers t h.stream h.gpa page (input_in (o.bundles slot)).words (row-beside o me w l (call.ImportMem t slot page) ps refl) (td_alive td) (ltb-true _ _ (search))
-      (never_exporting filling_ops (w.tds.ops t) (refl, refl, refl) td.op) x a
-  numbers (call.ImportTrack t slot) ps none x a =
-      let b : Bool = is_start (input_in (o.bundles slot)).header in
-      let td : TdPassed w t (import_token_ops b) = search in
-      import_numbers (After (call.ImportTrack t slot)) t 0 (row-beside o me w l (call.ImportTrack t slot) ps refl) (td_alive td)
-      (l.sessions.import_stream t (fills_importing (w.tds.ops t) (token_fills b (w.tds.ops t) td.op)))
-      (λ e. never_then b (w.tds.ops t) td.op (rw (same_self t) at e.standing)) refl (λ z y. rw y refl) (λ z n y. refl) (λ z y. rw y refl) x a
-  numbers (call.ImportStateTd t slot) ps none x a =
-      let td : TdPassed w t td_state_ops = search in
-      import_numbers (After (call.ImportStateTd t slot)) t 0 (row-beside o me w l (call.ImportStateTd t slot) ps refl) (td_alive td) (l.sessions.import_stream t (td_state_importing (w.tds.ops t) td.op))
-      (λ b. let no : false ≡ true = rw (same_self t) at b.standing in cc) refl (λ z y. refl) (λ z n y. refl) (λ z y. rw y refl) x a
-  numbers (call.ImportStateVp t p slot) ps none x a =
-      let td : TdPassed w t vp_state_ops = search in
-      import_numbers (After (call.ImportStateVp t p slot)) t 0 (row-beside o me w l (call.ImportStateVp t p slot) ps refl) (td_alive td) (l.sessions.import_stream t (vp_state_importing (w.tds.ops t) td.op))
-      (λ b. never_exporting vp_state_ops (w.tds.ops t) (refl, refl, refl) td.op b.standing) refl (λ z y. refl) (λ z n y. refl) (λ z y. refl) x a
-  numbers (call.ImportAbort t slot) ps none x a = cc
-  numbers (call.ExportRestore t gpa) ps none x a = by_test (x == t)
-      (λ y. absurd (
-      let standing : is_exporting (w.tds.ops t) ≡ true = ap (λ (z : ℕ). is_exporting (w.tds.ops z)) (sym (eqb-true x t y)) ∙ a.standing in
-      never_exporting restoring_ops (w.tds.ops t) (refl, refl, refl) (search) standing))
-      (λ y. record { counter = λ j m. refl; epoch = refl; mark = λ n e. rw y refl; started = λ e. e })
-  numbers (call.ExportStateImmutable t slot) ps none x a = cc
-  numbers (call.ExportMem t gpa k slot) ps none x a = cc
-  numbers (call.ExportTrack t slot start) ps none x a = cc
-  numbers (call.ExportStateTd t slot) ps none x a = cc
-  numbers (call.ExportStateVp t v slot) ps none x a = cc
-  numbers _ ps none x a = record { counter = λ j m. refl; epoch = refl; mark = λ n e. refl; started = λ e. e }
-
   paused_well : (t slot : ℕ) (a : About) (payload : List ℕ) (u : World) → TdPassed w t paused_ops → seen u ≡ seen w → u.key_table.last_exported ≡ w.key_table.last_exported → a.stream ≡ 0 → is_state a.kind ≡ true → a.epoch ≡ w.tds.mig_epochs t
       → WellHolds (make_bundle t slot a payload u)
   paused_well t slot a payload u td same keys zeroth state epoch =
@@ -537,5 +377,5 @@ module _ (o : Opening) (me : ℕ) (w : World) (l : Lawful o.machine w) (i : IvsH
       td refl refl refl refl refl
   row-well (call.ImportAbort t slot) ps =
       let u : World = set_op t op.FailedImport w in
-      well_back u (back_token w t slot) refl (numbers_well w u (over_beside o me w l t op.FailedImport refl) (over_numbers t op.FailedImport refl) h)
-  row-well c ps = numbers_well w (After c) (row-beside o me w l c ps refl) (numbers c ps refl) h
+      well_back u (back_token w t slot) refl (numbers_well w u (over_beside o me w l t op.FailedImport refl) (λ x a. numbers w u x (over_goes w t op.FailedImport refl x a) a) h)
+  row-well c ps = numbers_well w (After c) (row-beside o me w l c ps refl) (λ x a. numbers w (After c) x (each_goes w (After c) (call-changes o me w l c ps) refl x a) a) h

@@ -28,7 +28,8 @@ use Rattle.mig_laws.proofs.Rows.{taken_back}
 use Rattle.mig_laws.proofs.Ivs.{back_token, given_up_fills}
 use Rattle.mig_laws.proofs.OneMore.{filling_fills, td_state_fills, vp_state_fills, commit_fills, token_fills}
 use Rattle.mig_laws.proofs.Rest.{Filled}
-use Rattle.mig_laws.proofs.RestRows.{is_import, row-rests}
+use Rattle.mig_laws.proofs.Changes.{is_import}
+use Rattle.mig_laws.proofs.RestRows.{row-rests}
 use Rattle.runner_laws.specs.Runner.{IsOver, CommitsHold}
 use Rattle.runner_laws.proofs.Moves.{Asked, asked}
 

@@ -25,9 +25,9 @@ use Rattle.flat_core.proofs.Tests.{by_test}
 use Rattle.td_laws.specs.Steps.{Step, is_among, values_after, ComesIn, may_move}
 use Rattle.td_laws.specs.Ops.{each, token_in, op_step, ops_of, next_ops, CallsComeInTheirOps, EventsLeadOps, EventsMoveOps, FailedImportsStay}
 use Rattle.td_laws.specs.Lives.{each as each_life, with_keys, life_step, lives_of, next_lives, CallsComeInTheirLives, EventsLeadLives, EventsMoveLives}
-use Rattle.td_laws.specs.Asked.{life_refused, op_refused}
+use Rattle.td_laws.specs.Asked.{life_refused, op_refused, line_asked}
 use Rattle.td_laws.proofs.Asked.{comes_as_said, rows_ask_for_lives, rows_ask_for_ops}
-use Rattle.td_laws.proofs.Steps.{IsFit, put_elsewhere, moves, events_lead, events_move}
+use Rattle.td_laws.proofs.Steps.{is_fit, put_elsewhere, moves, events_lead, events_move}
 
 -- A state is told by its number.
 abbrev op_at : ℕ → OpState
@@ -115,64 +115,44 @@ pub events_lead_lives : EventsLeadLives
 events_lead_lives = events_lead lives_of (λ tds entries t. refl) life_step life_leads
 
 -- Moves: each line of the tables goes along the state machines, and a TD begins at a host page.
+module _ (o : Opening) where
+  token_fits : (tdr : ℕ) (b : Bool) → is_fit op_number next_ops (token_in tdr b) ≡ true
+  token_fits tdr true = refl
+  token_fits tdr false = refl
+
+  op_fits : (c : Call) → is_fit op_number next_ops (line_asked op_step o c) ≡ true
+  op_fits (call.MngRd tdr field.Life) = refl
+  op_fits (call.MngRd tdr _) = refl
+  op_fits (call.ExportTrack tdr slot zero) = refl
+  op_fits (call.ExportTrack tdr slot (suc n)) = refl
+  op_fits (call.ImportTrack tdr slot) = token_fits tdr (is_start (input_in (o.bundles slot)).header)
+  op_fits (call.HostRead page word) = refl
+  op_fits _ = refl
+
+  keys_fit : (x : Option (Step OpState)) → is_fit life_number next_lives (with_keys x) ≡ true
+  keys_fit None = refl
+  keys_fit (Some step) = refl
+
+  life_fits : (c : Call) → is_fit life_number next_lives (line_asked life_step o c) ≡ true
+  life_fits (call.MngRd tdr f) = keys_fit (op_step o (call.MngRd tdr f))
+  life_fits (call.ExportTrack tdr slot start) = keys_fit (op_step o (call.ExportTrack tdr slot start))
+  life_fits (call.ImportTrack tdr slot) = keys_fit (op_step o (call.ImportTrack tdr slot))
+  life_fits (call.HostRead page word) = refl
+  life_fits _ = refl
+
 module _ (o : Opening) (me : ℕ) (w : World) (t : ℕ) (owned : is_host_in w.pages t ≡ false) where
   elsewhere : (tdr : ℕ) → is_host_in w.pages tdr ≡ true → (t == tdr) ≡ false
   elsewhere tdr host = by_test (t == tdr)
       (λ y. let no : true ≡ false = sym host ∙ (ap (λ (z : ℕ). is_host_in w.pages z) (sym (eqb-true t tdr y)) ∙ owned) in cc)
       (λ y. y)
 
-  abbrev OpMoves : Call → Type 0
-  OpMoves c = may_move op_number next_ops (w.tds.ops t) (values_after (op_step o c) w.tds.ops t) ≡ true
-
-  by_ops : (c : Call) → IsFit op_number same_op next_ops (op_step o c) → Passes ((row_of o me c).items w) → OpMoves c
-  by_ops c fit ps = moves op_number same_op next_ops w.tds.ops t (op_step o c) fit (op_comes o me w c ps)
-
-  token_fits : (tdr : ℕ) (b : Bool) → IsFit op_number same_op next_ops (token_in tdr b)
-  token_fits tdr true = refl
-  token_fits tdr false = tt
-
-  op_moves : (c : Call) → Passes ((row_of o me c).items w) → OpMoves c
+  op_moves : (c : Call) → Passes ((row_of o me c).items w) → may_move op_number next_ops (w.tds.ops t) (values_after (op_step o c) w.tds.ops t) ≡ true
   op_moves (call.MngCreate tdr hkid) ps = put_elsewhere op_number same_op next_ops w.tds.ops t tdr op.Uninitialized (elsewhere tdr (search))
-  op_moves (call.MngInit tdr) ps = by_ops (call.MngInit tdr) refl ps
-  op_moves (call.MrFinalize tdr) ps = by_ops (call.MrFinalize tdr) refl ps
-  op_moves (call.ExportStateImmutable tdr slot) ps = by_ops (call.ExportStateImmutable tdr slot) refl ps
-  op_moves (call.ExportPause tdr) ps = by_ops (call.ExportPause tdr) refl ps
-  op_moves (call.ExportAbort tdr) ps = by_ops (call.ExportAbort tdr) refl ps
-  op_moves (call.ExportAbortByToken tdr slot) ps = by_ops (call.ExportAbortByToken tdr slot) refl ps
-  op_moves (call.ImportStateImmutable tdr slot) ps = by_ops (call.ImportStateImmutable tdr slot) refl ps
-  op_moves (call.ImportStateTd tdr slot) ps = by_ops (call.ImportStateTd tdr slot) refl ps
-  op_moves (call.ImportCommit tdr) ps = by_ops (call.ImportCommit tdr) refl ps
-  op_moves (call.ImportEnd tdr) ps = by_ops (call.ImportEnd tdr) refl ps
-  op_moves (call.ImportAbort tdr slot) ps = by_ops (call.ImportAbort tdr slot) refl ps
-  op_moves (call.ExportTrack tdr slot zero) ps = by_ops (call.ExportTrack tdr slot zero) tt ps
-  op_moves (call.ExportTrack tdr slot (suc n)) ps = by_ops (call.ExportTrack tdr slot (suc n)) refl ps
-  op_moves (call.ImportTrack tdr slot) ps = by_ops (call.ImportTrack tdr slot) (token_fits tdr (is_start (input_in (o.bundles slot)).header)) ps
-  op_moves (call.MngRd tdr field.Life) ps = by_ops (call.MngRd tdr field.Life) tt ps
-  op_moves (call.MngRd tdr field.Op) ps = by_ops (call.MngRd tdr field.Op) tt ps
-  op_moves (call.MngRd tdr field.Epoch) ps = by_ops (call.MngRd tdr field.Epoch) tt ps
-  op_moves (call.MngRd tdr field.Mrtd) ps = by_ops (call.MngRd tdr field.Mrtd) tt ps
-  op_moves (call.HostRead page word) ps = by_ops (call.HostRead page word) tt ps
-  op_moves c ps = by_ops c tt ps
+  op_moves c ps = moves op_number same_op next_ops w.tds.ops t (op_step o c) (op_fits o c) (op_comes o me w c ps)
 
-  abbrev LifeMoves : Call → Type 0
-  LifeMoves c = may_move life_number next_lives (w.tds.lives t) (values_after (life_step o c) w.tds.lives t) ≡ true
-
-  by_lives : (c : Call) → IsFit life_number same_life next_lives (life_step o c) → Passes ((row_of o me c).items w) → LifeMoves c
-  by_lives c fit ps = moves life_number same_life next_lives w.tds.lives t (life_step o c) fit (life_comes o me w c ps)
-
-  keys_fit : (x : Option (Step OpState)) → IsFit life_number same_life next_lives (with_keys x)
-  keys_fit None = tt
-  keys_fit (Some step) = tt
-
-  life_moves : (c : Call) → Passes ((row_of o me c).items w) → LifeMoves c
+  life_moves : (c : Call) → Passes ((row_of o me c).items w) → may_move life_number next_lives (w.tds.lives t) (values_after (life_step o c) w.tds.lives t) ≡ true
   life_moves (call.MngCreate tdr hkid) ps = put_elsewhere life_number same_life next_lives w.tds.lives t tdr life.HkidAssigned (elsewhere tdr (search))
-  life_moves (call.MngKeyConfig tdr) ps = by_lives (call.MngKeyConfig tdr) refl ps
-  life_moves (call.MngVpflushdone tdr) ps = by_lives (call.MngVpflushdone tdr) refl ps
-  life_moves (call.MngKeyFreeid tdr) ps = by_lives (call.MngKeyFreeid tdr) refl ps
-  life_moves (call.MngAddcx tdr page) ps = by_lives (call.MngAddcx tdr page) tt ps
-  life_moves (call.VpFlush tdr vp) ps = by_lives (call.VpFlush tdr vp) tt ps
-  life_moves (call.PhymemPageReclaim tdr page) ps = by_lives (call.PhymemPageReclaim tdr page) tt ps
-  life_moves c ps = by_lives c (keys_fit (op_step o c)) ps
+  life_moves c ps = moves life_number same_life next_lives w.tds.lives t (life_step o c) (life_fits o c) (life_comes o me w c ps)
 
 pub events_move_ops : EventsMoveOps
 events_move_ops = events_move op_number same_op next_ops ops_of (λ tds entries t. refl) op_step op_leads op_moves

@@ -102,7 +102,17 @@ module _ {A : Type 0} (values : Tds → ℕ → A) (same : (tds : Tds) (entries 
   events_lead o s p t =
       acts_lead (λ c w. values_after (table o c) (values w.tds) t) (λ w. values w.tds t) o s p (rows o p s.world t) (act_leaves values same o s.world t) (reach_leaves values same o s.world t) (λ v. refl)
 
--- The table goes along the state machine.
+-- a line of a table goes along the state machine
+module _ {A : Type 0} (number : A → ℕ) (next : A → List A) where
+  abbrev pub fits_to : List A → Option A → Bool
+  fits_to from None = true
+  fits_to from (Some s) = list_all (λ a. may_move number next a s) from
+
+  abbrev pub is_fit : Option (Step A) → Bool
+  is_fit None = true
+  is_fit (Some step) = fits_to step.from step.to
+
+-- so what it leads to is next
 module _ {A : Type 0} (number : A → ℕ) (known : (a b : A) → number a ≡ number b → a ≡ b) (next : A → List A) where
   pub may_stay : (s : A) → may_move number next s s ≡ true
   may_stay s = rw (same_self (number s)) refl
@@ -114,14 +124,6 @@ module _ {A : Type 0} (number : A → ℕ) (known : (a b : A) → number a ≡ n
       (λ y. subst (λ (x : A). f x ≡ true) (known a s (eqb-true (number a) (number s) y)) (and_parts (f a) (list_all f allowed) h).0)
       (λ y. all_at f s allowed (rw y at e) (and_parts (f a) (list_all f allowed) h).1)
 
-  abbrev pub FitsTo : List A → Option A → Type 0
-  FitsTo from None = Unit {0}
-  FitsTo from (Some s) = list_all (λ a. may_move number next a s) from ≡ true
-
-  abbrev pub IsFit : Option (Step A) → Type 0
-  IsFit None = Unit {0}
-  IsFit (Some step) = FitsTo step.from step.to
-
   module _ (values : ℕ → A) (t : ℕ) where
     put_there : (tdr : ℕ) (s : A) → (t == tdr) ≡ true → put values tdr s t ≡ s
     put_there tdr s y = rw y refl
@@ -129,14 +131,14 @@ module _ {A : Type 0} (number : A → ℕ) (known : (a b : A) → number a ≡ n
     pub put_elsewhere : (tdr : ℕ) (s : A) → (t == tdr) ≡ false → may_move number next (values t) (put values tdr s t) ≡ true
     put_elsewhere tdr s n = let stays : put values tdr s t ≡ values t = rw n refl in subst (λ (x : A). may_move number next (values t) x ≡ true) (sym stays) (may_stay (values t))
 
-    moves_to : (tdr : ℕ) (from : List A) (to : Option A) → FitsTo from to → is_among number (values tdr) from ≡ true → may_move number next (values t) (led_to tdr to values t) ≡ true
+    moves_to : (tdr : ℕ) (from : List A) (to : Option A) → fits_to number next from to ≡ true → is_among number (values tdr) from ≡ true → may_move number next (values t) (led_to tdr to values t) ≡ true
     moves_to tdr from None fit among = may_stay (values t)
     moves_to tdr from (Some s) fit among = by_test (t == tdr)
         (λ y. subst (λ (x : A). may_move number next (values t) x ≡ true) (sym (put_there tdr s y))
         (subst (λ (z : ℕ). may_move number next (values z) s ≡ true) (sym (eqb-true t tdr y)) (all_at (λ a. may_move number next a s) (values tdr) from among fit)))
         (put_elsewhere tdr s)
 
-    pub moves : (x : Option (Step A)) → IsFit x → ComesIn number values x → may_move number next (values t) (values_after x values t) ≡ true
+    pub moves : (x : Option (Step A)) → is_fit number next x ≡ true → ComesIn number values x → may_move number next (values t) (values_after x values t) ≡ true
     moves None fit come = may_stay (values t)
     moves (Some step) fit come = moves_to step.tdr step.from step.to fit come
 

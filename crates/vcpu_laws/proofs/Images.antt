@@ -1,5 +1,5 @@
 -- What pauses and commits have noted after each event.
-use Rattle.std.proofs.Common.{◌≡◌, refl, sym, ap, subst, ℕ, zero, suc, ◌+◌, List, [], ◌∷◌, length, Option, Some, None}
+use Rattle.std.proofs.Common.{◌≡◌, refl, sym, ◌∙◌, ap, ℕ, zero, suc, List, [], ◌∷◌, Option, Some}
 use Rattle.td_words.specs.declared.names.Access.{Access}
 use Rattle.td_words.specs.declared.names.Access.TheVariants.{Read, Write}
 use Rattle.td_words.specs.declared.names.EntryState.{EntryState}
@@ -7,21 +7,19 @@ use Rattle.td_words.specs.declared.names.EntryState.TheVariants as entry
 use Rattle.td_words.specs.declared.calls.Call.{Call}
 use Rattle.td_words.specs.declared.calls.Call.TheVariants as call
 use Rattle.td_words.specs.declared.calls.GuestOp.{GuestOp}
-use Rattle.td_words.specs.declared.replies.Outcome.{Outcome}
-use Rattle.td_words.specs.declared.replies.Reply.{Reply}
 use Rattle.flat_core.specs.World.{World, Image}
-use Rattle.flat_core.specs.Processor.{Answered, Held, Lp}
 use Rattle.flat_core.specs.Opening.{Opening}
-use Rattle.flat_core.specs.Row.{OperationRow, Move, Attempts, Undoes, Refuses, Succeeds, Releases, Rests, next, next_in}
+use Rattle.flat_core.specs.Row.{OperationRow, Succeeds}
 use Rattle.flat_core.specs.Table.{row_of}
 use Rattle.flat_core.specs.Tree.{entry_at}
 use Rattle.flat_core.specs.Effects.{tell_words}
 use Rattle.flat_core.specs.Inputs.{Input, input_in}
 use Rattle.flat_core.specs.ImportRows.{fill_page}
 use Rattle.flat_core.specs.Guest.{ByRow, operation_of, is_pending_at, reach}
-use Rattle.flat_core.specs.Event.{State, Event, OfCall, OfOperation, lines_left, next_event, nothing_more, world_after, after_event, event}
+use Rattle.flat_core.specs.Event.{State, Event, OfCall, lines_left, next_event, event}
 use Rattle.flat_core.proofs.Operations.{operation_row, accepted}
-use Rattle.flat_core.proofs.Due.{Due, calls, frees, leaves, stops, fills, operates, walks, reaches, undoes, gives_back, due_event_is}
+use Rattle.td_laws.specs.Steps.{by_acts}
+use Rattle.td_laws.proofs.Steps.{acts_lead}
 use Rattle.vcpu_laws.specs.Images.{paused_after_call, given_after_call, paused_after_event, given_after_event, PausesAreNoted, CommitsAreNoted}
 
 -- what was noted so far, both
@@ -65,55 +63,14 @@ module _ (o : Opening) (w : World) (p : ℕ) where
   reach_notes t v Read r gpa page = refl
   reach_notes t v Write r gpa page = refl
 
-  module _ (lp : Lp) where
-    abbrev IsNoted : List Call → Event → Type 0
-    IsNoted cs e = noted (world_after e w) ≡ noted_after_event cs (Some e) w
-
-    call_noted : (c : Call) (cs : List Call) (move : Move Reply) → IsNoted (c ∷ cs) (OfCall (row_of o p c) move)
-    call_noted c cs (Attempts l m) = refl
-    call_noted c cs (Undoes l) = refl
-    call_noted c cs (Refuses r) = refl
-    call_noted c cs Succeeds = call_notes c
-    call_noted c cs (Releases x) = refl
-    call_noted c cs Rests = refl
-
-    operation_noted : (c : Call) (cs : List Call) (t v : ℕ) (op : GuestOp) (row : OperationRow) (move : Move (Option Outcome)) → operation_of o t v (length lp.replies + 1) op ≡ ByRow row → IsNoted (c ∷ cs) (OfOperation row move)
-    operation_noted c cs t v op row (Attempts l m) is = refl
-    operation_noted c cs t v op row (Undoes l) is = refl
-    operation_noted c cs t v op row (Refuses r) is = refl
-    operation_noted c cs t v op row Succeeds is = operation_notes t v (length lp.replies + 1) op row is
-    operation_noted c cs t v op row (Releases x) is = refl
-    operation_noted c cs t v op row Rests is = refl
-
-    ending_noted : (c : Call) (cs : List Call) (out : Option Outcome) (hs : List Held) → IsNoted (c ∷ cs) (OfOperation nothing_more (next_in [] (Answered out) hs))
-    ending_noted c cs out [] = refl
-    ending_noted c cs out (h ∷ hs) = refl
-
-    on_line : (cs : List Call) (e : Event) → lines_left o p lp ≡ cs → IsNoted cs e → IsNoted (lines_left o p lp) e
-    on_line cs e line h = subst (λ (xs : List Call). IsNoted xs e) (sym line) h
-
-    due_noted : (e : Event) → Due o w p lp e → IsNoted (lines_left o p lp) e
-    due_noted e (calls c cs line none) = on_line (c ∷ cs) e line (call_noted c cs (next_in ((row_of o p c).items w) lp.call.phase lp.call.held))
-    due_noted e (frees c cs g h hs line guest held epoch) = on_line (c ∷ cs) e line refl
-    due_noted e (leaves c cs g out x l) = on_line (c ∷ cs) e x.line refl
-    due_noted e (stops c cs g x l t d) = on_line (c ∷ cs) e x.line refl
-    due_noted e (fills c cs g op x l t d m) = on_line (c ∷ cs) e x.line refl
-    due_noted e (operates c cs g op row x way is) = on_line (c ∷ cs) e x.line (operation_noted c cs g.tdr g.vp op row (next (row.items w) (length g.operation.held)) is)
-    due_noted e (walks c cs g op access r gpa x way is lost) = on_line (c ∷ cs) e x.line refl
-    due_noted e (reaches c cs g op access r gpa page x way is found) = on_line (c ∷ cs) e x.line (reach_notes g.tdr g.vp access r gpa page)
-    due_noted e (undoes c cs g l x s h) = on_line (c ∷ cs) e x.line refl
-    due_noted e (gives_back c cs g out x s h) = on_line (c ∷ cs) e x.line (ending_noted c cs out g.operation.held)
+-- what is noted after an event is what an act of a call notes, or what was noted before
+by_calls : (cs : List Call) (e : Option Event) (w : World) → noted_after_event cs e w ≡ by_acts noted_after_call noted cs e w
+by_calls [] e w = refl
+by_calls (c ∷ cs) (Some (OfCall row Succeeds)) w = refl
+by_calls (c ∷ cs) _ w = refl
 
 events_note : (o : Opening) (s : State) (p : ℕ) → noted (event o s p).world ≡ noted_after_event (lines_left o p (s.lps p)) (next_event o s p) s.world
-events_note o s p = by (next_event o s p) refl
-  where
-    none : (cs : List Call) → noted s.world ≡ noted_after_event cs None s.world
-    none [] = refl
-    none (c ∷ cs) = refl
-
-    by : (x : Option Event) → next_event o s p ≡ x → noted (after_event p s x).world ≡ noted_after_event (lines_left o p (s.lps p)) x s.world
-    by None e = none (lines_left o p (s.lps p))
-    by (Some x) e = due_noted o s.world p (s.lps p) x (due_event_is o s p x e)
+events_note o s p = acts_lead noted_after_call noted o s p (call_notes o s.world p) (operation_notes o s.world p) (reach_notes o s.world p) (λ v. refl) ∙ sym (by_calls (lines_left o p (s.lps p)) (next_event o s p) s.world)
 
 pub pauses_are_noted : PausesAreNoted
 pauses_are_noted o s p n = ap (λ (x : Noted). x.paused n) (events_note o s p)

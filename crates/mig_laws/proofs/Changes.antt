@@ -1,0 +1,228 @@
+-- What an act changes, as migrations see it: one TD alone; and how the export and the import of that TD go on.
+use Rattle.std.proofs.Common.{◌≡◌, refl, sym, ◌∙◌, ap, subst, ℕ, ◌≤◌, List, [], ◌∷◌, map, Option, Some, None, Bool, true, false, ◌==◌, ◌||◌, arith}
+use Rattle.std.specs.Prelude.{slice_index_or}
+use Rattle.std.specs.List.{list_any}
+use Rattle.std.proofs.lemmas.Bool.{eqb-true}
+use Rattle.td_words.specs.declared.names.OpState.{OpState}
+use Rattle.td_words.specs.declared.names.OpState.TheVariants as op
+use Rattle.td_words.specs.declared.names.EntryState.TheVariants as entry
+use Rattle.td_words.specs.declared.calls.Call.{Call}
+use Rattle.td_words.specs.declared.calls.Call.TheVariants as call
+use Rattle.td_words.specs.NameNumber.{op_number}
+use Rattle.td_words.specs.Packing.{Entry, is_exported}
+use Rattle.td_words.specs.Slots.{output_slot}
+use Rattle.flat_core.specs.World.{World}
+use Rattle.flat_core.specs.Sessions.{stream_page}
+use Rattle.flat_core.specs.Tracking.{entry_epochs}
+use Rattle.flat_core.specs.Lawful.{IsAlive, is_exporting}
+use Rattle.flat_core.proofs.Tests.{by_test, same_self}
+use Rattle.flat_core.proofs.Shapes.{IsOneOf}
+use Rattle.flat_core.proofs.Streams.{stream_among}
+use Rattle.mig_laws.specs.Ivs.{is_filling, IsExporting, IsImporting}
+use Rattle.mig_laws.proofs.Counts.{counts_same}
+use Rattle.mig_laws.proofs.Rest.{Filled, vp_state, ImportStays, EmptyStays, IsAtRest, old, same_import}
+use Rattle.mig_laws.proofs.Stays.{Own, own, PageStays, Stays, all_later, same_page, tracks}
+use Rattle.mig_laws.proofs.WellStays.{NumbersStay}
+
+-- the calls that give a TD what its source has made, and the one that notes what it starts with
+abbrev pub is_import : Call → Bool
+is_import (call.ImportStateImmutable t slot) = true
+is_import (call.ImportMem t slot page) = true
+is_import (call.ImportTrack t slot) = true
+is_import (call.ImportStateTd t slot) = true
+is_import (call.ImportStateVp t p slot) = true
+is_import (call.ImportCommit t) = true
+is_import _ = false
+
+abbrev pub pauses_none : Call → Bool
+pauses_none (call.ExportPause t) = false
+pauses_none _ = true
+
+-- what migrations look at of one TD besides its guest's memory
+pub record Td : Type 0 where
+  pub op : OpState
+  pub session : ℕ
+  pub streams : List ℕ
+  pub epoch : ℕ
+  pub mig_epoch : ℕ
+  pub vps : List ℕ
+  pub expected : ℕ
+  pub mrtd : ℕ → ℕ
+  pub rtmrs : ℕ → ℕ
+  pub leaves : ℕ → Entry
+
+abbrev pub td : World → ℕ → Td
+td w x = record {
+  op = w.tds.ops x;
+  session = w.tds.sessions x;
+  streams = w.tds.streams x;
+  epoch = w.tds.epochs x;
+  mig_epoch = w.tds.mig_epochs x;
+  vps = w.tds.vps x;
+  expected = w.tds.vps_expected x;
+  mrtd = w.tds.mrtds x;
+  rtmrs = w.hidden.rtmrs x;
+  leaves = w.tds.entries x 0;
+}
+
+-- A TD is as it was, and so are its guest's memory, its streams' counters and its virtual processors; none of its pages that are exported is noted as
+-- blocked later.
+pub record Same (w v : World) (x : ℕ) : Type 0 where
+  pub alive : IsAlive v.pages v.tds x → IsAlive w.pages w.tds x
+  pub td_is : td v x ≡ td w x
+  pub memories : (n : ℕ) → v.hidden.memories x n ≡ w.hidden.memories x n
+  pub counters : IsAlive w.pages w.tds x → (q : ℕ) → list_any (λ p. p == q) (w.tds.streams x) ≡ true → v.streams.counters q ≡ w.streams.counters q
+  pub vps : IsAlive w.pages w.tds x → (q : ℕ) → list_any (λ p. p == q) (w.tds.vps x) ≡ true → (vp_state v q ≡ vp_state w q) × (v.vps.entered q ≡ w.vps.entered q)
+  pub blocked : IsAlive w.pages w.tds x → (n : ℕ) → (w.tds.entries x 0 n).state ≡ entry.ExportedBlockedW → v.pages.blocked (w.tds.entries x 0 n).page ≤ w.pages.blocked (w.tds.entries x 0 n).page
+
+-- one TD changes alone
+abbrev pub Alone : World → World → ℕ → Type 0
+Alone w v t = (x : ℕ) → (x == t) ≡ false → Same w v x
+
+-- an export stays in its operation state; or it is paused, where that may be
+pub data OpStays (calm : Bool) (s s' : OpState) : Type 0 where
+  same_op : s' ≡ s → OpStays calm s s'
+  pauses : calm ≡ false → s ≡ op.LiveExport → s' ≡ op.PausedExport → OpStays calm s s'
+
+-- of an export that goes on: its TD is as it was, but for TD_EPOCH and entries, and these as pages that are sent ask
+pub record Goes (calm : Bool) (w v : World) (x : ℕ) : Type 0 where
+  pub alive : IsAlive v.pages v.tds x → IsAlive w.pages w.tds x
+  pub op : OpStays calm (w.tds.ops x) (v.tds.ops x)
+  pub td_is : td v x ≡ record (td w x) { op = v.tds.ops x; epoch = v.tds.epochs x; leaves = v.tds.entries x 0 }
+  pub memories : (n : ℕ) → v.hidden.memories x n ≡ w.hidden.memories x n
+  pub counters : IsAlive w.pages w.tds x → (q : ℕ) → list_any (λ p. p == q) (w.tds.streams x) ≡ true → v.streams.counters q ≡ w.streams.counters q
+  pub vps : IsAlive w.pages w.tds x → (q : ℕ) → list_any (λ p. p == q) (w.tds.vps x) ≡ true → vp_state v q ≡ vp_state w q
+  pub page : IsAlive w.pages w.tds x → (n : ℕ) → PageStays w v x n
+  pub mark : (n : ℕ) → is_exported (w.tds.entries x 0 n).state ≡ true → (v.tds.entries x 0 n).mark ≡ (w.tds.entries x 0 n).mark
+
+-- What an act of a call changes: one TD alone. Where that call makes no bundle, its export goes on or ends; where the call imports
+-- nothing, its import stays as it is or ends.
+pub record Changes (c : Call) (w v : World) : Type 0 where
+  pub tdr : ℕ
+  pub alone : Alone w v tdr
+  pub exports : output_slot c ≡ None → IsExporting v tdr → Goes (pauses_none c) w v tdr
+  pub imports : is_import c ≡ false → IsImporting v tdr → ImportStays w v tdr
+  pub empty : is_import c ≡ false → IsAlive v.pages v.tds tdr → v.tds.ops tdr ≡ op.Uninitialized → EmptyStays w v tdr
+
+-- what is so of no allowed op state isn't so of one among them
+abbrev each_op : List OpState
+each_op = op.Uninitialized ∷ op.Initialized ∷ op.Runnable ∷ op.LiveExport ∷ op.PausedExport ∷ op.PostExport ∷ op.MemoryImport ∷ op.StateImport ∷ op.PostImport ∷ op.LiveImport ∷ op.FailedImport ∷ []
+
+op_back : (s : OpState) → slice_index_or each_op (op_number s) op.Uninitialized ≡ s
+op_back op.Uninitialized = refl
+op_back _ = refl
+
+pub none_of : (f : OpState → Bool) (allowed : List OpState) (s : OpState) → IsOneOf allowed s → list_any f allowed ≡ false → f s ≡ false
+none_of f [] s among none = cc
+none_of f (a ∷ allowed) s among none = by_test (f a)
+    (λ y. absurd (let no : true ≡ false = rw y at none in cc))
+    (λ y. by_test (op_number a == op_number s)
+    (λ z. let same : a ≡ s = sym (op_back a) ∙ (ap (λ (n : ℕ). slice_index_or each_op n op.Uninitialized) (eqb-true _ _ z) ∙ op_back s) in subst (λ (x : OpState). f x ≡ false) same y)
+    (λ z. none_of f allowed s (rw z at among) (rw y at none)))
+
+abbrev pub is_new : OpState → Bool
+is_new op.Uninitialized = true
+is_new _ = false
+
+-- an op state of an export, of an import, or of a TD that is new
+abbrev pub is_moving : OpState → Bool
+is_moving s = is_exporting s || (is_filling s || is_new s)
+
+-- What stays of a TD that is as it was
+same_first : (f g : ℕ → Option ℕ) (u : ℕ) (us : List ℕ) → g u ≡ f u → entry_epochs g us ≡ entry_epochs f us → entry_epochs g (u ∷ us) ≡ entry_epochs f (u ∷ us)
+same_first f g u us here rest = by (f u) refl
+  where
+    by : (y : Option ℕ) → f u ≡ y → entry_epochs g (u ∷ us) ≡ entry_epochs f (u ∷ us)
+    by None at = let now = here ∙ at in rw (now, at) rest
+    by (Some e) at = let now = here ∙ at in rw (now, at) (λ j. e ∷ rest j)
+
+same_epochs : (f g : ℕ → Option ℕ) (vs : List ℕ) → ((q : ℕ) → list_any (λ p. p == q) vs ≡ true → g q ≡ f q) → entry_epochs g vs ≡ entry_epochs f vs
+same_epochs f g [] h = refl
+same_epochs f g (u ∷ us) h =
+    same_first f g u us (h u (let self = same_self u in rw self refl)) (same_epochs f g us (λ q e. h q (by_test (u == q) (λ y. rw y refl) (λ y. rw y e))))
+
+module _ (w v : World) (x : ℕ) (s : Same w v x) where
+  pub same_goes : (calm : Bool) → Goes calm w v x
+  same_goes calm = record {
+    alive = s.alive;
+    op = same_op (ap (λ (z : Td). z.op) s.td_is);
+    td_is = ap (λ (z : Td). record z { op = v.tds.ops x; epoch = v.tds.epochs x; leaves = v.tds.entries x 0 }) s.td_is;
+    memories = s.memories;
+    counters = s.counters;
+    vps = λ a q e. (s.vps a q e).0;
+    page = λ a n. same_page w v x n (ap (λ (z : Td). z.leaves n) s.td_is) (s.memories n)
+        (λ k. tracks w v x (w.tds.entries x 0 n).page own_is (s.blocked a n k)
+        (λ b m h. subst (λ (es : List ℕ). all_later b es ≡ true) (sym (same_epochs w.vps.entered v.vps.entered (w.tds.vps x) (λ q e. (s.vps a q e).1))) h));
+    mark = λ n e. ap (λ (z : Td). (z.leaves n).mark) s.td_is;
+  }
+    where
+      own_is : own v x ≡ own w x
+      own_is = ap (λ (z : Td). let y : Own = record { session = z.session; streams = z.streams; epoch = z.epoch; vps = z.vps } in y) s.td_is
+
+  pub same_imports : IsImporting v x → ImportStays w v x
+  same_imports a =
+      let alive = s.alive a.alive in
+      let op = ap (λ (z : Td). z.op) s.td_is in
+      same_import w v x (record { alive = alive; standing = ap is_filling (sym op) ∙ a.standing }) op
+      (ap (λ (z : Td). let y : Filled = record { session = z.session; epoch = z.mig_epoch; streams = z.streams; mrtd = z.mrtd; expected = z.expected; rtmrs = z.rtmrs } in y) s.td_is)
+      (ap (λ (z : Td). map v.streams.counters z.streams) s.td_is ∙ counts_same v.streams.counters w.streams.counters (w.tds.streams x) (s.counters alive))
+      s.memories (ap (λ (z : Td). z.vps) s.td_is) (λ p e. (s.vps alive p e).0)
+
+  pub same_empty : IsAlive v.pages v.tds x → v.tds.ops x ≡ op.Uninitialized → EmptyStays w v x
+  same_empty a e = old (s.alive a) (ap (λ (z : Td). z.op) (sym s.td_is) ∙ e) s.memories
+
+-- What stays of an export that goes on
+module _ {calm : Bool} (w v : World) (x : ℕ) (g : Goes calm w v x) where
+  pub stays : IsExporting v x → Stays w v x
+  stays a = record {
+    session = record {
+      exporting = record { alive = alive; standing = stood g.op };
+      live = live g.op;
+      session = ap (λ (z : Td). z.session) g.td_is;
+      streams = ap (λ (z : Td). z.streams) g.td_is;
+      counters = λ k m. (let same = g.counters alive (stream_page w x k) (stream_among (w.tds.streams x) k m) in omega (arith, same));
+    };
+    page = g.page alive;
+  }
+    where
+      alive : IsAlive w.pages w.tds x
+      alive = g.alive a.alive
+
+      stood : OpStays calm (w.tds.ops x) (v.tds.ops x) → is_exporting (w.tds.ops x) ≡ true
+      stood (same_op e) = ap is_exporting (sym e) ∙ a.standing
+      stood (pauses k s t) = ap is_exporting s
+
+      live : OpStays calm (w.tds.ops x) (v.tds.ops x) → v.tds.ops x ≡ op.LiveExport → w.tds.ops x ≡ op.LiveExport
+      live (same_op e) h = sym e ∙ h
+      live (pauses k s t) h = s
+
+  pub numbers : IsExporting v x → NumbersStay w v x
+  numbers a = record {
+    counter = λ k m. g.counters (g.alive a.alive) (stream_page w x k) (stream_among (w.tds.streams x) k m);
+    epoch = ap (λ (z : Td). z.mig_epoch) g.td_is;
+    mark = g.mark;
+    started = started g.op;
+  }
+    where
+      started : OpStays calm (w.tds.ops x) (v.tds.ops x) → w.tds.ops x ≡ op.PostExport → v.tds.ops x ≡ op.PostExport
+      started (same_op e) h = e ∙ h
+      started (pauses k s t) h = absurd (let no : op.LiveExport ≡ op.PostExport = sym s ∙ h in cc)
+
+-- Each TD, where one changes alone
+module _ {c : Call} (w v : World) (h : Changes c w v) where
+  pub each_goes : output_slot c ≡ None → (x : ℕ) → IsExporting v x → Goes (pauses_none c) w v x
+  each_goes none x a = by_test (x == h.tdr)
+      (λ y. subst (λ (z : ℕ). Goes (pauses_none c) w v z) (sym (eqb-true x h.tdr y)) (h.exports none (subst (λ (z : ℕ). IsExporting v z) (eqb-true x h.tdr y) a)))
+      (λ y. same_goes w v x (h.alone x y) (pauses_none c))
+
+  pub each_rests : is_import c ≡ false → v.hidden.given ≡ w.hidden.given → IsAtRest w v
+  each_rests none given = record {
+    given = given;
+    each = λ x a. by_test (x == h.tdr)
+        (λ y. subst (λ (z : ℕ). ImportStays w v z) (sym (eqb-true x h.tdr y)) (h.imports none (subst (λ (z : ℕ). IsImporting v z) (eqb-true x h.tdr y) a)))
+        (λ y. same_imports w v x (h.alone x y) a);
+    empty = λ x a e. by_test (x == h.tdr)
+        (λ y. (let is = eqb-true x h.tdr y in
+        subst (λ (z : ℕ). EmptyStays w v z) (sym is) (h.empty none (subst (λ (z : ℕ). IsAlive v.pages v.tds z) is a) (subst (λ (z : ℕ). v.tds.ops z ≡ op.Uninitialized) is e))))
+        (λ y. same_empty w v x (h.alone x y) a e);
+  }
