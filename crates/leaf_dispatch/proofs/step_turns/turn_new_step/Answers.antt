@@ -35,8 +35,8 @@ returns-in-Operates-clause-turned g c =
 pub returns-in-Loads-clause-turned : goal.returns-in-Loads-clause-turned
 returns-in-Loads-clause-turned g c =
     let turned =
-    step-once (g.B.Bench.did c.args.bench.now) (given_in c.args.given) c.args.place _ c.args.tdr c.args.vp c.args.line (step_seen c.args.step) (Loads c.in-Loads.access c.in-Loads.gpa c.in-Loads.level c.in-Loads.page) c.load_walked-rights.new.bench (Done (Number c.load_walked-rights.result)) c.args.kept.now c.moved_at_once.new.turn
-    refl (ap step_seen c.in-Loads.is) refl (c.load_walked-rights.ensures.made c.args.tdr c.in-Loads.access) c.requires.none c.moved_at_once.ensures in
+    step-once (g.B.Bench.did c.args.bench.now) (given_in c.args.given) c.args.place _ c.args.tdr c.args.vp c.args.line (step_seen c.args.step) (Loads c.in-Loads.access c.in-Loads.gpa c.in-Loads.level c.in-Loads.page) c.load_walked-rights.new.bench (Done (Number c.load_walked-rights.result)) c.args.kept.now c.moved_at_once-in-Loads.new.turn
+    refl (ap step_seen c.in-Loads.is) refl (c.load_walked-rights.ensures.made c.args.tdr c.in-Loads.access) c.requires.none c.moved_at_once-in-Loads.ensures in
     (None, none-reported c.args.reports.now, (turned, subst (λ (z : Step). IsCounted z 0 turned.turned.0) (sym (ap step_seen c.in-Loads.is)) tt))
 
 pub returns-in-Leaves-clause-turned : goal.returns-in-Leaves-clause-turned
