@@ -6,15 +6,15 @@ use Rattle.script_runner.proofs.top.tdx_main.Goals as goal
 
 pub returns-clause-headline : goal.returns-clause-headline
 returns-clause-headline g c zero =
-    all_headlines c.translation_law.ensures.accesses c.laws_of_worlds.ensures c.image_law.ensures.runs c.laws_of_carrying.ensures _ _ _ _ _ _ _ _ _ c.do_command.ensures.does zero
+    all_headlines c.translation_law.ensures.accesses c.laws_of_worlds.ensures c.laws_of_taking.ensures c.laws_of_carrying.ensures _ _ _ _ _ _ _ _ _ c.do_command.ensures.does zero
 
 pub returns-clause-by_histories : goal.returns-clause-by_histories
 returns-clause-by_histories g c =
-    all_histories c.translation_law.ensures.accesses c.laws_of_worlds.ensures c.image_law.ensures.runs c.laws_of_carrying.ensures _ _ _ _ _ _ _ _ _ c.do_command.ensures.does c.do_command.ensures.few
+    all_histories c.translation_law.ensures.accesses c.laws_of_worlds.ensures c.laws_of_taking.ensures c.laws_of_carrying.ensures _ _ _ _ _ _ _ _ _ c.do_command.ensures.does c.do_command.ensures.few
 
 pub returns-clause-by_contents : goal.returns-clause-by_contents
 returns-clause-by_contents g c =
-    all_contents c.translation_law.ensures.accesses c.laws_of_worlds.ensures c.image_law.ensures.runs c.laws_of_carrying.ensures _ _ _ _ _ _ _ _ _ c.do_command.ensures.does refl
+    all_contents c.translation_law.ensures.accesses c.laws_of_worlds.ensures c.laws_of_taking.ensures c.laws_of_carrying.ensures _ _ _ _ _ _ _ _ _ c.do_command.ensures.does refl
 
 pub returns-clause-soak : goal.returns-clause-soak
 returns-clause-soak g c = of_soaks _ _ _ _ _ _ _ _ _ c.do_command.ensures.does
