@@ -6,25 +6,22 @@ use Rattle.std.proofs.lemmas.List.Elements.{All-nil, All-push, All-weaker}
 use Rattle.td_words.specs.declared.names.Access.{Access}
 use Rattle.td_words.specs.declared.names.Access.TheVariants.{Read, Write}
 use Rattle.td_words.specs.declared.names.PageKind.{PageKind}
-use Rattle.td_words.specs.declared.names.PageKind.TheVariants as kind
 use Rattle.td_words.specs.declared.names.LifeState.{LifeState}
 use Rattle.td_words.specs.declared.names.OpState.{OpState}
 use Rattle.td_words.specs.declared.names.OpState.TheVariants as op
-use Rattle.td_words.specs.declared.names.EntryState.TheVariants as entry
 use Rattle.td_words.specs.declared.calls.Call.{Call}
 use Rattle.td_words.specs.declared.calls.Call.TheVariants as call
 use Rattle.td_words.specs.declared.calls.GuestOp.{GuestOp}
 use Rattle.flat_core.specs.World.{World, Made}
 use Rattle.flat_core.specs.Opening.{Opening}
 use Rattle.flat_core.specs.Row.{OperationRow, Passes}
-use Rattle.flat_core.specs.Tree.{page_of_gpa, number_at, entry_at}
-use Rattle.flat_core.specs.Effects.{set_page, map_page, set_op, begin_memory, pass_operation, tell_words, leave_guest, add_bundle}
+use Rattle.flat_core.specs.Tree.{entry_at}
+use Rattle.flat_core.specs.Effects.{set_op, pass_operation, tell_words, leave_guest, add_bundle}
 use Rattle.flat_core.specs.Guest.{ByRow, operation_of, is_pending_at, reach}
-use Rattle.flat_core.specs.Sessions.{count_bundle}
 use Rattle.flat_core.specs.Inputs.{Input, input_in}
-use Rattle.flat_core.specs.ImportRows.{given_up_ops, fill_page, is_start}
+use Rattle.flat_core.specs.ImportRows.{given_up_ops}
 use Rattle.flat_core.specs.Table.{row_of}
-use Rattle.flat_core.specs.Lawful.{IsAlive, Lawful}
+use Rattle.flat_core.specs.Lawful.{Lawful}
 use Rattle.flat_core.specs.Event.{start}
 use Rattle.flat_core.proofs.Tests.{by_test, same_self}
 use Rattle.flat_core.proofs.Parts.{IsLive}
@@ -32,12 +29,9 @@ use Rattle.flat_core.proofs.Operations.{operation_row, accepted}
 use Rattle.flat_core.proofs.Passed.{TdPassed, td_alive}
 use Rattle.flat_bundles.proofs.Fills.{fill_either}
 use Rattle.mig_laws.specs.Ivs.{is_forward, is_filling, IsImporting, AbortsHold}
-use Rattle.mig_laws.proofs.Rows.{taken_back}
 use Rattle.mig_laws.proofs.Ivs.{back_token, given_up_fills}
-use Rattle.mig_laws.proofs.OneMore.{filling_fills, td_state_fills, vp_state_fills, commit_fills, token_fills}
-use Rattle.mig_laws.proofs.Rest.{Filled}
-use Rattle.mig_laws.proofs.Changes.{is_import}
-use Rattle.mig_laws.proofs.RestRows.{row-rests}
+use Rattle.mig_laws.proofs.Changes.{begins_import, each_counts}
+use Rattle.mig_laws.proofs.CallChanges.{call-changes, call-keeps}
 
 -- what is said of each token back
 abbrev Back : (Made → Type 0) → Made → Type 0
@@ -125,28 +119,8 @@ module _ (o : Opening) (me : ℕ) (w : World) (l : Lawful o.machine w) (h : Abor
   abbrev After : Call → World
   After c = (row_of o me c).act w
 
-  rest_aborts : (c : Call) → Passes ((row_of o me c).items w) → is_import c ≡ false → NoneComes w.outgoing.bundles (After c).outgoing.bundles → (After c).key_table.last_imported ≡ w.key_table.last_imported → AbortsHold (After c)
-  rest_aborts c ps off bundles last = aborts_stay w (After c) bundles last
-      (λ x a. (let k = (row-rests o me w l c ps off).each x a in record { importing = k.importing; session = ap (λ (z : Filled). z.session) k.own })) h
-
-  -- an import that goes on
-  filling_aborts : (v : World) (t : ℕ) → is_filling (w.tds.ops t) ≡ true → v.outgoing.bundles ≡ w.outgoing.bundles → v.key_table.last_imported ≡ w.key_table.last_imported → ((x : ℕ) → IsAlive v.pages v.tds x → IsAlive w.pages w.tds x)
-      → ((x : ℕ) → (x == t) ≡ false → v.tds.ops x ≡ w.tds.ops x) → v.tds.sessions ≡ w.tds.sessions → AbortsHold v
-  filling_aborts v t filling bundles last back ops sessions = aborts_stay w v (none bundles) last
-      (λ x a. record {
-        importing = record {
-          alive = back x a.alive;
-          standing = by_test (x == t) (λ y. subst (λ (z : ℕ). is_filling (w.tds.ops z) ≡ true) (sym (eqb-true x t y)) filling) (λ y. ap is_filling (sym (ops x y)) ∙ a.standing);
-        };
-        session = ap (λ (f : ℕ → ℕ). f x) sessions;
-      }) h
-
-  page_aborts : (t k gpa page : ℕ) (ws : ℕ → ℕ) → is_filling (w.tds.ops t) ≡ true → AbortsHold (count_bundle t k (begin_memory t (page_of_gpa gpa) ws (fill_page t gpa page ws (entry_at w t 0 gpa).state w)))
-  page_aborts t k gpa page ws filling =
-      let taken : World = count_bundle t k (begin_memory t (page_of_gpa gpa) ws (set_page page ws (map_page page kind.Reg entry.Mapped t 0 (number_at 0 gpa) w))) in
-      fill_either (λ u. AbortsHold (count_bundle t k (begin_memory t (page_of_gpa gpa) ws u))) t gpa page ws (entry_at w t 0 gpa).state w
-      (filling_aborts taken t filling refl refl (λ x a. taken_back w page kind.Reg t 0 (number_at 0 gpa) (λ e. cc) taken.tds refl x (record { kind = a.kind; life = a.life })) (λ x y. refl) refl)
-      (filling_aborts _ t filling refl refl (λ x a. record { kind = a.kind; life = a.life }) (λ x y. refl) refl)
+  rest_aborts : (c : Call) → Passes ((row_of o me c).items w) → begins_import c ≡ false → NoneComes w.outgoing.bundles (After c).outgoing.bundles → (After c).key_table.last_imported ≡ w.key_table.last_imported → AbortsHold (After c)
+  rest_aborts c ps off bundles last = aborts_stay w (After c) bundles last (λ x a. (let k = each_counts (call-changes o me w l c ps) off x a in record { importing = k.importing; session = k.session })) h
 
   pub row-aborts : (c : Call) → Passes ((row_of o me c).items w) → AbortsHold (After c)
   row-aborts (call.ImportStateImmutable t slot) ps =
@@ -156,16 +130,8 @@ module _ (o : Opening) (me : ℕ) (w : World) (l : Lawful o.machine w) (h : Abor
       (λ y z a. record { alive = record { kind = a.alive.kind; life = a.alive.life }; standing = rw z at a.standing })
   row-aborts (call.ImportMem t slot page) ps =
       let x : Input = input_in (o.bundles slot) in
-      page_aborts t x.header.stream x.header.gpa page x.words (filling_fills (w.tds.ops t) (search)).0
-  row-aborts (call.ImportTrack t slot) ps =
-      let x : Input = input_in (o.bundles slot) in
-      filling_aborts (After (call.ImportTrack t slot)) t (token_fills (is_start x.header) (w.tds.ops t) (search)) refl refl (λ y a. record { kind = a.kind; life = a.life }) (λ y z. rw z refl) refl
-  row-aborts (call.ImportStateTd t slot) ps =
-      filling_aborts (After (call.ImportStateTd t slot)) t (td_state_fills (w.tds.ops t) (search)).0 refl refl (λ y a. record { kind = a.kind; life = a.life }) (λ y z. rw z refl) refl
-  row-aborts (call.ImportStateVp t p slot) ps =
-      filling_aborts (After (call.ImportStateVp t p slot)) t (vp_state_fills (w.tds.ops t) (search)).0 refl refl (λ y a. record { kind = a.kind; life = a.life }) (λ y z. refl) refl
-  row-aborts (call.ImportCommit t) ps =
-      filling_aborts (After (call.ImportCommit t)) t (commit_fills (w.tds.ops t) (search)).0 refl refl (λ y a. record { kind = a.kind; life = a.life }) (λ y z. rw z refl) refl
+      rest_aborts (call.ImportMem t slot page) ps refl (none ((call-keeps o me w l (call.ImportMem t slot page)).made refl).0)
+      (fill_either (λ u. u.key_table.last_imported ≡ w.key_table.last_imported) t x.header.gpa page x.words (entry_at w t 0 x.header.gpa).state w refl refl)
   row-aborts (call.ImportAbort t slot) ps =
       let td : TdPassed w t given_up_ops = search in
       given_up_aborts w h t slot (record { alive = td_alive td; standing = given_up_fills (w.tds.ops t) td.op })

@@ -35,4 +35,4 @@ calm_over t s w off = calm_where w (set_op t s w) refl (over_goes w t s off)
 pub row-calm : (o : Opening) (me : ℕ) (w : World) → Lawful o.machine w → (c : Call) → Passes ((row_of o me c).items w) → output_slot c ≡ None → pauses_none c ≡ true → IsCalm w ((row_of o me c).act w)
 row-calm o me w l c ps none calm =
     let v : World = (row_of o me c).act w in
-    calm_where w v ((call-keeps o me w l c).paused calm) (λ x a. subst (λ (b : Bool). Goes b w v x) calm (each_goes w v (call-changes o me w l c ps) none x a))
+    calm_where w v ((call-keeps o me w l c).paused calm) (λ x a. subst (λ (b : Bool). Goes b w v x) calm (each_goes (call-changes o me w l c ps) none x a))

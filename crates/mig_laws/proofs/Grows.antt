@@ -21,7 +21,6 @@ use Rattle.flat_core.specs.Lawful.{Lawful}
 use Rattle.flat_core.specs.Laws.{with_bundles}
 use Rattle.flat_core.proofs.Tests.{by_test}
 use Rattle.flat_core.proofs.Acts.{event_world}
-use Rattle.flat_core.proofs.Always.{occ-of}
 use Rattle.flat_core.proofs.Ranges.{live_exporting}
 use Rattle.flat_core.proofs.Passed.{TdPassed, td_alive}
 use Rattle.flat_core.specs.ExportRows.{live_ops}
@@ -40,7 +39,8 @@ use Rattle.mig_laws.specs.Grows.{IsLater, SourcesGoOn, DestinationsFollow, Unfor
 use Rattle.mig_laws.proofs.Places.{by_places, at_place, count-append, last-append, last_none}
 use Rattle.mig_laws.proofs.Joined.{placed, not_imported}
 use Rattle.mig_laws.proofs.OneMore.{any_at}
-use Rattle.mig_laws.proofs.Paused.{not_post, only_live, operation_calm, reach_calm}
+use Rattle.mig_laws.proofs.GuestChanges.{Fixed, operation_fixed, reach_fixed}
+use Rattle.mig_laws.proofs.Paused.{not_post, only_live}
 
 -- what was imported, of a list that has grown
 module _ (bundles more : List Made) (made : AreWellMade (bundles ++ more)) (s : ℕ) (counts : List ℕ) (within : (k : ℕ) → get_or counts k 0 ≤ count_by (is_on s k) bundles) where
@@ -202,8 +202,6 @@ sources_go_on o bundles s p all h =
     let w : World = s.world in
     event_world q s p (IsLater w) (same_later w w refl refl)
     (λ c cs line none ps. row-later q p w all.timely.lawful h c ps)
-    (λ c cs g op row i is ps. (let occ = occ-of o s all.timely p g i.guest in
-    same_later w _ (operation-adds q g.tdr g.vp (length (s.lps p).replies + 1) op row w is) (operation_calm q g.tdr g.vp (length (s.lps p).replies + 1) op row w is occ.running).noted))
-    (λ c cs g op access r gpa page i is found. (let occ = occ-of o s all.timely p g i.guest in
-    same_later w _ (reach-adds g.tdr g.vp access r gpa page w) (reach_calm g.tdr g.vp access r gpa page w occ.running).noted))
+    (λ c cs g op row i is ps. same_later w _ (operation-adds q g.tdr g.vp (length (s.lps p).replies + 1) op row w is) (ap (λ (z : Fixed). z.paused) (operation_fixed q g.tdr g.vp (length (s.lps p).replies + 1) op row w is)))
+    (λ c cs g op access r gpa page i is found. same_later w _ (reach-adds g.tdr g.vp access r gpa page w) (ap (λ (z : Fixed). z.paused) (reach_fixed g.tdr g.vp access r gpa page w)))
     (λ c cs g i. same_later w _ refl refl)

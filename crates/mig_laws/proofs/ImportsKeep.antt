@@ -27,7 +27,7 @@ use Rattle.flat_core.specs.Lawful.{IsAlive, Lawful, most_vps}
 use Rattle.flat_core.proofs.Tests.{by_test, same_self}
 use Rattle.flat_core.proofs.ImportKeeps.{td_state_importing, vp_state_importing}
 use Rattle.flat_core.proofs.Ranges.{begun_of}
-use Rattle.flat_core.proofs.Streams.{page_among, stream_among}
+use Rattle.flat_core.proofs.Streams.{stream_among}
 use Rattle.flat_core.proofs.Passed.{TdPassed, td_alive}
 use Rattle.mig_laws.specs.Ivs.{is_filling, IsImporting}
 use Rattle.mig_laws.specs.Source.{is_page_at, known_words}
@@ -43,9 +43,9 @@ use Rattle.mig_laws.proofs.Begun.{imports-begin}
 use Rattle.mig_laws.proofs.Rows.{taken_back}
 use Rattle.mig_laws.proofs.States.{place_in, is_vp_kind}
 use Rattle.mig_laws.proofs.Counts.{counts_more, count_at, counts_zero, still_front, all_more, last_stays}
-use Rattle.mig_laws.proofs.Rest.{vp_state, ImportStays, IsAtRest, same_import, destination_rests, import_stays, Rest, rest, at_rest}
-use Rattle.mig_laws.proofs.CallChanges.{apart_pages}
-use Rattle.mig_laws.proofs.RestRows.{Aside, aside, aside_stays, counted_apart, quiet}
+use Rattle.mig_laws.proofs.Rest.{IsAtRest, destination_rests, import_stays, empty_stays, at_rest}
+use Rattle.mig_laws.proofs.Changes.{Alone, same_imports, same_empty, imports_alone, empty_alone}
+use Rattle.mig_laws.proofs.CallChanges.{le_same, off_counter, counted, vp_counted, stays_on}
 use Rattle.mig_laws.proofs.OneMore.{IsTaken, taken, only_kind, token_kind, no_token, other_kind, off_kind, is_created, first_op, filling_fills, td_state_fills, vp_state_fills, commit_fills, token_fills, fills_importing, any_at, now_imported, one_more_holds, same_epoch, same_pages, start_later}
 use Rattle.mig_laws.proofs.Given.{starts_from_pause}
 
@@ -64,20 +64,14 @@ module _ (source : World) (src : IsSource source) (m : Machine) (w : World) (l :
   bundles = source.outgoing.bundles
 
   -- what is known of all TDs, where one alone changes, and its stream's counter
-  holds_after : (v : World) (n : ℕ) → (IsImporting v t → ImportHolds bundles v t) → v.tds.ops t ≢ op.Uninitialized → v.hidden.given ≡ w.hidden.given → v.streams.counters ≡ put w.streams.counters (stream_page w t k) n
-      → ((x : ℕ) → IsAlive v.pages v.tds x → IsAlive w.pages w.tds x) → ((x : ℕ) → (x == t) ≡ false → aside v x ≡ aside w x) → ((x n : ℕ) → (x == t) ≡ false → v.hidden.memories x n ≡ w.hidden.memories x n)
-      → ((x : ℕ) → (x == t) ≡ false → IsAlive w.pages w.tds x → (q : ℕ) → list_any (λ p. p == q) (w.tds.vps x) ≡ true → vp_state v q ≡ vp_state w q) → DestinationHolds source v
-  holds_after v n own begun given counters back same memories vp = record {
+  holds_after : (v : World) → (IsImporting v t → ImportHolds bundles v t) → v.tds.ops t ≢ op.Uninitialized → v.hidden.given ≡ w.hidden.given → Alone w v t → DestinationHolds source v
+  holds_after v own begun given alone = record {
     imports = λ x a. by_test (x == t)
         (λ y. subst (λ (z : ℕ). ImportHolds bundles v z) (sym (eqb-true x t y)) (own (subst (λ (z : ℕ). IsImporting v z) (eqb-true x t y) a)))
-        (λ y. (let other = back x a.alive in
-        let counts : counts_of v x ≡ counts_of w x = ap (λ (z : Aside). map v.streams.counters z.fill.streams) (same x y)
-        ∙ (ap (λ (f : ℕ → ℕ). map f (w.tds.streams x)) counters ∙ counted_apart w l.tds.streams t x alive other y k n few) in
-        let stays = aside_stays w v x a other (same x y) (λ i. memories x i y) counts (vp x y other) in
-        import_stays bundles w v x stays (h.imports x stays.importing)));
-    empty = λ x a e i. by_test (x == t)
+        (λ y. let stays = same_imports (alone.same x y) (alone.back x y) a in import_stays bundles w v x stays (h.imports x stays.importing));
+    empty = λ x a e. by_test (x == t)
         (λ y. absurd (begun (subst (λ (z : ℕ). v.tds.ops z ≡ op.Uninitialized) (eqb-true x t y) e)))
-        (λ y. memories x i y ∙ h.empty x (back x a) (ap (λ (z : Aside). z.state) (sym (same x y)) ∙ e) i);
+        (λ y. empty_stays source w v x h (same_empty (alone.same x y) (alone.back x y) a e));
     given = λ s start e. h.given s start (ap (λ (f : ℕ → Option Image). f s) (sym given) ∙ e);
   }
 
@@ -169,11 +163,11 @@ module _ (source : World) (src : IsSource source) (m : Machine) (w : World) (l :
             complete = λ e. absurd (let no : op.MemoryImport ≡ op.PostImport = rw self at e in cc);
           }
 
-      pub immutable_holds : DestinationHolds source begun
-      immutable_holds =
+      pub immutable_holds : Alone w begun t → DestinationHolds source begun
+      immutable_holds alone =
           let self = same_self t in
-          holds_after begun (stream_counter w t k + 1) (λ a. subst (λ (z : List Made). ImportHolds z begun t) (sym tk.place) (holds_here s 1 refl refl (rw self refl) (rw self refl)))
-          (λ e. let no : op.MemoryImport ≡ op.Uninitialized = rw self at e in cc) refl refl (λ y a. record { kind = a.kind; life = a.life }) (λ y z. rw z refl) (λ y i z. refl) (λ y z a q e. refl)
+          holds_after begun (λ a. subst (λ (z : List Made). ImportHolds z begun t) (sym tk.place) (holds_here s 1 refl refl (rw self refl) (rw self refl)))
+          (λ e. let no : op.MemoryImport ≡ op.Uninitialized = rw self at e in cc) refl alone
 
     -- the rows of an import that has begun
     module _ (filling : is_filling (w.tds.ops t) ≡ true) (same_session : x.header.session ≡ w.tds.sessions t) where
@@ -235,7 +229,7 @@ module _ (source : World) (src : IsSource source) (m : Machine) (w : World) (l :
             and_no false = refl
 
         pub page_holds : DestinationHolds source filled_in
-        page_holds = holds_after filled_in (stream_counter w t k + 1)
+        page_holds = holds_after filled_in
             (λ a. back_here filled_in (one_more_holds tk.before tk.after b made w filled_in t nexts refl counts_next held (record {
               later = omega arith;
               in_time = (let same = b_now in omega (arith, same));
@@ -248,7 +242,11 @@ module _ (source : World) (src : IsSource source) (m : Machine) (w : World) (l :
               own = record { td = λ e. absurd (other_kind b.header.kind 3 1 kind_three refl e); vp = λ e. absurd (other_kind b.header.kind 3 2 kind_three refl e) };
               complete = λ e. absurd (open_still e);
             })))
-            (λ e. fills_begun (w.tds.ops t) filling e) refl refl (λ y a. record { kind = a.kind; life = a.life }) (λ y z. refl) (λ y i z. rw z refl) (λ y z a q e. refl)
+            (λ e. fills_begun (w.tds.ops t) filling e) refl
+            (record {
+              back = λ y z a. record { kind = a.kind; life = a.life };
+              same = λ y z. record { td_is = refl; memories = λ n. rw z refl; counters = λ a q e. off_counter l t y z a k _ q alive few e; vps = λ a q e. refl; blocked = λ a n e. le_same _ };
+            })
 
       -- where a bundle other than a page comes in: IMPORT.STATE.TD
       module _ (td_kind : x.header.kind ≡ 1) (same_epochs : x.header.epoch ≡ w.tds.mig_epochs t) (memory : w.tds.ops t ≡ op.MemoryImport) where
@@ -261,10 +259,10 @@ module _ (source : World) (src : IsSource source) (m : Machine) (w : World) (l :
         td_epoch : b.header.epoch ≡ w.tds.mig_epochs t
         td_epoch = ap (λ (z : ClearHeader). z.epoch) tk.same ∙ same_epochs
 
-        pub td_holds : DestinationHolds source with_td
-        td_holds =
+        pub td_holds : Alone w with_td t → DestinationHolds source with_td
+        td_holds alone =
             let self = same_self t in
-            holds_after with_td (stream_counter w t k + 1)
+            holds_after with_td
             (λ a. back_here with_td (one_more_holds tk.before tk.after b made w with_td t nexts refl counts_next held (record {
               later = omega arith;
               in_time = (let same = td_epoch in omega (arith, same));
@@ -277,7 +275,7 @@ module _ (source : World) (src : IsSource source) (m : Machine) (w : World) (l :
               own = record { td = λ e. (λ n. (let no : op.StateImport ≡ op.MemoryImport = rw self at n in cc), rw self tk.words); vp = λ e. absurd (other_kind b.header.kind 1 2 kind_one refl e) };
               complete = λ e. absurd (let no : op.StateImport ≡ op.PostImport = rw self at e in cc);
             })))
-            (λ e. let no : op.StateImport ≡ op.Uninitialized = rw self at e in cc) refl refl (λ y a. record { kind = a.kind; life = a.life }) (λ y z. rw z refl) (λ y i z. refl) (λ y z a q e. refl)
+            (λ e. let no : op.StateImport ≡ op.Uninitialized = rw self at e in cc) refl alone
 
       -- IMPORT.STATE.VP
       module _ (p : ℕ) (vp_kind : x.header.kind ≡ 2) (same_epochs : x.header.epoch ≡ w.tds.mig_epochs t) (state : w.tds.ops t ≡ op.StateImport) (page : same_kind (w.pages.kinds p) kind.Tdvpr ≡ true) (owner : w.pages.owners p ≡ t)
@@ -316,8 +314,8 @@ module _ (source : World) (src : IsSource source) (m : Machine) (w : World) (l :
             let self = same_self p in
             record { vp = p; place = at_index; ready = rw self refl; registers = rw self tk.words; position = rw self (ap (λ (z : ClearHeader). z.info) (sym tk.same)) }
 
-        pub vp_holds : DestinationHolds source with_vp
-        vp_holds = holds_after with_vp (stream_counter w t k + 1)
+        pub vp_holds : Alone w with_vp t → DestinationHolds source with_vp
+        vp_holds alone = holds_after with_vp
             (λ a. back_here with_vp (one_more_holds tk.before tk.after b made w with_vp t nexts refl counts_next held (record {
               later = omega arith;
               in_time = (let same = vp_epoch in omega (arith, same));
@@ -330,8 +328,7 @@ module _ (source : World) (src : IsSource source) (m : Machine) (w : World) (l :
               own = record { td = λ e. absurd (other_kind b.header.kind 2 1 kind_two refl e); vp = λ e. vp_given };
               complete = λ e. absurd (let no : op.StateImport ≡ op.PostImport = sym state ∙ e in cc);
             })))
-            (λ e. fills_begun (w.tds.ops t) filling e) refl refl (λ y a. record { kind = a.kind; life = a.life }) (λ y z. refl) (λ y i z. refl)
-            (λ y z a q e. (let off = apart_pages w t y p q owner (page_among w.pages y kind.Tdvpr (w.tds.vps y) q (l.tds.vps y a) e).owner z in rw off refl))
+            (λ e. fills_begun (w.tds.ops t) filling e) refl alone
 
       -- IMPORT.TRACK
       module _ (st : OpState) (token : is_token b ≡ true) (later : w.tds.mig_epochs t < x.header.epoch) (begun_still : st ≢ op.Uninitialized) (beyond : w.tds.ops t ≢ op.MemoryImport → st ≢ op.MemoryImport)
@@ -372,11 +369,11 @@ module _ (source : World) (src : IsSource source) (m : Machine) (w : World) (l :
         begins_now e is = any_at (begins_epoch session now e) tk.before tk.after b
             (let taken_now = now_imported tk.before tk.after b made w with_token t nexts refl counts_next in let same : (b.header.epoch == e) ≡ true = eq-eqb b.header.epoch e (b_epoch ∙ sym is) in rw (taken_now, token, same) refl)
 
-        pub token_holds : DestinationHolds source with_token
-        token_holds =
+        pub token_holds : Alone w with_token t → DestinationHolds source with_token
+        token_holds alone =
             let self = same_self t in
             let epoch_is : with_token.tds.mig_epochs t ≡ x.header.epoch = rw self refl in
-            holds_after with_token (stream_counter w t k + 1)
+            holds_after with_token
             (λ a. back_here with_token (one_more_holds tk.before tk.after b made w with_token t nexts refl counts_next held (record {
               later = omega (arith, epoch_is, later);
               in_time = (let same = b_epoch in omega (arith, epoch_is, same));
@@ -389,7 +386,7 @@ module _ (source : World) (src : IsSource source) (m : Machine) (w : World) (l :
               own = record { td = λ e. absurd (no_token b.header.kind 1 refl token e); vp = λ e. absurd (no_token b.header.kind 2 refl token e) };
               complete = λ e. complete_now (starts (rw self at e));
             })))
-            (λ e. begun_still (rw self at e)) refl refl (λ y a. record { kind = a.kind; life = a.life }) (λ y z. rw z refl) (λ y i z. refl) (λ y z a q e. refl)
+            (λ e. begun_still (rw self at e)) refl alone
 
 -- the page of IMPORT.MEM is taken, or is there already
 page_rests : (w : World) (t k gpa page : ℕ) (ws : ℕ → ℕ) (s : EntryState) → IsAtRest (count_bundle t k (begin_memory t (page_of_gpa gpa) ws w)) (count_bundle t k (begin_memory t (page_of_gpa gpa) ws (fill_page t gpa page ws s w)))
@@ -438,7 +435,7 @@ module _ (source : World) (o : Opening) (src : IsSource source) (unforged : Unfo
       let new = first_op (w.tds.ops t) td.op in
       let none : stream_counter w t 0 ≡ 0 = l.streams.uncounted t (stream_page w t 0) alive new (stream_among (w.tds.streams t) 0 few) in
       let due : x.header.counter ≡ stream_counter w t 0 = is_due 0 x.header.counter (search) ∙ sym none in
-      immutable_holds source src o.machine w l h t alive 0 few x tk six (on_first x tk (ap (λ (z : ℕ). z == 3) zero)) due zero (eqb-true x.header.epoch 1 (search)) new
+      immutable_holds source src o.machine w l h t alive 0 few x tk six (on_first x tk (ap (λ (z : ℕ). z == 3) zero)) due zero (eqb-true x.header.epoch 1 (search)) new (record { back = λ y z a. record { kind = a.kind; life = a.life }; same = λ y z. counted l t 0 _ alive few refl refl y z (rw z refl) })
 
   pub keeps_page : (t slot page : ℕ) → KeepsDestination source o (import_page o.machine (o.bundles slot) t slot page)
   keeps_page t slot page w l h ps =
@@ -468,7 +465,7 @@ module _ (source : World) (o : Opening) (src : IsSource source) (unforged : Unfo
       let ops = td_state_fills (w.tds.ops t) td.op in
       let few : 0 < length (w.tds.streams t) = l.sessions.import_stream t (td_state_importing (w.tds.ops t) td.op) in
       let due : x.header.counter ≡ stream_counter w t 0 = is_due (stream_counter w t 0) x.header.counter (search) in
-      td_holds source src o.machine w l h t alive 0 few x tk six (on_first x tk (ap (λ (z : ℕ). z == 3) one)) due ops.0 (eqb-true _ _ (search)) one (eqb-true _ _ (search)) ops.1
+      td_holds source src o.machine w l h t alive 0 few x tk six (on_first x tk (ap (λ (z : ℕ). z == 3) one)) due ops.0 (eqb-true _ _ (search)) one (eqb-true _ _ (search)) ops.1 (record { back = λ y z a. record { kind = a.kind; life = a.life }; same = λ y z. counted l t 0 _ alive few refl refl y z (rw z refl) })
 
   pub keeps_vp : (t p slot : ℕ) → KeepsDestination source o (import_vp o.machine (o.bundles slot) t p slot)
   keeps_vp t p slot w l h ps =
@@ -483,7 +480,7 @@ module _ (source : World) (o : Opening) (src : IsSource source) (unforged : Unfo
       let few : 0 < length (w.tds.streams t) = l.sessions.import_stream t (vp_state_importing (w.tds.ops t) td.op) in
       let due : x.header.counter ≡ stream_counter w t 0 = is_due (stream_counter w t 0) x.header.counter (search) in
       vp_holds source src o.machine w l h t alive 0 few x tk six (on_first x tk (ap (λ (z : ℕ). z == 3) two)) due ops.0 (eqb-true _ _ (search)) p two (eqb-true _ _ (search)) ops.1
-      its.0 (eqb-true _ _ its.1) (is_created (w.vps.states p) (search)) (eqb-true _ _ (search))
+      its.0 (eqb-true _ _ its.1) (is_created (w.vps.states p) (search)) (eqb-true _ _ (search)) (record { back = λ y z a. record { kind = a.kind; life = a.life }; same = λ y z. vp_counted l t p _ alive few (eqb-true _ _ its.1) refl refl (λ q off. rw off refl) refl y z refl })
 
   -- the start token is of a later migration epoch than the TD is in
   token_later : (b : Bool) (own epoch : ℕ) → epoch ≡ epoch_due b own → own < 2 ^ 32 → (b ≡ true → own ≤ epoch → own < epoch) → own < epoch
@@ -514,7 +511,7 @@ module _ (source : World) (o : Opening) (src : IsSource source) (unforged : Unfo
       (λ e le. let five : tk.bundle.header.kind ≡ 5 = ap (λ (z : ClearHeader). z.kind) tk.same ∙ start_is x.header e in
       let high : 1 < tk.bundle.header.epoch = start_high (is_start x.header) (w.tds.mig_epochs t) x.header.epoch tk.bundle.header.epoch e epoch b_epoch in
       let less = start_later tk.before tk.after tk.bundle (made source src o.machine w l h t alive 0 few x tk six on due) w t have next five high (omega (arith, le, b_epoch)) in omega (arith, less, b_epoch)) in
-      token_holds source src o.machine w l h t alive 0 few x tk six on due ops.0 same_session st b_token later ops.1 ops.2 (λ e. start_is x.header (ops.3 e)) (sym (eqb-true _ _ (search)))
+      token_holds source src o.machine w l h t alive 0 few x tk six on due ops.0 same_session st b_token later ops.1 ops.2 (λ e. start_is x.header (ops.3 e)) (sym (eqb-true _ _ (search))) (record { back = λ y z a. record { kind = a.kind; life = a.life }; same = λ y z. counted l t 0 _ alive few refl refl y z (rw z refl) })
     where
       start_high : (b : Bool) (own epoch made_epoch : ℕ) → b ≡ true → epoch ≡ epoch_due b own → made_epoch ≡ epoch → 1 < made_epoch
       start_high true own epoch made_epoch e is same = omega (arith, is, same)
@@ -530,12 +527,10 @@ module _ (source : World) (o : Opening) (src : IsSource source) (unforged : Unfo
       let own = h.imports t (record { alive = alive; standing = ops.0 }) in
       let from = starts_from_pause source w t src (let low = l.sessions.mig_epoch t in omega (arith, low)) own (own.complete ops.1) in
       let v : World = set_op t op.LiveImport (note_commit t w) in
-      let rests = quiet w (set_op t op.LiveImport w) t (λ a. let no : false ≡ true = rw self at a.standing in cc) (λ a e. absurd (let no : op.LiveImport ≡ op.Uninitialized = rw self at e in cc)) refl
-      (λ x y a. record { kind = a.kind; life = a.life }) (λ x y. rw y refl) (λ x n y. refl) refl (λ q. refl) in
-      let before = destination_rests source w (set_op t op.LiveImport w) rests h in
+      let alone : Alone w v t = record { back = λ y z a. record { kind = a.kind; life = a.life }; same = λ y z. stays_on refl (λ q. le_same _) (rw z refl) } in
       record {
-        imports = λ x a. import_stays made_there (set_op t op.LiveImport w) v x (noted (set_op t op.LiveImport w) v x refl (record { alive = record { kind = a.alive.kind; life = a.alive.life }; standing = a.standing })) (before.imports x (record { alive = record { kind = a.alive.kind; life = a.alive.life }; standing = a.standing }));
-        empty = λ x a e n. before.empty x (record { kind = a.kind; life = a.life }) e n;
+        imports = λ x a. (let stays = imports_alone w v t alone (λ k. absurd (let no : false ≡ true = rw self at k.standing in cc)) x a in import_stays made_there w v x stays (h.imports x stays.importing));
+        empty = λ x a e. empty_stays source w v x h (empty_alone w v t alone (λ k z. absurd (let no : op.LiveImport ≡ op.Uninitialized = rw self at z in cc)) x a e);
         given = λ s start e. by_test (s == w.tds.sessions t)
             (λ y. (let same : image_of w t ≡ start = same_start (image_of w t) start (rw y at e) in
             subst (λ (z : ℕ). StartsAs in_32_bits source z start) (sym (eqb-true s _ y)) (subst (λ (z : Image). StartsAs in_32_bits source (w.tds.sessions t) z) same from)))
@@ -544,7 +539,3 @@ module _ (source : World) (o : Opening) (src : IsSource source) (unforged : Unfo
     where
       same_start : (a b : Image) → Some a ≡ Some b → a ≡ b
       same_start a b e = cc
-
-      noted : (u v : World) (x : ℕ) → record (rest u) { given = v.hidden.given } ≡ rest v → IsImporting u x → ImportStays u v x
-      noted u v x same a = same_import u v x a (ap (λ (z : Rest). z.ops x) (sym same)) (ap (λ (z : Rest). z.fills x) (sym same)) (λ j. map ((sym same j).counters) ((sym same j).fills x).streams) (λ n. ap (λ (z : Rest). z.memories x n) (sym same))
-          (ap (λ (z : Rest). z.vps x) (sym same)) (λ p e. ap (λ (z : Rest). z.vp_states p) (sym same))

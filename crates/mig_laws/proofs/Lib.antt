@@ -2,6 +2,7 @@ pub mod Stays
 pub mod Entries
 pub mod Changes
 pub mod CallChanges
+pub mod GuestChanges
 pub mod Rows
 pub mod Ivs
 pub mod Places

@@ -7,8 +7,6 @@ use Rattle.std.proofs.lemmas.Bool.Decides.{nat_tests}
 use Rattle.td_words.specs.declared.names.Access.{Access}
 use Rattle.td_words.specs.declared.names.Access.TheVariants.{Read, Write}
 use Rattle.td_words.specs.declared.names.HeaderField.{HeaderField}
-use Rattle.td_words.specs.declared.names.PageKind.TheVariants as kind
-use Rattle.td_words.specs.declared.names.EntryState.TheVariants as entry
 use Rattle.td_words.specs.declared.replies.Reply.{Reply}
 use Rattle.td_words.specs.declared.calls.Call.{Call}
 use Rattle.td_words.specs.declared.calls.Call.TheVariants as call
@@ -18,14 +16,14 @@ use Rattle.flat_core.specs.World.{World, ClearHeader, put}
 use Rattle.flat_core.specs.Processor.{Phase, Trying, Undoing, Answered, Held}
 use Rattle.flat_core.specs.Opening.{Opening, Incoming}
 use Rattle.flat_core.specs.Row.{Item, Check, Try, OperationRow, Succeeds, Passes, next, next_in}
-use Rattle.flat_core.specs.Tree.{page_of_gpa, number_at, entry_at}
-use Rattle.flat_core.specs.Effects.{set_page, map_page, begin_memory, pass_operation, tell_words}
+use Rattle.flat_core.specs.Tree.{page_of_gpa, entry_at}
+use Rattle.flat_core.specs.Effects.{begin_memory, pass_operation, tell_words}
 use Rattle.flat_core.specs.Guest.{ByRow, operation_of, is_pending_at, reach}
 use Rattle.flat_core.specs.Sessions.{stream_page, stream_counter, count_bundle}
 use Rattle.flat_core.specs.Inputs.{Input, input_in, has_no_fault, fault_of_input, header_of_input, has_values, most_stream}
-use Rattle.flat_core.specs.ImportRows.{filling_ops, td_state_ops, vp_state_ops, import_token_ops, fill_page, is_start}
+use Rattle.flat_core.specs.ImportRows.{filling_ops, td_state_ops, vp_state_ops, import_token_ops, is_start}
 use Rattle.flat_core.specs.Table.{row_of}
-use Rattle.flat_core.specs.Lawful.{IsAlive, Lawful}
+use Rattle.flat_core.specs.Lawful.{Lawful}
 use Rattle.flat_core.specs.Event.{State, Event, OfCall, start, after_event, event}
 use Rattle.flat_core.specs.Run.{play}
 use Rattle.flat_core.specs.Laws.{with_bundles, reached, ArePagesKnown}
@@ -39,32 +37,23 @@ use Rattle.flat_core.proofs.Memories.{memories_kept}
 use Rattle.flat_core.proofs.Operations.{operation_row, accepted}
 use Rattle.flat_core.proofs.Passed.{TdPassed, td_alive}
 use Rattle.flat_bundles.proofs.Fills.{fill_either}
-use Rattle.mig_laws.specs.Ivs.{is_filling, IsImporting, AbortsHold}
+use Rattle.mig_laws.specs.Ivs.{IsImporting, AbortsHold}
 use Rattle.mig_laws.specs.Imports.{counts_of}
 use Rattle.mig_laws.specs.Once.{BundleNumber, number_of, TakesBundle, NoBundleIsTakenTwice, IsSpent, TakenAreSpent}
-use Rattle.mig_laws.proofs.Rows.{taken_back}
 use Rattle.mig_laws.proofs.Counts.{count_at}
 use Rattle.mig_laws.proofs.OneMore.{only_kind, token_kind, no_token, other_kind, filling_fills}
-use Rattle.mig_laws.proofs.OneMore.{td_state_fills, vp_state_fills, commit_fills, token_fills, fills_importing}
-use Rattle.mig_laws.proofs.Rest.{Filled, IsAtRest}
-use Rattle.mig_laws.proofs.Changes.{is_import}
-use Rattle.mig_laws.proofs.RestRows.{row-rests, operation_rests, reach_rests, left_rests}
+use Rattle.mig_laws.proofs.OneMore.{td_state_fills, vp_state_fills, token_fills, fills_importing}
+use Rattle.mig_laws.proofs.Rest.{IsAtRest}
+use Rattle.mig_laws.proofs.Changes.{begins_import, ImportGoes, import_goes, each_counts}
+use Rattle.mig_laws.proofs.CallChanges.{counts_grow, one_higher, call-changes}
+use Rattle.mig_laws.proofs.RestRows.{operation_rests, reach_rests, left_rests}
 use Rattle.mig_laws.proofs.ImportsKeep.{is_due}
 use Rattle.mig_laws.proofs.Source.{always_source}
-
--- counts that grow: of each stream as many or more
-counts_grow : (f g : ℕ → ℕ) (ps : List ℕ) → ((q : ℕ) → f q ≤ g q) → (k : ℕ) → get_or (map f ps) k 0 ≤ get_or (map g ps) k 0
-counts_grow f g [] low k = omega arith
-counts_grow f g (p ∷ ps) low zero = low p
-counts_grow f g (p ∷ ps) low (suc k) = counts_grow f g ps low k
 
 count_within : (f : ℕ → ℕ) (ps : List ℕ) (k : ℕ) → get_or (map f ps) k 0 ≤ f (get_or ps k 0)
 count_within f [] k = omega arith
 count_within f (p ∷ ps) zero = omega arith
 count_within f (p ∷ ps) (suc k) = count_within f ps k
-
-one_higher : (f : ℕ → ℕ) (page q : ℕ) → f q ≤ put f page (f page + 1) q
-one_higher f page q = by_test (q == page) (λ y. let same = ap f (eqb-true q page y) in rw y (omega (arith, same))) (λ n. rw n (omega arith))
 
 -- a bundle that has its form is on one of the streams that its type allows
 stream_form : (b : Option Incoming) → has_no_fault (input_in b).fault ≡ true → (input_in b).header.stream ≤ most_stream (input_in b).header.kind
@@ -81,11 +70,9 @@ stream_form (Some b) e = by b.header e
         few h.stream (most_stream h.kind) (and_parts (nat_le h.stream (most_stream h.kind)) _ values).0
     by (Err f) e = cc
 
--- Of an import that stands afterwards: it stood before, under the same session, and has counted as much or more; or it has begun,
--- under a later session than any before.
+-- An import that stands afterwards goes on, or has begun, under a later session than any before.
 data CountsOn (w v : World) (x : ℕ) : Type 0 where
-  goes_on : IsImporting w x → v.tds.sessions x ≡ w.tds.sessions x → ((k : ℕ) → get_or (counts_of w x) k 0 ≤ get_or (counts_of v x) k 0)
-      → CountsOn w v x
+  goes_on : ImportGoes w v x → CountsOn w v x
   begins : w.key_table.last_imported < v.tds.sessions x → CountsOn w v x
 
 record Stays (w v : World) : Type 0 where
@@ -99,34 +86,11 @@ still_spent w v at k h = record {
 }
   where
     by : (x : ℕ) → v.tds.sessions x ≡ at.session → CountsOn w v x → at.counter < get_or (counts_of v x) at.stream 0
-    by x same (goes_on importing session counts) =
-        let less = h.counted x importing (sym session ∙ same) in let more = counts at.stream in omega (arith, less, more)
+    by x same (goes_on g) = let less = h.counted x g.importing (sym g.session ∙ same) in let more = g.counts at.stream in omega (arith, less, more)
     by x same (begins later) = absurd (let low = h.begun in omega (arith, later, low, same))
 
 at_rest_stays : (w v : World) → v.key_table.last_imported ≡ w.key_table.last_imported → IsAtRest w v → Stays w v
-at_rest_stays w v last r = record {
-  last = omega (arith, last);
-  each = λ x a. (let k = r.each x a in
-      goes_on k.importing (ap (λ (z : Filled). z.session) k.own) (λ i. let same = ap (λ (c : List ℕ). get_or c i 0) k.counts in omega (arith, same)));
-}
-
--- where an import goes on, and counts a bundle or none
-filling_stays : (w v : World) (t : ℕ) → is_filling (w.tds.ops t) ≡ true → v.key_table.last_imported ≡ w.key_table.last_imported
-    → ((x : ℕ) → IsAlive v.pages v.tds x → IsAlive w.pages w.tds x) → ((x : ℕ) → (x == t) ≡ false → v.tds.ops x ≡ w.tds.ops x)
-    → v.tds.sessions ≡ w.tds.sessions → v.tds.streams ≡ w.tds.streams → ((q : ℕ) → w.streams.counters q ≤ v.streams.counters q) → Stays w v
-filling_stays w v t filling last back ops sessions streams counters = record {
-  last = omega (arith, last);
-  each = λ x a. goes_on
-      (record {
-        alive = back x a.alive;
-        standing = by_test (x == t)
-            (λ y. subst (λ (z : ℕ). is_filling (w.tds.ops z) ≡ true) (sym (eqb-true x t y)) filling)
-            (λ y. ap is_filling (sym (ops x y)) ∙ a.standing);
-      })
-      (ap (λ (f : ℕ → ℕ). f x) sessions)
-      (λ k. subst (λ (ps : List ℕ). get_or (counts_of w x) k 0 ≤ get_or (map v.streams.counters ps) k 0)
-      (ap (λ (f : ℕ → List ℕ). f x) (sym streams)) (counts_grow w.streams.counters v.streams.counters (w.tds.streams x) counters k));
-}
+at_rest_stays w v last r = record { last = omega (arith, last); each = λ x a. goes_on (import_goes (r.each x a)) }
 
 -- The rows
 module _ (o : Opening) (me : ℕ) (w : World) (l : Lawful o.machine w) where
@@ -140,25 +104,11 @@ module _ (o : Opening) (me : ℕ) (w : World) (l : Lawful o.machine w) where
   abbrev more_counted : (t k : ℕ) → ℕ → ℕ
   more_counted t k = put w.streams.counters (stream_page w t k) (stream_counter w t k + 1)
 
-  grown : (t k q : ℕ) → w.streams.counters q ≤ more_counted t k q
-  grown t k q = one_higher w.streams.counters (stream_page w t k) q
-
-  rest_stays : (c : Call) → Passes ((row_of o me c).items w) → is_import c ≡ false → (After c).key_table.last_imported ≡ w.key_table.last_imported
-      → Stays w (After c)
-  rest_stays c ps off last = at_rest_stays w (After c) last (row-rests o me w l c ps off)
+  rest_stays : (c : Call) → Passes ((row_of o me c).items w) → begins_import c ≡ false → (After c).key_table.last_imported ≡ w.key_table.last_imported → Stays w (After c)
+  rest_stays c ps off last = record { last = omega (arith, last); each = λ x a. goes_on (each_counts (call-changes o me w l c ps) off x a) }
 
   abbrev with_page : (t k gpa : ℕ) → (ℕ → ℕ) → World → World
   with_page t k gpa ws u = count_bundle t k (begin_memory t (page_of_gpa gpa) ws u)
-
-  page_stays : (t k gpa page : ℕ) (ws : ℕ → ℕ) → is_filling (w.tds.ops t) ≡ true
-      → Stays w (with_page t k gpa ws (fill_page t gpa page ws (entry_at w t 0 gpa).state w))
-  page_stays t k gpa page ws filling =
-      let taken : World = with_page t k gpa ws (set_page page ws (map_page page kind.Reg entry.Mapped t 0 (number_at 0 gpa) w)) in
-      fill_either (λ u. Stays w (with_page t k gpa ws u)) t gpa page ws (entry_at w t 0 gpa).state w
-      (filling_stays w taken t filling refl
-      (λ x a. taken_back w page kind.Reg t 0 (number_at 0 gpa) (λ e. cc) taken.tds refl x (record { kind = a.kind; life = a.life }))
-      (λ x y. refl) refl refl (grown t k))
-      (filling_stays w _ t filling refl (λ x a. record { kind = a.kind; life = a.life }) (λ x y. refl) refl refl (grown t k))
 
   row-stays : (c : Call) → Passes ((row_of o me c).items w) → Stays w (After c)
   row-stays (call.ImportStateImmutable t slot) ps =
@@ -167,25 +117,15 @@ module _ (o : Opening) (me : ℕ) (w : World) (l : Lawful o.machine w) where
         last = omega (arith, later);
         each = λ x a. by_test (x == t)
             (λ y. begins (rw y later))
-            (λ y. goes_on (record { alive = record { kind = a.alive.kind; life = a.alive.life }; standing = rw y at a.standing }) (rw y refl)
-            (counts_grow w.streams.counters (more_counted t 0) (w.tds.streams x) (grown t 0)));
+            (λ y. goes_on (record {
+              importing = record { alive = record { kind = a.alive.kind; life = a.alive.life }; standing = rw y at a.standing };
+              session = rw y refl;
+              counts = counts_grow w.streams.counters (more_counted t 0) (w.tds.streams x) (one_higher w.streams.counters (stream_page w t 0));
+            }));
       }
   row-stays (call.ImportMem t slot page) ps =
       let x : Input = input slot in
-      page_stays t x.header.stream x.header.gpa page x.words (filling_fills (w.tds.ops t) (search)).0
-  row-stays (call.ImportTrack t slot) ps =
-      let filling = token_fills (is_start (input slot).header) (w.tds.ops t) (search) in
-      filling_stays w (After (call.ImportTrack t slot)) t filling refl
-      (λ y a. record { kind = a.kind; life = a.life }) (λ y z. rw z refl) refl refl (grown t 0)
-  row-stays (call.ImportStateTd t slot) ps =
-      filling_stays w (After (call.ImportStateTd t slot)) t (td_state_fills (w.tds.ops t) (search)).0 refl
-      (λ y a. record { kind = a.kind; life = a.life }) (λ y z. rw z refl) refl refl (grown t 0)
-  row-stays (call.ImportStateVp t p slot) ps =
-      filling_stays w (After (call.ImportStateVp t p slot)) t (vp_state_fills (w.tds.ops t) (search)).0 refl
-      (λ y a. record { kind = a.kind; life = a.life }) (λ y z. refl) refl refl (grown t 0)
-  row-stays (call.ImportCommit t) ps =
-      filling_stays w (After (call.ImportCommit t)) t (commit_fills (w.tds.ops t) (search)).0 refl
-      (λ y a. record { kind = a.kind; life = a.life }) (λ y z. rw z refl) refl refl (λ q. omega arith)
+      rest_stays (call.ImportMem t slot page) ps refl (fill_either (λ u. u.key_table.last_imported ≡ w.key_table.last_imported) t x.header.gpa page x.words (entry_at w t 0 x.header.gpa).state w refl refl)
   row-stays (call.ExportTrack t slot zero) ps = rest_stays (call.ExportTrack t slot zero) ps refl refl
   row-stays (call.ExportTrack t slot (suc n)) ps = rest_stays (call.ExportTrack t slot (suc n)) ps refl refl
   row-stays c ps = rest_stays c ps refl refl
@@ -222,8 +162,8 @@ module _ (o : Opening) (me : ℕ) (w : World) (l : Lawful o.machine w) where
           omega (arith, is, due)
 
       by : (x : ℕ) → v.tds.sessions x ≡ h.session → CountsOn w v x → h.counter < get_or (counts_of v x) h.stream 0
-      by x same (goes_on importing session counts) =
-          let is : x ≡ t = a.one x t importing f.importing (sym session ∙ (same ∙ f.session)) in
+      by x same (goes_on g) =
+          let is : x ≡ t = a.one x t g.importing f.importing (sym g.session ∙ (same ∙ f.session)) in
           subst (λ (z : ℕ). h.counter < get_or (counts_of v z) h.stream 0) (sym is) own
       by x same (begins later) = absurd (let low = a.session t f.importing in let is = f.session in omega (arith, later, low, is, same))
 

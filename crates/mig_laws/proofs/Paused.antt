@@ -4,7 +4,7 @@ use Rattle.std.specs.List.{All, list_any, sum_by}
 use Rattle.std.proofs.lemmas.Bool.{eqb-true, eq-eqb, ne_eqb, and_left, and_right}
 use Rattle.std.proofs.lemmas.List.Elements.{All-head, All-tail, All-weaker}
 use Rattle.td_words.specs.declared.names.Access.{Access}
-use Rattle.td_words.specs.declared.names.Access.TheVariants.{Read, Write}
+use Rattle.td_words.specs.declared.names.PageKind.TheVariants as kind
 use Rattle.td_words.specs.declared.names.OpState.{OpState}
 use Rattle.td_words.specs.declared.names.OpState.TheVariants as op
 use Rattle.td_words.specs.declared.names.EntryState.TheVariants as entry
@@ -14,28 +14,26 @@ use Rattle.td_words.specs.declared.calls.Call.TheVariants as call
 use Rattle.td_words.specs.declared.calls.GuestOp.{GuestOp}
 use Rattle.td_words.specs.NameNumber.{op_number}
 use Rattle.flat_core.specs.World.{World, Image, Made}
-use Rattle.flat_core.specs.Processor.{Guest}
 use Rattle.flat_core.specs.Opening.{Opening, Incoming}
 use Rattle.flat_core.specs.Row.{OperationRow, Passes}
 use Rattle.flat_core.specs.Conditions.{running_ops}
 use Rattle.flat_core.specs.Digests.{six_words}
 use Rattle.flat_core.specs.Tree.{page_of_gpa, number_at, entry_at}
-use Rattle.flat_core.specs.Effects.{set_op, restate, pass_operation, tell_words, add_bundle}
+use Rattle.flat_core.specs.Effects.{set_op, restate, tell_words, add_bundle}
 use Rattle.flat_core.specs.Translations.{look_up}
-use Rattle.flat_core.specs.Guest.{ByRow, operation_of, is_pending_at, reach}
+use Rattle.flat_core.specs.Guest.{ByRow, operation_of, reach}
 use Rattle.flat_core.specs.Sessions.{About, about, header_of, dirty_count, bundles_so_far, payload_words, make_bundle, begin_session, set_mig_epoch, count_export, note_td_export, note_vp_export}
 use Rattle.flat_core.specs.ExportRows.{live_ops, abortable_ops, image_of, note_pause}
 use Rattle.flat_core.specs.BundleRows.{start_epoch, paused_ops}
 use Rattle.flat_core.specs.Exports.{is_dirty}
 use Rattle.flat_core.specs.Table.{row_of}
-use Rattle.flat_core.specs.Lawful.{IsAlive, Lawful, is_exporting}
+use Rattle.flat_core.specs.Lawful.{IsPageOf, IsAlive, Lawful, is_exporting}
 use Rattle.flat_core.specs.Event.{State, start, event}
 use Rattle.flat_core.specs.Laws.{AreSoMany, with_bundles, ArePagesKnown}
 use Rattle.flat_core.specs.AccessLaw.{IsGuarded}
 use Rattle.flat_core.proofs.Tests.{by_test, put_here}
 use Rattle.flat_core.proofs.Counted.{are_counted}
 use Rattle.flat_core.proofs.Acts.{event_world}
-use Rattle.flat_core.proofs.Operations.{operation_row, accepted}
 use Rattle.flat_core.proofs.Induction.{in_runs}
 use Rattle.flat_core.proofs.Always.{occ-of}
 use Rattle.flat_core.proofs.Ranges.{live_exporting, paused_exporting, abortable_exporting}
@@ -48,6 +46,8 @@ use Rattle.mig_laws.proofs.Rows.{over_beside, row-beside}
 use Rattle.mig_laws.proofs.Ivs.{IsGiven, back_token}
 use Rattle.mig_laws.proofs.Sent.{last_beside}
 use Rattle.mig_laws.proofs.Calm.{IsCalm, calm_over, row-calm}
+use Rattle.mig_laws.proofs.Changes.{Alone}
+use Rattle.mig_laws.proofs.GuestChanges.{Fixed, fixed, operation_fixed, reach_fixed, operation_alone, reach_alone}
 use Rattle.mig_laws.proofs.Guests.{operation_beside, left_beside, reached_beside, never_stored}
 use Rattle.mig_laws.proofs.Source.{source_kept}
 
@@ -329,33 +329,22 @@ module _ (o : Opening) (me : ℕ) (w : World) (l : Lawful o.machine w) (src : So
 pub calm_of : (w v : World) → v.hidden.paused ≡ w.hidden.paused → v.tds.ops ≡ w.tds.ops → v.hidden.memories ≡ w.hidden.memories → IsCalm w v
 calm_of w v noted ops memories = record { noted = noted; op = λ x a. ap (λ (f : ℕ → OpState). f x) ops; memory = λ x a p n. ap (λ (f : ℕ → ℕ → Option (ℕ → ℕ)). f x n) memories }
 
-calm_running : (w v : World) (t : ℕ) → list_any (λ a. op_number a == op_number (w.tds.ops t)) running_ops ≡ true → v.hidden.paused ≡ w.hidden.paused → v.tds.ops ≡ w.tds.ops
-    → ((x n : ℕ) → (x == t) ≡ false → v.hidden.memories x n ≡ w.hidden.memories x n) → IsCalm w v
-calm_running w v t runs noted ops memories = record {
-  noted = noted;
-  op = λ x a. ap (λ (f : ℕ → OpState). f x) ops;
-  memory = λ x a p n. by_test (x == t)
-      (λ y. absurd (running_unpaused (w.tds.ops t) runs (subst (λ (z : ℕ). is_paused (w.tds.ops z) ≡ true) (eqb-true x t y) p)))
-      (λ y. memories x n y);
-}
+-- a guest's event, where its TD runs, and so isn't paused
+module _ (o : Opening) (w : World) (l : Lawful o.machine w) (t v : ℕ) (runs : list_any (λ a. op_number a == op_number (w.tds.ops t)) running_ops ≡ true) (page : IsPageOf w.pages t v kind.Tdvpr) where
+  guest_calm : (u : World) → fixed u ≡ fixed w → Alone w u t → IsCalm w u
+  guest_calm u same alone = record {
+    noted = ap (λ (z : Fixed). z.paused) same;
+    op = λ x a. ap (λ (z : Fixed). z.ops x) same;
+    memory = λ x a p n. by_test (x == t)
+        (λ y. absurd (running_unpaused (w.tds.ops t) runs (subst (λ (z : ℕ). is_paused (w.tds.ops z) ≡ true) (eqb-true x t y) p)))
+        (λ y. (alone.same x y).memories n);
+  }
 
-pub operation_calm : (o : Opening) (t v line : ℕ) (op : GuestOp) (row : OperationRow) (w : World) → operation_of o t v line op ≡ ByRow row → list_any (λ a. op_number a == op_number (w.tds.ops t)) running_ops ≡ true
-    → IsCalm w (tell_words (row.tells w) (row.act w))
-operation_calm o t v line op row w is runs = operation_row o t v line (λ x. IsCalm w (tell_words (x.tells w) (x.act w)))
-    (λ r x. calm_of w _ refl refl refl)
-    (λ r s. calm_of w _ refl refl refl)
-    (λ r gpa. calm_of w _ refl refl refl)
-    (λ r gpa. calm_of w _ refl refl refl)
-    (λ gpa. accepted (λ x. IsCalm w (tell_words [] (pass_operation v x))) (is_pending_at w t gpa) t gpa w
-    (λ y. calm_running w _ t runs refl refl (λ x n z. rw z refl))
-    (λ y. calm_of w _ refl refl refl))
-    (λ i. calm_of w _ refl refl refl)
-    (calm_of w _ refl refl refl)
-    (λ r. calm_of w _ refl refl refl) op row is
+  pub operation_calm : (line : ℕ) (op : GuestOp) (row : OperationRow) → operation_of o t v line op ≡ ByRow row → IsCalm w (tell_words (row.tells w) (row.act w))
+  operation_calm line op row is = guest_calm _ (operation_fixed o t v line op row w is) (operation_alone o w l t v page line op row is)
 
-pub reach_calm : (t v : ℕ) (access : Access) (r gpa page : ℕ) (w : World) → list_any (λ a. op_number a == op_number (w.tds.ops t)) running_ops ≡ true → IsCalm w (reach t v access r gpa page w)
-reach_calm t v Read r gpa page w runs = calm_of w _ refl refl refl
-reach_calm t v Write r gpa page w runs = calm_running w (reach t v Write r gpa page w) t runs refl refl (λ x n z. rw z refl)
+  pub reach_calm : (access : Access) (r gpa at : ℕ) → IsCalm w (reach t v access r gpa at w)
+  reach_calm access r gpa at = guest_calm _ (reach_fixed t v access r gpa at w) (reach_alone o w l t v page access r gpa at)
 
 module _ (o : Opening) (bundles : ℕ → Option Incoming) (s : State) (p : ℕ) (all : IsGuarded o s) (src : SourceHolds s.world) (h : PausesHold s.world) where
   abbrev q : Opening
@@ -364,19 +353,16 @@ module _ (o : Opening) (bundles : ℕ → Option Incoming) (s : State) (p : ℕ)
   abbrev w : World
   w = s.world
 
-  pub runs : (g : Guest) → (s.lps p).guest ≡ Some g → list_any (λ a. op_number a == op_number (w.tds.ops g.tdr)) running_ops ≡ true
-  runs g is = (occ-of o s all.timely p g is).running
-
   event_pauses : PausesHold (event q s p).world
   event_pauses =
       let l : Lawful q.machine w = all.timely.lawful in
       event_world q s p PausesHold h
       (λ c cs line none ps. row-pauses q p w l src h c ps)
-      (λ c cs g op row i is ps. pauses_stay w _ (operation_beside q g.tdr g.vp (length (s.lps p).replies + 1) op row w is)
-      (operation_calm q g.tdr g.vp (length (s.lps p).replies + 1) op row w is (runs g i.guest)) h)
-      (λ c cs g op access r gpa page i is found. pauses_stay w _
+      (λ c cs g op row i is ps. (let occ = occ-of o s all.timely p g i.guest in
+      pauses_stay w _ (operation_beside q g.tdr g.vp (length (s.lps p).replies + 1) op row w is) (operation_calm q w l g.tdr g.vp occ.running occ.page (length (s.lps p).replies + 1) op row is) h))
+      (λ c cs g op access r gpa page i is found. (let occ = occ-of o s all.timely p g i.guest in pauses_stay w _
       (reached_beside g.tdr g.vp access r gpa page w (λ writes. never_stored o s p all src.tracked g gpa page i.guest (ap (λ (a : Access). look_up (s.lps p).cached g.tdr (page_of_gpa gpa) a) (sym writes) ∙ found)))
-      (reach_calm g.tdr g.vp access r gpa page w (runs g i.guest)) h)
+      (reach_calm q w l g.tdr g.vp occ.running occ.page access r gpa page) h))
       (λ c cs g i. pauses_stay w _ (left_beside g.vp w) (calm_of w _ refl refl refl) h)
 
 start_pauses : (o : Opening) (ws : Option (List ℕ)) → PausesHold (start o ws).world

@@ -2,7 +2,6 @@
 use Rattle.std.proofs.Common.{◌≡◌, refl, sym, ◌∙◌, ap, subst, ℕ, zero, suc, ◌≤◌, List, [], ◌∷◌, length, map, Option, Some, None, true, false, ◌==◌}
 use Rattle.std.specs.Prelude.{slice_get}
 use Rattle.std.specs.List.{list_any}
-use Rattle.std.proofs.lemmas.Bool.{eqb-true}
 use Rattle.std.proofs.lemmas.List.Elements.{All-weaker}
 use Rattle.td_words.specs.declared.names.OpState.{OpState}
 use Rattle.td_words.specs.declared.names.OpState.TheVariants as op
@@ -163,15 +162,6 @@ at_rest w v same back = record {
   where
     counts : (x : ℕ) → counts_of v x ≡ counts_of w x
     counts x j = map ((same j).counters) ((same j).fills x).streams
-
--- where one TD changes that isn't being imported afterwards
-pub rest_apart : (w v : World) (t : ℕ) → (IsImporting v t → ⊥) → v.hidden.given ≡ w.hidden.given → ((x : ℕ) → (x == t) ≡ false → IsImporting v x → ImportStays w v x)
-    → ((x : ℕ) → IsAlive v.pages v.tds x → v.tds.ops x ≡ op.Uninitialized → EmptyStays w v x) → IsAtRest w v
-rest_apart w v t none given others empties = record {
-  given = given;
-  each = λ x a. by_test (x == t) (λ y. absurd (none (subst (λ (z : ℕ). IsImporting v z) (eqb-true x t y) a))) (λ y. others x y a);
-  empty = empties;
-}
 
 -- op states among which none of an import is
 pub never_filling : (allowed : List OpState) (s : OpState)

@@ -6,9 +6,7 @@ use Rattle.td_words.specs.declared.names.PageKind.{PageKind}
 use Rattle.td_words.specs.declared.names.PageKind.TheVariants as kind
 use Rattle.td_words.specs.declared.names.LifeState.{LifeState}
 use Rattle.td_words.specs.declared.names.OpState.{OpState}
-use Rattle.td_words.specs.declared.names.OpState.TheVariants as op
 use Rattle.td_words.specs.declared.calls.Call.{Call}
-use Rattle.td_words.specs.NameNumber.{op_number}
 use Rattle.td_words.specs.Slots.{output_slot}
 use Rattle.flat_core.specs.World.{World, Tds}
 use Rattle.flat_core.specs.Opening.{Opening}
@@ -21,15 +19,6 @@ use Rattle.flat_core.proofs.Parts.{IsLive}
 use Rattle.mig_laws.proofs.Stays.{IsBeside}
 use Rattle.mig_laws.proofs.Changes.{stays, each_goes}
 use Rattle.mig_laws.proofs.CallChanges.{over_goes, call-changes, call-keeps}
-
--- where no state of an export is allowed
-pub never_exporting : (allowed : List OpState) (s : OpState)
-    → (list_any (λ a. op_number a == op_number op.LiveExport) allowed ≡ false) × (list_any (λ a. op_number a == op_number op.PausedExport) allowed ≡ false) × (list_any (λ a. op_number a == op_number op.PostExport) allowed ≡ false)
-    → list_any (λ a. op_number a == op_number s) allowed ≡ true → is_exporting s ≡ true → ⊥
-never_exporting allowed op.LiveExport none e x = let no : true ≡ false = sym e ∙ none.0 in cc
-never_exporting allowed op.PausedExport none e x = let no : true ≡ false = sym e ∙ none.1 in cc
-never_exporting allowed op.PostExport none e x = let no : true ≡ false = sym e ∙ none.2 in cc
-never_exporting allowed _ none e x = cc
 
 -- who is alive was so before, where a page was taken
 pub taken_back : (w : World) (q : ℕ) (k : PageKind) (t level number : ℕ) → (k ≡ kind.Tdr → ⊥) → (tds : Tds) → tds.lives ≡ w.tds.lives → (x : ℕ) → IsAlive (take_node q k t level number w).pages tds x → IsAlive w.pages w.tds x
@@ -48,10 +37,9 @@ not_among w x t p k (q ∷ qs) h own off = by_test (q == p)
 module _ (o : Opening) (me : ℕ) (w : World) (l : Lawful o.machine w) where
   -- an op state comes that is none of an export
   pub over_beside : (t : ℕ) (s : OpState) → is_exporting s ≡ false → IsBeside w (set_op t s w)
-  over_beside t s off = record { bundles = refl; last = refl; each = λ x a. stays w (set_op t s w) x (over_goes w t s off x a) a }
+  over_beside t s off = record { bundles = refl; last = refl; each = λ x a. stays (over_goes w t s off x a) a }
 
   pub row-beside : (c : Call) → Passes ((row_of o me c).items w) → output_slot c ≡ None → IsBeside w ((row_of o me c).act w)
   row-beside c ps none =
-      let v : World = (row_of o me c).act w in
       let kept = (call-keeps o me w l c).made none in
-      record { bundles = kept.0; last = kept.1; each = λ x a. stays w v x (each_goes w v (call-changes o me w l c ps) none x a) a }
+      record { bundles = kept.0; last = kept.1; each = λ x a. stays (each_goes (call-changes o me w l c ps) none x a) a }

@@ -19,28 +19,26 @@ use Rattle.flat_core.specs.World.{World, Hidden, Image, Made, put}
 use Rattle.flat_core.specs.Locks.{one_if}
 use Rattle.flat_core.specs.Opening.{Opening, Incoming}
 use Rattle.flat_core.specs.Row.{OperationRow, Passes}
-use Rattle.flat_core.specs.Effects.{set_op, begin_memory, pass_operation, tell_words, add_bundle}
+use Rattle.flat_core.specs.Effects.{set_op, pass_operation, tell_words, add_bundle}
 use Rattle.flat_core.specs.Guest.{ByRow, operation_of, is_pending_at, reach}
 use Rattle.flat_core.proofs.Operations.{operation_row, accepted}
 use Rattle.flat_core.specs.Conditions.{same_kind}
-use Rattle.flat_core.specs.Tree.{page_of_gpa, entry_at}
+use Rattle.flat_core.specs.Tree.{page_of_gpa}
 use Rattle.flat_core.specs.Translations.{look_up}
-use Rattle.flat_core.specs.Sessions.{About, about, header_of, payload_words, note_td_export, note_vp_export, missing_states, count_bundle}
-use Rattle.flat_core.specs.Inputs.{Input, input_in}
+use Rattle.flat_core.specs.Sessions.{About, about, header_of, payload_words, note_td_export, note_vp_export, missing_states}
 use Rattle.flat_core.specs.ExportRows.{live_ops, abortable_ops, vp_image, image_of}
 use Rattle.flat_core.specs.Table.{row_of}
 use Rattle.flat_core.specs.Lawful.{IsAlive, Lawful, is_exporting, all_differ}
 use Rattle.flat_core.specs.Event.{State, start, event}
 use Rattle.flat_core.specs.Laws.{with_bundles, reached}
 use Rattle.flat_core.specs.AccessLaw.{IsGuarded}
-use Rattle.flat_core.proofs.Tests.{by_test, host_kind, same_self}
+use Rattle.flat_core.proofs.Tests.{by_test, same_self}
 use Rattle.flat_core.proofs.Acts.{event_world}
 use Rattle.flat_core.proofs.Induction.{in_runs}
 use Rattle.flat_core.proofs.Ranges.{live_exporting, paused_exporting, abortable_exporting}
 use Rattle.flat_core.proofs.Streams.{page_among}
 use Rattle.flat_core.proofs.Passed.{TdPassed, td_alive}
 use Rattle.flat_core.specs.BundleRows.{paused_ops}
-use Rattle.flat_bundles.proofs.Fills.{fill_either}
 use Rattle.mig_laws.specs.Ivs.{is_forward, IsExporting}
 use Rattle.mig_laws.specs.Source.{SourceHolds, last_payload, is_page_at}
 use Rattle.mig_laws.specs.Paused.{is_start, has_start, image_words, PausesHold, IsSentAsPaused}
@@ -49,8 +47,9 @@ use Rattle.mig_laws.specs.States.{StatesHold, IsStateOf, in_32_bits}
 use Rattle.mig_laws.specs.Image.{IsStarted}
 use Rattle.mig_laws.specs.Started.{is_td_state, is_vp_state, IsWhole, AreNoted, StartsHold, StartsIn, StartsAreKept, MayExport, SourcesAreStarted, EveryRunIsASource, unsent_states, MissingAreUnsent}
 use Rattle.mig_laws.proofs.Stays.{IsBeside}
-use Rattle.mig_laws.proofs.CallChanges.{call-keeps}
-use Rattle.mig_laws.proofs.Rows.{over_beside, row-beside, never_exporting, taken_back}
+use Rattle.mig_laws.proofs.Changes.{pauses_none, Td, Vp, Goes, each_goes}
+use Rattle.mig_laws.proofs.CallChanges.{call-changes, call-keeps}
+use Rattle.mig_laws.proofs.Rows.{over_beside, row-beside}
 use Rattle.mig_laws.proofs.Ivs.{IsGiven, back_token}
 use Rattle.mig_laws.proofs.Places.{by_places, at_place, IsPlaceOf, within, last, place_of_more, count-append, count_yes, count_no, count_none, last-append, last_none}
 use Rattle.mig_laws.proofs.Joined.{page_of_session}
@@ -198,46 +197,14 @@ notes_same w v td many vps exported indexes = record {
 }
 
 -- rows that make no bundle
-module _ (o : Opening) (me : ℕ) (w : World) (l : Lawful o.machine w) where
-  abbrev After : Call → World
-  After c = (row_of o me c).act w
-
-  row-notes : (c : Call) → Passes ((row_of o me c).items w) → output_slot c ≡ None → KeepsNotes w (After c)
-  row-notes (call.MngCreate t k) ps none =
-      let v : World = After (call.MngCreate t k) in
-      record {
-        each = λ x a. by_test (x == t)
-            (λ y. absurd (let no : false ≡ true = rw y at a.standing in cc))
-            (λ y. rw y refl);
-        vp = λ x a p e. refl;
-        low = λ p. omega arith;
-      }
-  row-notes (call.VpCreate t page) ps none =
-      let v : World = After (call.VpCreate t page) in
-      let host : w.pages.kinds page ≡ kind.Nda = host_kind (w.pages.kinds page) (search) in
-      record {
-        each = λ x a. by_test (x == t)
-            (λ y. absurd (never_exporting (op.Initialized ∷ op.MemoryImport ∷ []) (w.tds.ops t) (refl, refl, refl) (search) (subst (λ (z : ℕ). is_exporting (w.tds.ops z) ≡ true) (eqb-true x t y) a.standing)))
-            (λ y. rw y refl);
-        vp = λ x a p e.
-            let alive = taken_back w page kind.Tdvpr t 0 0 (λ e. cc) v.tds refl x (record { kind = a.alive.kind; life = a.alive.life }) in
-            let off : (p == page) ≡ false = by_test (p == page)
-            (λ y. absurd (let no : kind.Tdvpr ≡ kind.Nda = sym (page_among w.pages x kind.Tdvpr (w.tds.vps x) p (l.tds.vps x (record { kind = alive.kind; life = alive.life })) e).kind ∙ (ap w.pages.kinds (eqb-true p page y) ∙ host) in cc))
-            (λ y. y) in
-            rw off refl;
-        low = λ p. by_test (p == page) (λ y. rw y (omega arith)) (λ y. rw y (omega arith));
-      }
-  row-notes (call.ImportMem t slot page) ps none =
-      let x : Input = input_in (o.bundles slot) in
-      fill_either (λ u. KeepsNotes w (count_bundle t x.header.stream (begin_memory t (page_of_gpa x.header.gpa) x.words u))) t x.header.gpa page x.words (entry_at w t 0 x.header.gpa).state w
-      (notes_same w _ refl refl refl refl refl) (notes_same w _ refl refl refl refl refl)
-  row-notes (call.ImportAbort t slot) ps none = cc
-  row-notes (call.ExportStateImmutable t slot) ps none = cc
-  row-notes (call.ExportMem t gpa k slot) ps none = cc
-  row-notes (call.ExportTrack t slot start) ps none = cc
-  row-notes (call.ExportStateTd t slot) ps none = cc
-  row-notes (call.ExportStateVp t p slot) ps none = cc
-  row-notes c ps none = notes_same w (After c) refl refl refl refl refl
+row-notes : (o : Opening) (me : ℕ) (w : World) → Lawful o.machine w → (c : Call) → Passes ((row_of o me c).items w) → output_slot c ≡ None → KeepsNotes w ((row_of o me c).act w)
+row-notes o me w l c ps none =
+    let goes : (x : ℕ) → IsExporting ((row_of o me c).act w) x → Goes (pauses_none c) w ((row_of o me c).act w) x = each_goes (call-changes o me w l c ps) none in
+    record {
+      each = λ x a. ap (λ (z : Td). let y : Notes = record { td = z.td_exported; many = z.vps_exported; vps = z.vps } in y) (goes x a).td_is;
+      vp = λ x a p e. ap (λ (z : Vp). let y : VpNote = record { exported = z.exported; index = z.index } in y) ((goes x a).vps p e);
+      low = ((call-keeps o me w l c).made none).2;
+    }
 
 abbrev counted : Bool → ℕ
 counted b = cond b 1 0

@@ -53,6 +53,7 @@ use Rattle.mig_laws.proofs.Stays.{IsBeside}
 use Rattle.mig_laws.proofs.Rows.{over_beside, row-beside}
 use Rattle.mig_laws.proofs.Ivs.{IsGiven, back_token, ivs_stay, session_same, begun_ivs}
 use Rattle.mig_laws.proofs.Calm.{IsCalm, calm_over, row-calm}
+use Rattle.mig_laws.proofs.GuestChanges.{Fixed, operation_fixed, reach_fixed}
 use Rattle.mig_laws.proofs.Guests.{operation_beside, left_beside, reached_beside, never_stored}
 use Rattle.mig_laws.proofs.Paused.{start_end, no_start_yet, not_post, only_live, abortable_stands, is_pausing, calm_of, operation_calm, reach_calm, pauses_kept}
 use Rattle.mig_laws.proofs.Still.{IsStill, image_stays, still_same, row-still, operation_still, reach_still}
@@ -444,11 +445,11 @@ module _ (o : Opening) (bundles : ℕ → Option Incoming) (s : State) (p : ℕ)
       (λ c cs line none ps. row-states q p w l src pauses h c ps)
       (λ c cs g op row i is ps. (let occ = occ-of o s all.timely p g i.guest in
       states_stay w _ (operation_beside q g.tdr g.vp (length (s.lps p).replies + 1) op row w is)
-      (operation_calm q g.tdr g.vp (length (s.lps p).replies + 1) op row w is occ.running) (operation_still q w l g.tdr g.vp occ.running occ.page (length (s.lps p).replies + 1) op row is) h))
+      (operation_calm q w l g.tdr g.vp occ.running occ.page (length (s.lps p).replies + 1) op row is) (operation_still q w l g.tdr g.vp occ.running occ.page (length (s.lps p).replies + 1) op row is) h))
       (λ c cs g op access r gpa page i is found. (let occ = occ-of o s all.timely p g i.guest in
       states_stay w _
       (reached_beside g.tdr g.vp access r gpa page w (λ writes. never_stored o s p all src.tracked g gpa page i.guest (ap (λ (a : Access). look_up (s.lps p).cached g.tdr (page_of_gpa gpa) a) (sym writes) ∙ found)))
-      (reach_calm g.tdr g.vp access r gpa page w occ.running) (reach_still q w l g.tdr g.vp occ.running occ.page access r gpa page) h))
+      (reach_calm q w l g.tdr g.vp occ.running occ.page access r gpa page) (reach_still q w l g.tdr g.vp occ.running occ.page access r gpa page) h))
       (λ c cs g i. states_stay w _ (left_beside g.vp w) (calm_of w _ refl refl refl) (still_same w _ refl refl refl refl refl) h)
 
 start_states : (o : Opening) (ws : Option (List ℕ)) → StatesHold (start o ws).world
@@ -502,8 +503,8 @@ event_pauses o bundles s p timely forms h =
     let w : World = s.world in
     event_world q s p ArePausesShort h
     (λ c cs line none ps. row-pauses q p w forms h c)
-    (λ c cs g op row i is ps. (let occ = occ-of o s timely p g i.guest in same_pauses w (tell_words (row.tells w) (row.act w)) (operation_calm q g.tdr g.vp (length (s.lps p).replies + 1) op row w is occ.running).noted h))
-    (λ c cs g op access r gpa page i is found. (let occ = occ-of o s timely p g i.guest in same_pauses w (reach g.tdr g.vp access r gpa page w) (reach_calm g.tdr g.vp access r gpa page w occ.running).noted h))
+    (λ c cs g op row i is ps. same_pauses w (tell_words (row.tells w) (row.act w)) (ap (λ (z : Fixed). z.paused) (operation_fixed q g.tdr g.vp (length (s.lps p).replies + 1) op row w is)) h)
+    (λ c cs g op access r gpa page i is found. same_pauses w (reach g.tdr g.vp access r gpa page w) (ap (λ (z : Fixed). z.paused) (reach_fixed g.tdr g.vp access r gpa page w)) h)
     (λ c cs g i. h)
 
 pub positions_kept : PositionsAreKept

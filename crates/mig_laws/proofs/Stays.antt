@@ -1,7 +1,7 @@
 -- What stays of the TDs that are exported, where an act makes no bundle: as much as the laws of this crate ask.
-use Rattle.std.proofs.Common.{◌≡◌, refl, sym, ◌∙◌, ap, subst, ℕ, ◌+◌, ◌<◌, ◌≤◌, List, [], ◌∷◌, length, Option, Some, None, Bool, true, false, ◌==◌, nat_lt, arith}
-use Rattle.std.specs.List.{list_any, list_all}
-use Rattle.std.proofs.lemmas.Bool.{eqb-true, and_parts, ltb-true, lt-ltb}
+use Rattle.std.proofs.Common.{◌≡◌, refl, sym, ◌∙◌, ap, subst, ℕ, ◌<◌, ◌≤◌, List, [], ◌∷◌, length, Option, Some, None, Bool, true, false, ◌==◌, nat_lt, arith}
+use Rattle.std.specs.List.{list_all}
+use Rattle.std.proofs.lemmas.Bool.{and_parts, ltb-true, lt-ltb}
 use Rattle.td_words.specs.declared.names.LifeState.{LifeState}
 use Rattle.td_words.specs.declared.names.OpState.{OpState}
 use Rattle.td_words.specs.declared.names.OpState.TheVariants as op
@@ -61,23 +61,6 @@ left_now entered b v (u ∷ us) h = by (left_now entered b v us) (entered u) ref
         by_test (u == v)
         (λ y. rw y (later both.1))
         (λ n. rw (n, at, both.0) (later both.1))
-
--- who isn't listed doesn't count
-pub entered_elsewhere : (entered : ℕ → Option ℕ) (b v : ℕ) (x : Option ℕ) (vs : List ℕ) → list_any (λ q. q == v) vs ≡ false → all_later b (entry_epochs entered vs) ≡ true → all_later b (entry_epochs (put entered v x) vs) ≡ true
-entered_elsewhere entered b v x [] off h = refl
-entered_elsewhere entered b v x (u ∷ us) off h = by_test (u == v)
-    (λ y. absurd (let no : true ≡ false = rw y at off in cc))
-    (λ n. by n (entered_elsewhere entered b v x us (rw n at off)) (entered u) refl)
-  where
-    by : (u == v) ≡ false → (all_later b (entry_epochs entered us) ≡ true → all_later b (entry_epochs (put entered v x) us) ≡ true) → (y : Option ℕ) → entered u ≡ y → all_later b (entry_epochs (put entered v x) (u ∷ us)) ≡ true
-    by n later None at = rw (n, at) (later (rw at at h))
-    by n later (Some d) at = (let both = and_parts (nat_lt b d) (all_later b (entry_epochs entered us)) (rw at at h) in rw (n, at, both.0) (later both.1))
-
--- where one stream counts one more, none has counted less
-pub counted_more : (w : World) (t k x j : ℕ) → stream_counter w x j ≤ put w.streams.counters (stream_page w t k) (stream_counter w t k + 1) (stream_page w x j)
-counted_more w t k x j = by_test (stream_page w x j == stream_page w t k)
-    (λ y. rw y (let same = ap w.streams.counters (eqb-true _ _ y) in omega (arith, same)))
-    (λ y. rw y (omega arith))
 
 -- of a session that stands: it stood before, with the same streams, whose counters haven't fallen
 pub record SessionStays (w v : World) (x : ℕ) : Type 0 where
@@ -191,15 +174,6 @@ beside w v same goes entries lower back = record {
 
 pub goes_same : (w v : World) → v.tds.ops ≡ w.tds.ops → (x : ℕ) → GoesOn w v x
 goes_same w v same x e = (subst (λ (f : ℕ → OpState). is_exporting (f x) ≡ true) same e, λ l. ap (λ (f : ℕ → OpState). f x) (sym same) ∙ l)
-
--- where one TD changes whose session doesn't stand afterwards
-pub apart : (w v : World) (t : ℕ) → (IsExporting v t → ⊥) → v.outgoing.bundles ≡ w.outgoing.bundles → v.key_table.last_exported ≡ w.key_table.last_exported
-    → ((x : ℕ) → (x == t) ≡ false → IsExporting v x → Stays w v x) → IsBeside w v
-apart w v t none bundles last others = record {
-  bundles = bundles;
-  last = last;
-  each = λ x a. by_test (x == t) (λ y. absurd (none (subst (λ (z : ℕ). IsExporting v z) (eqb-true x t y) a))) (λ y. others x y a);
-}
 
 -- where pages, lives and op states are as they were too
 pub unmoved : (w v : World) → shape v ≡ shape w → v.tds.ops ≡ w.tds.ops → ((x n : ℕ) → v.tds.entries x 0 n ≡ w.tds.entries x 0 n) → v.pages ≡ w.pages → v.tds.lives ≡ w.tds.lives → IsBeside w v

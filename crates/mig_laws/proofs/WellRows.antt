@@ -377,5 +377,5 @@ module _ (o : Opening) (me : ℕ) (w : World) (l : Lawful o.machine w) (i : IvsH
       td refl refl refl refl refl
   row-well (call.ImportAbort t slot) ps =
       let u : World = set_op t op.FailedImport w in
-      well_back u (back_token w t slot) refl (numbers_well w u (over_beside o me w l t op.FailedImport refl) (λ x a. numbers w u x (over_goes w t op.FailedImport refl x a) a) h)
-  row-well c ps = numbers_well w (After c) (row-beside o me w l c ps refl) (λ x a. numbers w (After c) x (each_goes w (After c) (call-changes o me w l c ps) refl x a) a) h
+      well_back u (back_token w t slot) refl (numbers_well w u (over_beside o me w l t op.FailedImport refl) (λ x a. numbers (over_goes w t op.FailedImport refl x a)) h)
+  row-well c ps = numbers_well w (After c) (row-beside o me w l c ps refl) (λ x a. numbers (each_goes (call-changes o me w l c ps) refl x a)) h
