@@ -48,7 +48,7 @@ use Rattle.mig_laws.proofs.Rest.{ImportStays, EmptyStays, new, old}
 use Rattle.mig_laws.proofs.Stays.{own, PageStays, same_page, tracks, tracked_still, entered_now}
 use Rattle.mig_laws.proofs.Entries.{Place, EntryGoes, blocked_goes, unblocked_goes, fresh_goes, restated}
 use Rattle.mig_laws.proofs.WellStays.{marks}
-use Rattle.mig_laws.proofs.Changes.{begins_import, ImportGoes, import_goes, Vp, vp, Back, Becomes, is_import, pauses_none, td, Same, same_op, pauses, Goes, Changes, none_of, is_new, is_moving, same_goes, same_imports, same_empty}
+use Rattle.mig_laws.proofs.Changes.{begins_export, ExportGoes, goes_stood, begins_import, ImportGoes, import_goes, Vp, vp, Back, Becomes, is_import, pauses_none, td, Same, same_op, pauses, Goes, Changes, none_of, is_new, is_moving, same_goes, same_imports, same_empty}
 
 pub le_same : (n : ℕ) → n ≤ n
 le_same n = omega arith
@@ -217,6 +217,7 @@ module _ {c : Call} {w v : World} {t : ℕ} where
   ended : (allowed : List OpState) → IsOneOf allowed (v.tds.ops t) → list_any is_exporting allowed ≡ false → list_any is_filling allowed ≡ false → (IsAlive v.pages v.tds t → v.tds.ops t ≡ op.Uninitialized → EmptyStays w v t) → Becomes c w v t
   ended allowed among sent filled empty = record {
     exports = λ k a. both _ a.standing (none_of is_exporting allowed _ among sent);
+    stood = λ k a. both _ a.standing (none_of is_exporting allowed _ among sent);
     imports = λ k a. both _ a.standing (none_of is_filling allowed _ among filled);
     counts = λ k a. both _ a.standing (none_of is_filling allowed _ among filled);
     empty = λ k. empty;
@@ -227,28 +228,32 @@ module _ {c : Call} {w v : World} {t : ℕ} where
   settled allowed among none =
       let off = or_false (is_exporting (v.tds.ops t)) _ (none_of is_moving allowed (v.tds.ops t) among none) in
       let others = or_false (is_filling (v.tds.ops t)) _ off.1 in
-      record { exports = λ k a. both _ a.standing off.0; imports = λ k a. both _ a.standing others.0; counts = λ k a. both _ a.standing others.0; empty = λ k a e. both _ (ap is_new e) others.1 }
+      record { exports = λ k a. both _ a.standing off.0; stood = λ k a. both _ a.standing off.0; imports = λ k a. both _ a.standing others.0; counts = λ k a. both _ a.standing others.0; empty = λ k a e. both _ (ap is_new e) others.1 }
 
   -- it isn't alive
   died : (IsAlive v.pages v.tds t → ⊥) → Becomes c w v t
-  died dead = record { exports = λ k a. absurd (dead a.alive); imports = λ k a. absurd (dead a.alive); counts = λ k a. absurd (dead a.alive); empty = λ k a e. absurd (dead a) }
+  died dead = record { exports = λ k a. absurd (dead a.alive); stood = λ k a. absurd (dead a.alive); imports = λ k a. absurd (dead a.alive); counts = λ k a. absurd (dead a.alive); empty = λ k a e. absurd (dead a) }
 
   -- it is imported
   imported : (allowed : List OpState) → IsOneOf allowed (v.tds.ops t) → list_any is_exporting allowed ≡ false → (is_import c ≡ false → ⊥) → (begins_import c ≡ false → IsImporting v t → ImportGoes w v t) → Becomes c w v t
   imported allowed among none import counts =
-      record { exports = λ k a. both _ a.standing (none_of is_exporting allowed _ among none); imports = λ k a. absurd (import k); counts = counts; empty = λ k a e. absurd (import k) }
+      let off = none_of is_exporting allowed (v.tds.ops t) among none in
+      record { exports = λ k a. both _ a.standing off; stood = λ k a. both _ a.standing off; imports = λ k a. absurd (import k); counts = counts; empty = λ k a e. absurd (import k) }
 
   -- it is exported, and makes a bundle
-  sends : (output_slot c ≡ None → ⊥) → is_exporting (v.tds.ops t) ≡ true → Becomes c w v t
-  sends makes standing =
+  sends : (output_slot c ≡ None → ⊥) → is_exporting (v.tds.ops t) ≡ true → (begins_export c ≡ false → IsExporting v t → ExportGoes w v t) → Becomes c w v t
+  sends makes standing stood =
       let off = exporting_apart (v.tds.ops t) standing in
-      record { exports = λ k a. absurd (makes k); imports = λ k a. both _ a.standing off.0; counts = λ k a. both _ a.standing off.0; empty = λ k a e. both _ (ap is_new e) off.1 }
+      record { exports = λ k a. absurd (makes k); stood = stood; imports = λ k a. both _ a.standing off.0; counts = λ k a. both _ a.standing off.0; empty = λ k a e. both _ (ap is_new e) off.1 }
+
+  sent : ((x : ℕ) → Back w v x) → is_exporting (w.tds.ops t) ≡ true → (output_slot c ≡ None → ⊥) → is_exporting (v.tds.ops t) ≡ true → v.tds.sessions t ≡ w.tds.sessions t → Becomes c w v t
+  sent back before makes standing session = sends makes standing (λ k a. record { exporting = record { alive = back t a.alive; standing = before }; session = session })
 
   -- it may be exported, and goes on
   goes_on : (allowed : List OpState) → IsOneOf allowed (v.tds.ops t) → list_any (λ s. is_filling s || is_new s) allowed ≡ false → (IsExporting v t → Goes (pauses_none c) w v t) → Becomes c w v t
   goes_on allowed among none goes =
       let off = or_false (is_filling (v.tds.ops t)) _ (none_of (λ s. is_filling s || is_new s) allowed (v.tds.ops t) among none) in
-      record { exports = λ k. goes; imports = λ k a. both _ a.standing off.0; counts = λ k a. both _ a.standing off.0; empty = λ k a e. both _ (ap is_new e) off.1 }
+      record { exports = λ k. goes; stood = λ k a. goes_stood (goes a) a; imports = λ k a. both _ a.standing off.0; counts = λ k a. both _ a.standing off.0; empty = λ k a e. both _ (ap is_new e) off.1 }
 
 -- counts that grow
 pub counts_grow : (f g : ℕ → ℕ) (ps : List ℕ) → ((q : ℕ) → f q ≤ g q) → (k : ℕ) → get_or (map f ps) k 0 ≤ get_or (map g ps) k 0
@@ -307,7 +312,7 @@ module _ {c : Call} {w v : World} where
   -- nothing changes that migrations look at
   unchanged : ((x : ℕ) → Back w v x) → ((x : ℕ) → Same w v x) → Changes c w v
   unchanged back same = changing 0 back (λ x y. same x)
-      (record { exports = λ k a. same_goes (same 0) (pauses_none c) (back 0 a.alive); imports = λ k. same_imports (same 0) (back 0); counts = λ k a. import_goes (same_imports (same 0) (back 0) a); empty = λ k. same_empty (same 0) (back 0) })
+      (record { exports = λ k a. same_goes (same 0) (pauses_none c) (back 0 a.alive); stood = λ k a. goes_stood (same_goes (same 0) true (back 0 a.alive)) a; imports = λ k. same_imports (same 0) (back 0); counts = λ k a. import_goes (same_imports (same 0) (back 0) a); empty = λ k. same_empty (same 0) (back 0) })
 
 module _ (o : Opening) (me : ℕ) (w : World) (l : Lawful o.machine w) where
   abbrev After : Call → World
@@ -339,6 +344,7 @@ module _ (o : Opening) (me : ℕ) (w : World) (l : Lawful o.machine w) where
       })
       (record {
         exports = λ k a. both _ a.standing (none_of is_exporting (op.Initialized ∷ op.MemoryImport ∷ []) _ ops refl);
+        stood = λ k a. both _ a.standing (none_of is_exporting (op.Initialized ∷ op.MemoryImport ∷ []) _ ops refl);
         imports = λ k a. import a;
         counts = λ k a. import_goes (import a);
         empty = λ k a e. old (back t a) e (λ n. refl);
@@ -486,25 +492,27 @@ module _ (o : Opening) (me : ℕ) (w : World) (l : Lawful o.machine w) where
         vps = λ a q e. refl;
         blocked = λ a n s. le_same _;
       })
-      (sends (λ k. cc) (rw (same_self t) refl))
+      (sends (λ k. cc) (rw (same_self t) refl) (λ k. cc))
   by-call (call.ExportMem t gpa k slot) ps back =
       let td : TdPassed w t abortable_ops = search in
-      changing t back (λ x y. counted l t k _ (td_alive td) (ltb-true _ _ (search)) refl refl x y (rw y refl)) (sends (λ k. cc) (abortable_exporting (w.tds.ops t) td.op))
+      let exporting = abortable_exporting (w.tds.ops t) td.op in
+      changing t back (λ x y. counted l t k _ (td_alive td) (ltb-true _ _ (search)) refl refl x y (rw y refl)) (sent back exporting (λ k. cc) exporting refl)
   by-call (call.ExportTrack t slot zero) ps back =
       let td : TdPassed w t abortable_ops = search in
       let exporting = abortable_exporting (w.tds.ops t) td.op in
-      changing t back (λ x y. counted l t 0 _ (td_alive td) (l.sessions.first_stream t exporting) refl refl x y (rw y refl)) (sends (λ k. cc) exporting)
+      changing t back (λ x y. counted l t 0 _ (td_alive td) (l.sessions.first_stream t exporting) refl refl x y (rw y refl)) (sent back exporting (λ k. cc) exporting refl)
   by-call (call.ExportTrack t slot (suc n)) ps back =
       let td : TdPassed w t paused_ops = search in
-      changing t back (λ x y. counted l t 0 _ (td_alive td) (l.sessions.first_stream t (paused_exporting (w.tds.ops t) td.op)) refl refl x y (rw y refl)) (sends (λ k. cc) (rw (same_self t) refl))
+      let exporting = paused_exporting (w.tds.ops t) td.op in
+      changing t back (λ x y. counted l t 0 _ (td_alive td) (l.sessions.first_stream t exporting) refl refl x y (rw y refl)) (sent back exporting (λ k. cc) (rw (same_self t) refl) refl)
   by-call (call.ExportStateTd t slot) ps back =
       let td : TdPassed w t paused_ops = search in
       let exporting = paused_exporting (w.tds.ops t) td.op in
-      changing t back (λ x y. counted l t 0 _ (td_alive td) (l.sessions.first_stream t exporting) refl refl x y (rw y refl)) (sends (λ k. cc) exporting)
+      changing t back (λ x y. counted l t 0 _ (td_alive td) (l.sessions.first_stream t exporting) refl refl x y (rw y refl)) (sent back exporting (λ k. cc) exporting refl)
   by-call (call.ExportStateVp t p slot) ps back =
       let td : TdPassed w t paused_ops = search in
       let exporting = paused_exporting (w.tds.ops t) td.op in
-      changing t back (λ x y. vp_counted l t p _ (td_alive td) (l.sessions.first_stream t exporting) (vp_of w t p (search)).owner refl refl (λ q off. rw off refl) refl x y (rw y refl)) (sends (λ k. cc) exporting)
+      changing t back (λ x y. vp_counted l t p _ (td_alive td) (l.sessions.first_stream t exporting) (vp_of w t p (search)).owner refl refl (λ q off. rw off refl) refl x y (rw y refl)) (sent back exporting (λ k. cc) exporting refl)
   by-call (call.ImportStateImmutable t slot) ps back =
       let td : TdPassed w t first_ops = search in
       changing t back (λ x y. counted l t 0 _ (td_alive td) (ltb-true _ _ (search)) refl refl x y (rw y refl)) (imported (op.MemoryImport ∷ []) (rw (same_self t) refl) refl (λ k. cc) (λ k. cc))

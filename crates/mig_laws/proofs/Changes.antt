@@ -36,6 +36,10 @@ is_import (call.ImportStateVp t p slot) = true
 is_import (call.ImportCommit t) = true
 is_import _ = false
 
+abbrev pub begins_export : Call → Bool
+begins_export (call.ExportStateImmutable t slot) = true
+begins_export _ = false
+
 abbrev pub begins_import : Call → Bool
 begins_import (call.ImportStateImmutable t slot) = true
 begins_import _ = false
@@ -120,6 +124,11 @@ pub record Goes (calm : Bool) (w v : World) (x : ℕ) : Type 0 where
   pub page : (n : ℕ) → PageStays w v x n
   pub mark : (n : ℕ) → is_exported (w.tds.entries x 0 n).state ≡ true → (v.tds.entries x 0 n).mark ≡ (w.tds.entries x 0 n).mark
 
+-- of an export that stands afterwards: it stood before, under the same session
+pub record ExportGoes (w v : World) (x : ℕ) : Type 0 where
+  pub exporting : IsExporting w x
+  pub session : v.tds.sessions x ≡ w.tds.sessions x
+
 -- of an import that goes on: it stood before, under the same session, and has counted as much or more
 pub record ImportGoes (w v : World) (x : ℕ) : Type 0 where
   pub importing : IsImporting w x
@@ -129,10 +138,11 @@ pub record ImportGoes (w v : World) (x : ℕ) : Type 0 where
 pub import_goes : {w v : World} {x : ℕ} → ImportStays w v x → ImportGoes w v x
 import_goes s = record { importing = s.importing; session = ap (λ (z : Filled). z.session) s.own; counts = λ i. (let same = ap (λ (c : List ℕ). get_or c i 0) s.counts in omega (arith, same)) }
 
--- What becomes of the TD that an act changes: where the call makes no bundle, an export goes on; where it imports nothing, an import
--- stays as it is, and where none begins, it goes on.
+-- What becomes of the TD that an act changes: where the call makes no bundle, an export goes on as it is, and where it imports
+-- nothing, an import stays as it is; where none begins, it stood before.
 pub record Becomes (c : Call) (w v : World) (t : ℕ) : Type 0 where
   pub exports : output_slot c ≡ None → IsExporting v t → Goes (pauses_none c) w v t
+  pub stood : begins_export c ≡ false → IsExporting v t → ExportGoes w v t
   pub imports : is_import c ≡ false → IsImporting v t → ImportStays w v t
   pub counts : begins_import c ≡ false → IsImporting v t → ImportGoes w v t
   pub empty : is_import c ≡ false → IsAlive v.pages v.tds t → v.tds.ops t ≡ op.Uninitialized → EmptyStays w v t
@@ -232,6 +242,9 @@ module _ {calm : Bool} {w v : World} {x : ℕ} (g : Goes calm w v x) where
       live (same_op e) h = sym e ∙ h
       live (pauses k s t) h = s
 
+  pub goes_stood : IsExporting v x → ExportGoes w v x
+  goes_stood a = let k = (stays a).session in record { exporting = k.exporting; session = k.session }
+
   pub numbers : NumbersStay w v x
   numbers = record {
     counter = λ k m. g.counters (stream_page w x k) (stream_among (w.tds.streams x) k m);
@@ -258,6 +271,9 @@ module _ (w v : World) (t : ℕ) (alone : Alone w v t) where
 module _ {c : Call} {w v : World} (h : Changes c w v) where
   pub each_goes : output_slot c ≡ None → (x : ℕ) → IsExporting v x → Goes (pauses_none c) w v x
   each_goes none = at_each (IsExporting v) (Goes (pauses_none c) w v) h.tdr (h.own.exports none) (λ x y a. same_goes (h.alone.same x y) (pauses_none c) (h.alone.back x y a.alive))
+
+  pub each_stood : begins_export c ≡ false → (x : ℕ) → IsExporting v x → ExportGoes w v x
+  each_stood off = at_each (IsExporting v) (ExportGoes w v) h.tdr (h.own.stood off) (λ x y a. goes_stood (same_goes (h.alone.same x y) true (h.alone.back x y a.alive)) a)
 
   pub each_rests : is_import c ≡ false → v.hidden.given ≡ w.hidden.given → IsAtRest w v
   each_rests none given = record { given = given; each = imports_alone w v h.tdr h.alone (h.own.imports none); empty = empty_alone w v h.tdr h.alone (h.own.empty none) }

@@ -3,33 +3,28 @@ use Rattle.std.proofs.Common.{◌≡◌, ◌≢◌, refl, sym, ◌∙◌, ap, su
 use Rattle.std.specs.List.{All}
 use Rattle.std.proofs.lemmas.Bool.{eqb-true, eq-eqb, ltb-true}
 use Rattle.std.proofs.lemmas.List.Elements.{All-push}
-use Rattle.td_words.specs.declared.names.PageKind.TheVariants as kind
-use Rattle.td_words.specs.declared.names.EntryState.TheVariants as entry
 use Rattle.td_words.specs.declared.names.OpState.TheVariants as op
 use Rattle.td_words.specs.declared.calls.Call.{Call}
 use Rattle.td_words.specs.declared.calls.Call.TheVariants as call
 use Rattle.flat_core.specs.World.{World, Image, Made}
 use Rattle.flat_core.specs.Opening.{Opening}
 use Rattle.flat_core.specs.Row.{Passes}
-use Rattle.flat_core.specs.Tree.{page_of_gpa, number_at, entry_at}
-use Rattle.flat_core.specs.Effects.{set_page, map_page, set_op, begin_memory, add_bundle}
-use Rattle.flat_core.specs.Sessions.{count_bundle}
+use Rattle.flat_core.specs.Tree.{entry_at}
+use Rattle.flat_core.specs.Effects.{set_op, add_bundle}
 use Rattle.flat_core.specs.Inputs.{Input, input_in}
-use Rattle.flat_core.specs.ImportRows.{commit_ops, given_up_ops, fill_page, is_start, note_commit}
+use Rattle.flat_core.specs.ImportRows.{commit_ops, given_up_ops, note_commit}
 use Rattle.flat_core.specs.Table.{row_of}
-use Rattle.flat_core.specs.Lawful.{IsAlive, Lawful}
+use Rattle.flat_core.specs.Lawful.{Lawful}
 use Rattle.flat_core.specs.Event.{start}
 use Rattle.flat_core.proofs.Tests.{by_test, same_self}
 use Rattle.flat_core.proofs.Passed.{TdPassed, td_alive}
 use Rattle.flat_core.proofs.Parts.{IsLive}
 use Rattle.flat_bundles.proofs.Fills.{fill_either}
 use Rattle.mig_laws.specs.Ivs.{is_forward, is_filling, IsImporting, AbortsHold}
-use Rattle.mig_laws.proofs.Rows.{taken_back}
 use Rattle.mig_laws.proofs.Ivs.{back_token, given_up_fills}
-use Rattle.mig_laws.proofs.OneMore.{filling_fills, td_state_fills, vp_state_fills, commit_fills, token_fills}
-use Rattle.mig_laws.proofs.Rest.{Filled}
-use Rattle.mig_laws.proofs.Changes.{is_import}
-use Rattle.mig_laws.proofs.RestRows.{row-rests}
+use Rattle.mig_laws.proofs.OneMore.{commit_fills}
+use Rattle.mig_laws.proofs.Changes.{begins_import, each_counts}
+use Rattle.mig_laws.proofs.CallChanges.{call-changes}
 use Rattle.runner_laws.specs.Runner.{IsOver, CommitsHold}
 use Rattle.runner_laws.proofs.Moves.{Asked, asked}
 
@@ -129,29 +124,8 @@ module _ (o : Opening) (me : ℕ) (w : World) (l : Lawful o.machine w) (aborts :
   abbrev After : Call → World
   After c = (row_of o me c).act w
 
-  rest_commits : (c : Call) → Passes ((row_of o me c).items w) → is_import c ≡ false → NoneComes w.outgoing.bundles (After c).outgoing.bundles → (After c).key_table.last_imported ≡ w.key_table.last_imported → CommitsHold (After c)
-  rest_commits c ps off bundles last =
-      let r = row-rests o me w l c ps off in
-      commits_stay w (After c) bundles last (λ x a. (let k = r.each x a in record { importing = k.importing; session = ap (λ (z : Filled). z.session) k.own })) r.given h
-
-  -- an import that goes on
-  filling_commits : (v : World) (t : ℕ) → is_filling (w.tds.ops t) ≡ true → v.outgoing.bundles ≡ w.outgoing.bundles → v.key_table.last_imported ≡ w.key_table.last_imported → v.hidden.given ≡ w.hidden.given
-      → ((x : ℕ) → IsAlive v.pages v.tds x → IsAlive w.pages w.tds x) → ((x : ℕ) → (x == t) ≡ false → v.tds.ops x ≡ w.tds.ops x) → v.tds.sessions ≡ w.tds.sessions → CommitsHold v
-  filling_commits v t filling bundles last given back ops sessions = commits_stay w v (none bundles) last
-      (λ x a. record {
-        importing = record {
-          alive = back x a.alive;
-          standing = by_test (x == t) (λ y. subst (λ (z : ℕ). is_filling (w.tds.ops z) ≡ true) (sym (eqb-true x t y)) filling) (λ y. ap is_filling (sym (ops x y)) ∙ a.standing);
-        };
-        session = ap (λ (f : ℕ → ℕ). f x) sessions;
-      }) given h
-
-  page_commits : (t k gpa page : ℕ) (ws : ℕ → ℕ) → is_filling (w.tds.ops t) ≡ true → CommitsHold (count_bundle t k (begin_memory t (page_of_gpa gpa) ws (fill_page t gpa page ws (entry_at w t 0 gpa).state w)))
-  page_commits t k gpa page ws filling =
-      let taken : World = count_bundle t k (begin_memory t (page_of_gpa gpa) ws (set_page page ws (map_page page kind.Reg entry.Mapped t 0 (number_at 0 gpa) w))) in
-      fill_either (λ u. CommitsHold (count_bundle t k (begin_memory t (page_of_gpa gpa) ws u))) t gpa page ws (entry_at w t 0 gpa).state w
-      (filling_commits taken t filling refl refl refl (λ x a. taken_back w page kind.Reg t 0 (number_at 0 gpa) (λ e. cc) taken.tds refl x (record { kind = a.kind; life = a.life })) (λ x y. refl) refl)
-      (filling_commits _ t filling refl refl refl (λ x a. record { kind = a.kind; life = a.life }) (λ x y. refl) refl)
+  rest_commits : (c : Call) → Passes ((row_of o me c).items w) → begins_import c ≡ false → NoneComes w.outgoing.bundles (After c).outgoing.bundles → (After c).key_table.last_imported ≡ w.key_table.last_imported → (After c).hidden.given ≡ w.hidden.given → CommitsHold (After c)
+  rest_commits c ps off bundles last given = commits_stay w (After c) bundles last (λ x a. (let k = each_counts (call-changes o me w l c ps) off x a in record { importing = k.importing; session = k.session })) given h
 
   pub row-commits : (c : Call) → Passes ((row_of o me c).items w) → CommitsHold (After c)
   row-commits (call.ImportStateImmutable t slot) ps =
@@ -161,27 +135,21 @@ module _ (o : Opening) (me : ℕ) (w : World) (l : Lawful o.machine w) (aborts :
       (λ y z a. record { alive = record { kind = a.alive.kind; life = a.alive.life }; standing = rw z at a.standing }) refl
   row-commits (call.ImportMem t slot page) ps =
       let x : Input = input_in (o.bundles slot) in
-      page_commits t x.header.stream x.header.gpa page x.words (filling_fills (w.tds.ops t) (search)).0
-  row-commits (call.ImportTrack t slot) ps =
-      let x : Input = input_in (o.bundles slot) in
-      filling_commits (After (call.ImportTrack t slot)) t (token_fills (is_start x.header) (w.tds.ops t) (search)) refl refl refl (λ y a. record { kind = a.kind; life = a.life }) (λ y z. rw z refl) refl
-  row-commits (call.ImportStateTd t slot) ps =
-      filling_commits (After (call.ImportStateTd t slot)) t (td_state_fills (w.tds.ops t) (search)).0 refl refl refl (λ y a. record { kind = a.kind; life = a.life }) (λ y z. rw z refl) refl
-  row-commits (call.ImportStateVp t p slot) ps =
-      filling_commits (After (call.ImportStateVp t p slot)) t (vp_state_fills (w.tds.ops t) (search)).0 refl refl refl (λ y a. record { kind = a.kind; life = a.life }) (λ y z. refl) refl
+      let same = fill_either (λ u. (u.outgoing.bundles ≡ w.outgoing.bundles) × (u.key_table.last_imported ≡ w.key_table.last_imported) × (u.hidden.given ≡ w.hidden.given)) t x.header.gpa page x.words (entry_at w t 0 x.header.gpa).state w (refl, refl, refl) (refl, refl, refl) in
+      rest_commits (call.ImportMem t slot page) ps refl (none same.0) same.1 same.2
   row-commits (call.ImportCommit t) ps =
       let td : TdPassed w t commit_ops = search in
       committed_commits w h aborts t (record { alive = td_alive td; standing = (commit_fills (w.tds.ops t) td.op).0 })
   row-commits (call.ImportAbort t slot) ps =
       let td : TdPassed w t given_up_ops = search in
       given_up_commits w h t slot (record { alive = td_alive td; standing = given_up_fills (w.tds.ops t) td.op })
-  row-commits (call.ExportStateImmutable t slot) ps = rest_commits (call.ExportStateImmutable t slot) ps refl (forward _ refl refl) refl
-  row-commits (call.ExportMem t gpa k slot) ps = rest_commits (call.ExportMem t gpa k slot) ps refl (forward _ refl refl) refl
-  row-commits (call.ExportTrack t slot zero) ps = rest_commits (call.ExportTrack t slot zero) ps refl (forward _ refl refl) refl
-  row-commits (call.ExportTrack t slot (suc n)) ps = rest_commits (call.ExportTrack t slot (suc n)) ps refl (forward _ refl refl) refl
-  row-commits (call.ExportStateTd t slot) ps = rest_commits (call.ExportStateTd t slot) ps refl (forward _ refl refl) refl
-  row-commits (call.ExportStateVp t p slot) ps = rest_commits (call.ExportStateVp t p slot) ps refl (forward _ refl refl) refl
-  row-commits c ps = rest_commits c ps refl (none refl) refl
+  row-commits (call.ExportStateImmutable t slot) ps = rest_commits (call.ExportStateImmutable t slot) ps refl (forward _ refl refl) refl refl
+  row-commits (call.ExportMem t gpa k slot) ps = rest_commits (call.ExportMem t gpa k slot) ps refl (forward _ refl refl) refl refl
+  row-commits (call.ExportTrack t slot zero) ps = rest_commits (call.ExportTrack t slot zero) ps refl (forward _ refl refl) refl refl
+  row-commits (call.ExportTrack t slot (suc n)) ps = rest_commits (call.ExportTrack t slot (suc n)) ps refl (forward _ refl refl) refl refl
+  row-commits (call.ExportStateTd t slot) ps = rest_commits (call.ExportStateTd t slot) ps refl (forward _ refl refl) refl refl
+  row-commits (call.ExportStateVp t p slot) ps = rest_commits (call.ExportStateVp t p slot) ps refl (forward _ refl refl) refl refl
+  row-commits c ps = rest_commits c ps refl (none refl) refl refl
 
 -- Guests begin, end and commit no import.
 pub same_importing : (w v : World) → asked v ≡ asked w → (x : ℕ) → IsImporting v x → IsImporting w x

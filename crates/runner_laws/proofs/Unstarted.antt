@@ -1,6 +1,6 @@
 -- A session that ended before its start token has none, and never gets one: what keeps it, act by act.
 use Rattle.std.proofs.Common.{◌≡◌, refl, sym, ◌∙◌, ap, subst, ℕ, zero, suc, ◌+◌, List, [], ◌∷◌, ◌++◌, None, true, false, ◌==◌, arith}
-use Rattle.std.proofs.lemmas.Bool.{eqb-true, eq-eqb, ne_eqb}
+use Rattle.std.proofs.lemmas.Bool.{eq-eqb, ne_eqb}
 use Rattle.td_words.specs.declared.names.OpState.TheVariants as op
 use Rattle.td_words.specs.declared.calls.Call.{Call}
 use Rattle.td_words.specs.declared.calls.Call.TheVariants as call
@@ -20,17 +20,14 @@ use Rattle.mig_laws.specs.Ivs.{IsExporting}
 use Rattle.mig_laws.specs.Paused.{is_start, has_start}
 use Rattle.mig_laws.specs.Source.{SourceHolds}
 use Rattle.mig_laws.specs.Paused.{PausesHold}
-use Rattle.mig_laws.proofs.Rows.{over_beside, row-beside}
+use Rattle.mig_laws.proofs.Changes.{begins_export, ExportGoes, each_stood}
+use Rattle.mig_laws.proofs.CallChanges.{call-changes}
+use Rattle.mig_laws.proofs.Rows.{row-beside}
 use Rattle.mig_laws.proofs.Paused.{start_end, not_post}
 use Rattle.runner_laws.specs.Kept.{IsUnstarted}
 use Rattle.runner_laws.proofs.Moves.{Asked, asked}
 
--- of an export that stands afterwards: it stood before, under the same number
-record GoesOn (w v : World) (x : ℕ) : Type 0 where
-  exporting : IsExporting w x
-  session : v.tds.sessions x ≡ w.tds.sessions x
-
-unstarted_stays : (w v : World) (session : ℕ) → has_start session v.outgoing.bundles ≡ has_start session w.outgoing.bundles → v.key_table.last_exported ≡ w.key_table.last_exported → ((x : ℕ) → IsExporting v x → GoesOn w v x) → IsUnstarted w session → IsUnstarted v session
+unstarted_stays : (w v : World) (session : ℕ) → has_start session v.outgoing.bundles ≡ has_start session w.outgoing.bundles → v.key_table.last_exported ≡ w.key_table.last_exported → ((x : ℕ) → IsExporting v x → ExportGoes w v x) → IsUnstarted w session → IsUnstarted v session
 unstarted_stays w v session bundles last each h = record {
   exported = (let low = h.exported in omega (arith, low, last));
   ended = λ x a same. (let g = each x a in h.ended x g.exporting (sym g.session ∙ same));
@@ -54,7 +51,7 @@ module _ (o : Opening) (me : ℕ) (w : World) (l : Lawful o.machine w) (session 
   After c = (row_of o me c).act w
 
   -- a bundle of an export that goes on is no start token
-  made_unstarted : (v : World) (b : Made) → v.outgoing.bundles ≡ w.outgoing.bundles ++ b ∷ [] → is_start session b ≡ false → v.key_table.last_exported ≡ w.key_table.last_exported → ((x : ℕ) → IsExporting v x → GoesOn w v x) → IsUnstarted v session
+  made_unstarted : (v : World) (b : Made) → v.outgoing.bundles ≡ w.outgoing.bundles ++ b ∷ [] → is_start session b ≡ false → v.key_table.last_exported ≡ w.key_table.last_exported → ((x : ℕ) → IsExporting v x → ExportGoes w v x) → IsUnstarted v session
   made_unstarted v b more other last each = unstarted_stays w v session (ap (λ (bs : List Made). has_start session bs) more ∙ start_end (is_start session) w.outgoing.bundles b other) last each h
 
   -- EXPORT.STATE.IMMUTABLE: the session is a later one than was ever exported
@@ -73,39 +70,25 @@ module _ (o : Opening) (me : ℕ) (w : World) (l : Lawful o.machine w) (session 
       let td : TdPassed w t paused_ops = search in
       let standing = paused_exporting (w.tds.ops t) td.op in
       let own = h.ended t (record { alive = td_alive td; standing = standing }) in
-      made_unstarted (After (call.ExportTrack t slot (suc n))) _ refl (ne_eqb (w.tds.sessions t) session own) refl
-      (λ x a. record {
-        exporting = record {
-          alive = record { kind = a.alive.kind; life = a.alive.life };
-          standing = by_test (x == t) (λ y. subst (λ (z : ℕ). is_exporting (w.tds.ops z) ≡ true) (sym (eqb-true x t y)) standing) (λ y. rw y at a.standing);
-        };
-        session = refl;
-      })
-
-  -- the token back is none either
-  back_unstarted : (t slot : ℕ) → IsUnstarted (After (call.ImportAbort t slot)) session
-  back_unstarted t slot =
-      let b = over_beside o me w l t op.FailedImport refl in
-      made_unstarted (After (call.ImportAbort t slot)) _ refl refl refl
-      (λ x a. (let k = (b.each x (record { alive = record { kind = a.alive.kind; life = a.alive.life }; standing = a.standing })).session in record { exporting = k.exporting; session = k.session }))
+      made_unstarted (After (call.ExportTrack t slot (suc n))) _ refl (ne_eqb (w.tds.sessions t) session own) refl (each_stood (call-changes o me w l (call.ExportTrack t slot (suc n)) ps) refl)
 
   rest_unstarted : (c : Call) → Passes ((row_of o me c).items w) → output_slot c ≡ None → IsUnstarted (After c) session
   rest_unstarted c ps none =
       let b = row-beside o me w l c ps none in
       unstarted_stays w (After c) session (ap (λ (bs : List Made). has_start session bs) b.bundles) b.last (λ x a. (let k = (b.each x a).session in record { exporting = k.exporting; session = k.session })) h
 
+  -- of a call that makes another bundle, as the token back is
+  bundle_unstarted : (c : Call) → Passes ((row_of o me c).items w) → begins_export c ≡ false → (b : Made) → (After c).outgoing.bundles ≡ w.outgoing.bundles ++ b ∷ [] → is_start session b ≡ false → (After c).key_table.last_exported ≡ w.key_table.last_exported → IsUnstarted (After c) session
+  bundle_unstarted c ps off b more other last = made_unstarted (After c) b more other last (each_stood (call-changes o me w l c ps) off)
+
   pub row-unstarted : (c : Call) → Passes ((row_of o me c).items w) → IsUnstarted (After c) session
   row-unstarted (call.ExportStateImmutable t slot) ps = begun_unstarted t slot
-  row-unstarted (call.ExportMem t gpa k slot) ps = made_unstarted (After (call.ExportMem t gpa k slot)) _ refl refl refl
-      (λ x a. record { exporting = record { alive = record { kind = a.alive.kind; life = a.alive.life }; standing = a.standing }; session = refl })
-  row-unstarted (call.ExportTrack t slot zero) ps = made_unstarted (After (call.ExportTrack t slot zero)) _ refl refl refl
-      (λ x a. record { exporting = record { alive = record { kind = a.alive.kind; life = a.alive.life }; standing = a.standing }; session = refl })
+  row-unstarted (call.ExportMem t gpa k slot) ps = bundle_unstarted (call.ExportMem t gpa k slot) ps refl _ refl refl refl
+  row-unstarted (call.ExportTrack t slot zero) ps = bundle_unstarted (call.ExportTrack t slot zero) ps refl _ refl refl refl
   row-unstarted (call.ExportTrack t slot (suc n)) ps = started_unstarted t slot n ps
-  row-unstarted (call.ExportStateTd t slot) ps = made_unstarted (After (call.ExportStateTd t slot)) _ refl refl refl
-      (λ x a. record { exporting = record { alive = record { kind = a.alive.kind; life = a.alive.life }; standing = a.standing }; session = refl })
-  row-unstarted (call.ExportStateVp t p slot) ps = made_unstarted (After (call.ExportStateVp t p slot)) _ refl refl refl
-      (λ x a. record { exporting = record { alive = record { kind = a.alive.kind; life = a.alive.life }; standing = a.standing }; session = refl })
-  row-unstarted (call.ImportAbort t slot) ps = back_unstarted t slot
+  row-unstarted (call.ExportStateTd t slot) ps = bundle_unstarted (call.ExportStateTd t slot) ps refl _ refl refl refl
+  row-unstarted (call.ExportStateVp t p slot) ps = bundle_unstarted (call.ExportStateVp t p slot) ps refl _ refl refl refl
+  row-unstarted (call.ImportAbort t slot) ps = bundle_unstarted (call.ImportAbort t slot) ps refl _ refl refl refl
   row-unstarted c ps = rest_unstarted c ps refl
 
 -- guests begin and end no export
