@@ -34,25 +34,25 @@ const REST: &str =
 
 const KEY: &str = "known to the platform and to who relies on it...";
 
+// A file of that name.
+fn named(alloc: Global, name: &str, bytes: &[u8]) -> Result<NamedFile, Fail> {
+    Ok(NamedFile {
+        name: String::from_str(alloc, name)?,
+        bytes: bytes.to_vec(alloc)?,
+    })
+}
+
 // The script s; the report key h, and h47 and h49, with a byte less and more; and what a report key is loaded with at most, and more.
 fn files(alloc: Global, script: &str) -> Result<MemFiles, Fail> {
     let long = vec![in alloc; 7u8; 65_537]?;
     let more = format!(in alloc; "{KEY}.")?;
-    let list: [(&str, &[u8]); 6] = [
-        ("s", script.as_bytes()),
-        ("h", KEY.as_bytes()),
-        ("h47", &KEY.as_bytes()[..47]),
-        ("h49", more.as_bytes()),
-        ("h65537", &long),
-        ("w4095", &long[..4_095]),
-    ];
     let mut files = Vec::new(alloc);
-    for (name, bytes) in list {
-        files.push(NamedFile {
-            name: String::from_str(alloc, name)?,
-            bytes: bytes.to_vec(alloc)?,
-        })?;
-    }
+    files.push(named(alloc, "s", script.as_bytes())?)?;
+    files.push(named(alloc, "h", KEY.as_bytes())?)?;
+    files.push(named(alloc, "h47", &KEY.as_bytes()[..47])?)?;
+    files.push(named(alloc, "h49", more.as_bytes())?)?;
+    files.push(named(alloc, "h65537", &long)?)?;
+    files.push(named(alloc, "w4095", &long[..4_095])?)?;
     Ok(MemFiles::new(alloc, files, Vec::new(alloc)))
 }
 
