@@ -9,6 +9,7 @@ from documents import demand, only, same
 from outside import text_of
 
 TRIES = "crates/flat_core/specs/Tries.antt"
+ROWS = "crates/flat_core/specs/ImportRows.antt"
 TOKEN = re.compile(r"\s*([A-Za-z_][\w']*(?:\.[A-Za-z_][\w']*)*|\.[a-z_]\w*|[0-9]+|\[\]|\+\+|==|∷|[(){}=;])")
 LOCKS = {"OfOp": "O", "OfTree": "T", "OfEpoch": "E", "OfRtmrs": "R", "OfKeys": "K"}
 MODES = {"Shared": "sh", "Exclusive": "ex"}
@@ -110,7 +111,8 @@ class Tries:
     """The table of tries: of each call's variant the locks with their modes."""
 
     def __init__(self):
-        self.functions = equations_of(text_of(TRIES))
+        chosen = [line for line in text_of(ROWS).splitlines() if line.startswith("filled_page ")]
+        self.functions = equations_of("\n".join([text_of(TRIES), *chosen]))
         demand("tries_of" in self.functions, f"{TRIES} has no tries_of")
         lines = [(patterns[1], said) for patterns, said in self.functions["tries_of"] if len(patterns) == 3]
         self.calls = {call[0].removeprefix("call."): (call[1:], said) for call, said in lines}

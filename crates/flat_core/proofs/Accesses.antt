@@ -22,10 +22,10 @@ use Rattle.flat_core.specs.Access.{IsHere, entry_of, node_number, is_pending, ma
 use Rattle.flat_core.proofs.Tests.{by_test, host_kind}
 use Rattle.flat_core.proofs.Maps.{node_named}
 use Rattle.flat_core.proofs.Numbers.{holds_of_none}
-use Rattle.flat_core.proofs.Shapes.{Aspect, aspect_of, OpGoes, unrun, runs, restored, EpochGoes, stay, begin, BlockGoes, noted, open_on, Takes, Reclaims, Begins, ChangesLife, ChangesOp, Enters, Flushes, ChangesEntry, Shape, notes, fills, takes, reclaims, unmaps, begins, changes_life, changes_op, changes_vp, enters, flushes, changes_entry, advances, ActShape, one, moves, unmaps_kept, owner_reclaimed}
+use Rattle.flat_core.proofs.Shapes.{Aspect, aspect_of, OpGoes, unrun, runs, restored, EpochGoes, stay, begin, BlockGoes, noted, open_on, Takes, Reclaims, Begins, ChangesLife, ChangesOp, Enters, Flushes, ChangesEntry, Shape, notes, fills, takes, reclaims, unmaps, begins, changes_life, changes_op, changes_vp, enters, flushes, changes_entry, advances, ActShape, one, moves, page_by_page, by_shapes, unmaps_kept, owner_reclaimed}
 use Rattle.flat_core.proofs.ShapeOf.{shape_of}
 use Rattle.flat_core.proofs.Epochs.{act-epochs}
-use Rattle.flat_core.proofs.Spared.{unmaps_spares}
+use Rattle.flat_core.proofs.Spared.{unmaps_spares, of_pages_spares}
 use Rattle.flat_core.proofs.Sparing.{idle_off}
 use Rattle.flat_core.proofs.AccessActs.{unexempt, here-as, IsBuilt, frame, current-same, walking-same, entry-apart, quiet-act, taken-act, op-off, op-act, host-act, restated-act, block-noted, raised-act, removed-act}
 
@@ -162,17 +162,35 @@ module _ (me : ℕ) (c : Call) (m : Machine) (w w' : World) (la : Lawful m w) (l
   shape-access (changes_entry x) n k = entry-access x x.block
   shape-access (advances x) n k = by-world _ x.is (raised-act m w la le p cs g occ a x.tdr)
 
+-- what holds from page to page of a list
+record GoesOn (w : World) (p : ℕ) (cs : List Translation) (g : Option Guest) : Type 0 where
+  pub epochs : LawfulEpochs w
+  pub occupied : (x : Guest) → g ≡ Some x → IsOccupied w p x.tdr x.vp
+  pub translations : LawfulTranslations w p cs g
+
 act-access : (me : ℕ) (c : Call) (m : Machine) (w w' : World) → Lawful m w → LawfulEpochs w → (p : ℕ) (cs : List Translation) (g : Option Guest) → ((x : Guest) → g ≡ Some x → IsOccupied w p x.tdr x.vp) → LawfulTranslations w p cs g
-    → ActShape me c w w' → ((t v most : ℕ) → c ≡ call.VpEnter t v most → p ≢ me) → ((t v : ℕ) → c ≡ call.VpFlush t v → p ≢ me) → LawfulTranslations w' p cs g
+    → ActShape m me c w w' → ((t v most : ℕ) → c ≡ call.VpEnter t v most → p ≢ me) → ((t v : ℕ) → c ≡ call.VpFlush t v → p ≢ me) → LawfulTranslations w' p cs g
 act-access me c m w w' la le p cs g occ a (one x) n k = shape-access me c m w w' la le p cs g occ a x n k
 act-access me c m w w' la le p cs g occ a (moves v x y held) n k =
     takes-access me c m v w' (unmaps_kept m c w v la x) (act-epochs me c m w v la le (one (unmaps x))) p cs g
     (λ z is. (unmaps_spares m w v la p z.tdr z.vp (occ z is) c x).occupied) (shape-access me c m w v la le p cs g occ a (unmaps x) n k) y
+act-access me c m w w' la le p cs g occ a (page_by_page none x) n k =
+    (by_shapes w w' w Goes (λ v u l y of h. record {
+      epochs = act-epochs me c m v u (l la) h.epochs (one y);
+      occupied = λ z is. (of_pages_spares m v u (l la) p z.tdr z.vp (h.occupied z is) y of).occupied;
+      translations = shape-access me c m v u (l la) h.epochs p cs g h.occupied h.translations y n k;
+    }) (λ l. l) x (record { epochs = le; occupied = occ; translations = a })).translations
+  where
+    Goes : World → Type 0
+    Goes v = GoesOn v p cs g
+
+pub row-access : (o : Opening) (w : World) → Lawful o.machine w → LawfulEpochs w → (p : ℕ) (cs : List Translation) (g : Option Guest)
+    → ((x : Guest) → g ≡ Some x → IsOccupied w p x.tdr x.vp) → LawfulTranslations w p cs g
+    → (me : ℕ) (c : Call) → Passes ((row_of o me c).items w) → ((t v most : ℕ) → c ≡ call.VpEnter t v most → p ≢ me)
+    → ((t v : ℕ) → c ≡ call.VpFlush t v → p ≢ me) → LawfulTranslations ((row_of o me c).act w) p cs g
+row-access o w la le p cs g occ a me c ps = act-access me c o.machine w ((row_of o me c).act w) la le p cs g occ a (shape_of o me c w ps)
 
 module _ (m : Machine) (w : World) (la : Lawful m w) (le : LawfulEpochs w) (p : ℕ) (cs : List Translation) (g : Option Guest) (occ : (x : Guest) → g ≡ Some x → IsOccupied w p x.tdr x.vp) (a : LawfulTranslations w p cs g) where
-  pub row-access : (o : Opening) (me : ℕ) (c : Call) → Passes ((row_of o me c).items w) → ((t v most : ℕ) → c ≡ call.VpEnter t v most → p ≢ me) → ((t v : ℕ) → c ≡ call.VpFlush t v → p ≢ me) → LawfulTranslations ((row_of o me c).act w) p cs g
-  row-access o me c ps = act-access me c m w ((row_of o me c).act w) la le p cs g occ a (shape_of o me c w ps)
-
   -- A page that was PENDING is MAPPED. Nothing that may be used names it.
   pub accept-access : (w' : World) (u n : ℕ) (x : Entry) → is_pending (w.tds.entries u 0 n).state ≡ true
       → w'.pages ≡ w.pages → w'.tds ≡ record (w.tds) { entries = put w.tds.entries u (put_in (w.tds.entries u) 0 n x) }

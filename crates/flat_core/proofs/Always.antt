@@ -149,7 +149,7 @@ module _ (o : Opening) (s : State) (p : ℕ) (lawful : Lawful o.machine s.world)
       subst (λ (x : Option Guest). LawfulTranslations ((row_of o p (call.VpFlush t v)).act w) p (drop_td t lp.cached) x) (sym none)
       (flush-access o p t v w holds.epochs lp.cached ps (subst (λ (x : Option Guest). LawfulTranslations w p lp.cached x) none own))
   own-act (call.HostRead page i) ps en none = own
-  own-act c ps en none = row-access o.machine w lawful holds.epochs p lp.cached lp.guest (λ z i. occ p z i) own o p c ps (λ t v most i. cc) (λ t v i. cc)
+  own-act c ps en none = row-access o w lawful holds.epochs p lp.cached lp.guest (λ z i. occ p z i) own p c ps (λ t v most i. cc) (λ t v i. cc)
 
   -- a call's moves
   of-call : (c : Call) (b : Bool) (phase : Phase Reply) (hs : List Held) → lp.guest ≡ None → lp.call.phase ≡ phase → lp.call.held ≡ hs → IsAfter (OfCall (row_of o p c) (next_in ((row_of o p c).items w) phase hs)) b
@@ -174,7 +174,8 @@ module _ (o : Opening) (s : State) (p : ℕ) (lawful : Lawful o.machine s.world)
       acts e =
           let ps : Passes ((row_of o p c).items w) = passed ((row_of o p c).items w) phase hs e in
           let others : (q : ℕ) → q ≢ p → LawfulTranslations ((row_of o p c).act w) q (s.lps q).cached (s.lps q).guest =
-          λ q n. row-access o.machine w lawful holds.epochs q (s.lps q).cached (s.lps q).guest (λ x i. occ q x i) (holds.each q) o p c ps (λ t v most i. n) (λ t v i. n) in
+          λ q n. row-access o w lawful holds.epochs q (s.lps q).cached (s.lps q).guest (λ x i. occ q x i) (holds.each q) p c ps (λ t v most i. n)
+          (λ t v i. n) in
           elim (enters_or_none o p c) [
             | inl en ↦ (row-epochs o w lawful holds.epochs p c ps, plain ps en, others)
             | inr x ↦ (row-epochs o w lawful holds.epochs p c ps, enters ps x.0 x.1 x.2 x.3, others)

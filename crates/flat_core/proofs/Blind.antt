@@ -32,8 +32,8 @@ use Rattle.flat_core.specs.KeyRows.{write_caches_back, reclaim_conditions, recla
 use Rattle.flat_core.specs.VpRows.{create_vp, initialize_vp, enter_vp, flush_vp}
 use Rattle.flat_core.specs.MemRows.{add_sept, read_sept, add_page, augment_page, remove_page, relocate_page, remove_sept, blocked_state, unblocked_state, block_range, unblock_range, advance_epoch, chunk_bytes, extend}
 use Rattle.flat_core.specs.ExportRows.{add_stream, create_stream, write_blocked, block_write, write_unblocked, is_first_dirt, unblock_write, note_pause, pause, abort_export, one_less, restore}
-use Rattle.flat_core.specs.BundleRows.{export_immutable, export_page, export_token, export_td, export_vp}
-use Rattle.flat_core.specs.ImportRows.{import_immutable, import_page, import_token, import_td, import_vp, commit_import, end_import, abort_import, abort_by_token}
+use Rattle.flat_core.specs.BundleRows.{export_immutable, export_pages, export_token, export_td, export_vp}
+use Rattle.flat_core.specs.ImportRows.{import_immutable, import_pages, import_token, import_td, import_vp, commit_import, end_import, abort_import, abort_by_token}
 use Rattle.flat_core.specs.Exports.{is_dirty}
 use Rattle.flat_core.specs.Tree.{page_of_gpa, number_at, entry_at, same_state}
 use Rattle.flat_core.specs.Table.{row_of}
@@ -42,8 +42,8 @@ use Rattle.flat_core.specs.Alike.{Alike, AreBlind, is_public, is_being_built}
 use Rattle.flat_core.proofs.Tests.{by_test, host_kind, same_self}
 use Rattle.flat_core.proofs.Passed.{TdPassed, td_alive, sept_passed, relocate_passed}
 use Rattle.flat_core.proofs.AlikeParts.{host_public, tds_alike, op_alike, keys_alike, key_alike, vps_alike, hidden_alike, taken_alike, cleared_alike, left_alike, filled_alike, mapped_alike, unmapped_alike, hidden_filled_alike, measured_alike, with_entered, added_alike}
-use Rattle.flat_core.proofs.BundleBlind.{export_immutable-blind, export_page-blind, export_token-blind, export_td-blind, export_vp-blind}
-use Rattle.flat_core.proofs.ImportBlind.{AlikeIn, inputs_agree, import_immutable-blind, import_page-blind, import_token-blind, import_td-blind, import_vp-blind, commit_import-blind, end_import-blind, abort_import-blind, abort_by_token-blind}
+use Rattle.flat_core.proofs.BundleBlind.{export_immutable-blind, export_pages-blind, export_token-blind, export_td-blind, export_vp-blind}
+use Rattle.flat_core.proofs.ImportBlind.{AlikeIn, inputs_agree, import_immutable-blind, import_pages-blind, import_token-blind, import_td-blind, import_vp-blind, commit_import-blind, end_import-blind, abort_import-blind, abort_by_token-blind}
 
 read_alike : (v w : World) (page i : ℕ) → Alike v w
     → value.Number (if is_host_in v.pages page then v.words page i else 0) ≡ value.Number (if is_host_in w.pages page then w.words page i else 0)
@@ -609,13 +609,15 @@ row-blind o q a me (call.ExportPause t) = blind_at o q a.machine (λ m. pause m 
 row-blind o q a me (call.ExportAbort t) = blind_at o q a.machine (λ m. abort_export m t) (abort_export-blind o.machine t)
 row-blind o q a me (call.ExportRestore t gpa) = blind_at o q a.machine (λ m. restore m t gpa) (restore-blind o.machine t gpa)
 row-blind o q a me (call.ExportStateImmutable t slot) = blind_at o q a.machine (λ m. export_immutable m t slot) (export_immutable-blind o.machine t slot)
-row-blind o q a me (call.ExportMem t gpa k slot) = blind_at o q a.machine (λ m. export_page m t gpa k slot) (export_page-blind o.machine t gpa k slot)
+row-blind o q a me (call.ExportMem t gpa k slot) = blind_at o q a.machine (λ m. export_pages m t gpa k slot None)
+    (export_pages-blind o.machine t gpa k slot None)
 row-blind o q a me (call.ExportTrack t slot start) = blind_at o q a.machine (λ m. export_token m t slot start) (export_token-blind o.machine t slot start)
 row-blind o q a me (call.ExportStateTd t slot) = blind_at o q a.machine (λ m. export_td m t slot) (export_td-blind o.machine t slot)
 row-blind o q a me (call.ExportStateVp t vp slot) = blind_at o q a.machine (λ m. export_vp m t vp slot) (export_vp-blind o.machine t vp slot)
 row-blind o q a me (call.ExportAbortByToken t slot) = blind_in o q a slot (λ m b. abort_by_token m b t slot) (λ m b c i. abort_by_token-blind m b c t slot i)
 row-blind o q a me (call.ImportStateImmutable t slot) = blind_in o q a slot (λ m b. import_immutable m b t slot) (λ m b c i. import_immutable-blind m b c t slot i)
-row-blind o q a me (call.ImportMem t slot page) = blind_in o q a slot (λ m b. import_page m b t slot page) (λ m b c i. import_page-blind m b c t slot page i)
+row-blind o q a me (call.ImportMem t slot page) = blind_in o q a slot (λ m b. import_pages m b t slot page None)
+    (λ m b c i. import_pages-blind m b c t slot page None i)
 row-blind o q a me (call.ImportTrack t slot) = blind_in o q a slot (λ m b. import_token m b t slot) (λ m b c i. import_token-blind m b c t slot i)
 row-blind o q a me (call.ImportStateTd t slot) = blind_in o q a slot (λ m b. import_td m b t slot) (λ m b c i. import_td-blind m b c t slot i)
 row-blind o q a me (call.ImportStateVp t vp slot) = blind_in o q a slot (λ m b. import_vp m b t vp slot) (λ m b c i. import_vp-blind m b c t vp slot i)

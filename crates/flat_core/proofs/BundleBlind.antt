@@ -1,7 +1,7 @@
 -- Each row that makes a bundle asks and answers the same in two worlds that differ in private words alone, and keeps them
 -- so: the bundle has the same header in both, and another payload only where that is private.
 use Rattle.std.proofs.Common.{◌≡◌, refl, sym, ◌∙◌, subst, ap, ℕ, zero, suc, ◌+◌, ◌%◌, ◌^◌, List, [], ◌∷◌, ◌++◌, length, map, get_or, if◌then◌else◌}
-use Rattle.std.specs.Prelude.{Ok}
+use Rattle.std.specs.Prelude.{Ok, Option, flat_map}
 use Rattle.std.specs.List.{range_with_len, sum_by}
 use Rattle.std.proofs.lemmas.List.{map-append}
 use Rattle.td_words.specs.declared.names.EntryState.{EntryState}
@@ -15,9 +15,11 @@ use Rattle.flat_core.specs.Opening.{blind_words, public_bundle}
 use Rattle.flat_core.specs.Digests.{six_words}
 use Rattle.flat_core.specs.Tree.{number_at, entry_at}
 use Rattle.flat_core.specs.Effects.{put_in, set_op, restate}
-use Rattle.flat_core.specs.Sessions.{stream_page, About, about, header_of, make_bundle, put_all, begin_session, set_mig_epoch, count_export, note_td_export, note_vp_export}
-use Rattle.flat_core.specs.BundleRows.{export_immutable, tracked_in, export_page, start_epoch, export_token, export_td, export_vp}
+use Rattle.flat_core.specs.Sessions.{stream_page, payload_words, About, about, header_of, make_bundle, put_all, begin_session, set_mig_epoch, count_export, note_td_export, note_vp_export}
+use Rattle.flat_core.specs.BundleRows.{export_immutable, page_to_export, latest_block, tracked_in, words_of_pages, export_page, export_each, export_pages, start_epoch, export_token, export_td, export_vp}
+use Rattle.flat_core.specs.PageLists.{page_count, bundle_version, count_said, gpas_from}
 use Rattle.flat_core.specs.Alike.{Alike, AreBlind}
+use Rattle.flat_core.proofs.PageLists.{made_first}
 use Rattle.flat_core.proofs.AlikeParts.{tds_alike, op_alike, vps_alike}
 
 -- a private payload's words are all 0 to others
@@ -123,28 +125,67 @@ counted_alike v w t k r s e a = record {
   bundles = a.bundles;
 }
 
-tracked_alike : (o : OpState) (v w : World) (t p : ℕ) → Alike v w → tracked_in o v t p ≡ tracked_in o w t p
-tracked_alike op.LiveExport v w t p a = rw (a.pages, a.tds, a.vps) refl
-tracked_alike _ v w t p a = refl
+-- each page that EXPORT.MEM asks for, and the latest of their blocks
+latest_alike : (v w : World) (t : ℕ) (gpas : List ℕ) → Alike v w → latest_block v t gpas ≡ latest_block w t gpas
+latest_alike v w t [] a = refl
+latest_alike v w t (gpa ∷ []) a = rw (a.pages, a.tds) refl
+latest_alike v w t (gpa ∷ next ∷ gpas) a = let rest = latest_alike v w t (next ∷ gpas) a in rw (rest, a.pages, a.tds) refl
 
-pub export_page-blind : (m : Machine) (t gpa k slot : ℕ) → AreBlind m (export_page m t gpa k slot) (export_page m t gpa k slot)
-export_page-blind m t gpa k slot = record {
+tracked_alike : (o : OpState) (v w : World) (t : ℕ) (gpas : List ℕ) → Alike v w → tracked_in o v t gpas ≡ tracked_in o w t gpas
+tracked_alike op.LiveExport v w t gpas a = let latest = latest_alike v w t gpas a in rw (latest, a.tds, a.vps) refl
+tracked_alike _ v w t gpas a = refl
+
+pages_alike : (v w : World) (t : ℕ) (gpas : List ℕ) → Alike v w → flat_map (page_to_export v t) gpas ≡ flat_map (page_to_export w t) gpas
+pages_alike v w t [] a = refl
+pages_alike v w t (gpa ∷ gpas) a = let rest = pages_alike v w t gpas a in rw (rest, a.tds) refl
+
+-- a private payload's words are all 0 to others, page by page
+zero_pages : (v w : World) (t : ℕ) (gpas : List ℕ) → map {B = ℕ} (λ x. 0) (words_of_pages v t gpas) ≡ map {B = ℕ} (λ x. 0) (words_of_pages w t gpas)
+zero_pages v w t [] = refl
+zero_pages v w t (gpa ∷ []) = same_zeros (v.words (entry_at v t 0 gpa).page) (w.words (entry_at w t 0 gpa).page) (range_with_len 0 512)
+zero_pages v w t (gpa ∷ next ∷ gpas) =
+    let xs : List ℕ = payload_words (v.words (entry_at v t 0 gpa).page) 512 in
+    let ys : List ℕ = payload_words (w.words (entry_at w t 0 gpa).page) 512 in
+    map-append (λ (x : ℕ). 0) xs (words_of_pages v t (next ∷ gpas))
+    ∙ (ap (λ (zs : List ℕ). zs ++ map {B = ℕ} (λ x. 0) (words_of_pages v t (next ∷ gpas)))
+    (same_zeros (v.words (entry_at v t 0 gpa).page) (w.words (entry_at w t 0 gpa).page) (range_with_len 0 512))
+    ∙ (ap (λ (zs : List ℕ). map {B = ℕ} (λ x. 0) ys ++ zs) (zero_pages v w t (next ∷ gpas)) ∙ sym
+    (map-append (λ (x : ℕ). 0) ys (words_of_pages w t (next ∷ gpas)))))
+
+-- the entry of a page that is exported
+abbrev with_entry : Tds → (t number : ℕ) → Tds
+with_entry x t n = record x {
+  entries = put x.entries t
+      (put_in (x.entries t) 0 n (record { state = entry.ExportedBlockedW; page = (x.entries t 0 n).page; mark = x.mig_epochs t }));
+}
+
+each_alike : (t k : ℕ) (gpas : List ℕ) (v w : World) → Alike v w → Alike (export_each t k gpas v) (export_each t k gpas w)
+each_alike t k [] v w a = a
+each_alike t k (gpa ∷ gpas) v w a =
+    let n : ℕ = number_at 0 gpa in
+    let v1 : World = restate t n entry.ExportedBlockedW (v.tds.mig_epochs t) v in
+    let w1 : World = restate t n entry.ExportedBlockedW (w.tds.mig_epochs t) w in
+    let a1 : Alike v1 w1 = tds_alike v w a (λ x. with_entry x t n) (λ x. refl) in
+    each_alike t k gpas (export_page t k gpa v) (export_page t k gpa w)
+    (counted_alike v1 w1 t k (entry_at v t 0 gpa).state (entry_at w t 0 gpa).state (ap (λ (x : Tds). (x.entries t 0 n).state) a.tds) a1)
+
+pub export_pages-blind : (m : Machine) (t gpa k slot : ℕ) (count : Option ℕ)
+    → AreBlind m (export_pages m t gpa k slot count) (export_pages m t gpa k slot count)
+export_pages-blind m t gpa k slot count = record {
   enters = refl;
-  items = λ v w a. (let tracked = tracked_alike (v.tds.ops t) v w t (entry_at v t 0 gpa).page a in rw (tracked, a.pages, a.tds, a.streams) refl);
+  items = λ v w a.
+      let gpas : List ℕ = gpas_from gpa (page_count count) in
+      let tracked = tracked_alike (v.tds.ops t) v w t gpas a in
+      let each = pages_alike v w t gpas a in
+      rw (tracked, each, a.pages, a.tds, a.streams) refl;
   value = λ v w a. refl;
   cached = λ v w ts a. refl;
   act = λ v w lv lw a ps.
-      let n : ℕ = number_at 0 gpa in
-      let v1 : World = restate t n entry.ExportedBlockedW (v.tds.mig_epochs t) v in
-      let w1 : World = restate t n entry.ExportedBlockedW (w.tds.mig_epochs t) w in
-      let a1 : Alike v1 w1 = tds_alike v w a
-      (λ x. record x { entries = put x.entries t (put_in (x.entries t) 0 n (record { state = entry.ExportedBlockedW; page = (x.entries t 0 n).page; mark = x.mig_epochs t })) }) (λ x. refl) in
-      let s : EntryState = (entry_at v t 0 gpa).state in
-      let r : EntryState = (entry_at w t 0 gpa).state in
-      bundle_alike (count_export t k s v1) (count_export t k r w1) t slot _ _ _ _
-      (ap (λ (x : Tds). record (about 3 (x.mig_epochs t)) { stream = k; gpa = gpa }) a.tds)
-      (counted_alike v1 w1 t k s r (ap (λ (x : Tds). (x.entries t 0 n).state) a.tds) a1)
-      (same_zeros (v.words (entry_at v t 0 gpa).page) (w.words (entry_at w t 0 gpa).page) (range_with_len 0 512));
+      let gpas : List ℕ = gpas_from gpa (page_count count) in
+      each_alike t k gpas (made_first t gpa k slot count v) (made_first t gpa k slot count w)
+      (bundle_alike v w t slot _ _ (words_of_pages v t gpas) (words_of_pages w t gpas)
+      (ap (λ (x : Tds). record (about 3 (x.mig_epochs t)) { version = bundle_version count; stream = k; info = count_said count; gpa = gpa }) a.tds) a
+      (zero_pages v w t gpas));
 }
 
 -- a token

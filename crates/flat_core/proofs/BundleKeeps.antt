@@ -1,5 +1,6 @@
 -- Each row that makes a bundle keeps what every world keeps.
-use Rattle.std.proofs.Common.{lit<, lit≤, ◌≡◌, ◌≢◌, refl, sym, ◌∙◌, subst, ap, ℕ, zero, suc, ◌+◌, ◌-◌, ◌%◌, ◌^◌, ◌<◌, ◌≤◌, List, length, get_or, Bool, true, false, not, if◌then◌else◌, ◌==◌, nat_lt, arith}
+use Rattle.std.proofs.Common.{lit<, lit≤, ◌≡◌, ◌≢◌, refl, sym, ◌∙◌, subst, ap, ℕ, zero, suc, ◌+◌, ◌-◌, ◌*◌, ◌%◌, ◌^◌, ◌<◌, ◌≤◌, List, length, get_or, Bool, true, false, not, if◌then◌else◌, ◌==◌, nat_lt, arith}
+use Rattle.std.specs.Prelude.{Option}
 use Rattle.std.specs.List.{list_any, sum_by}
 use Rattle.std.proofs.lemmas.Bool.{eqb-true, eqb-false, ne_eqb, and_parts, ltb-true}
 use Rattle.td_words.specs.declared.names.PageKind.TheVariants as kind
@@ -7,30 +8,33 @@ use Rattle.td_words.specs.declared.names.OpState.{OpState}
 use Rattle.td_words.specs.declared.names.OpState.TheVariants as op
 use Rattle.td_words.specs.declared.names.EntryState.TheVariants as entry
 use Rattle.td_words.specs.declared.machines.Machine.{Machine}
+use Rattle.td_words.specs.NameNumber.{op_number}
 use Rattle.td_words.specs.Packing.{Entry, is_lawful_entry, is_exported}
 use Rattle.flat_core.specs.World.{World, Pages, Tds, Streams, put}
 use Rattle.flat_core.specs.Row.{Passes}
 use Rattle.flat_core.specs.Locks.{one_if}
 use Rattle.flat_core.specs.Tree.{number_at, entry_at}
 use Rattle.flat_core.specs.Exports.{is_dirty, entries_where}
+use Rattle.flat_core.specs.PageLists.{most_pages, page_count, gpas_from}
 use Rattle.flat_core.specs.Sessions.{stream_page, stream_counter, unrestored_count, About, make_bundle, put_all, begin_session, set_mig_epoch, note_td_export, note_vp_export}
 use Rattle.flat_core.specs.ExportRows.{abortable_ops}
-use Rattle.flat_core.specs.BundleRows.{session_ops, paused_ops, export_immutable, exportable, export_page, start_epoch, track_export, export_token, export_td, export_vp}
+use Rattle.flat_core.specs.BundleRows.{session_ops, paused_ops, export_immutable, about_pages, words_of_pages, export_page, export_pages, start_epoch, track_export, export_token, export_td, export_vp}
 use Rattle.flat_core.specs.Lawful.{IsAlive, all_differ, LawfulStreams, Lawful, RowKeeps, is_free, is_node, is_exporting}
 use Rattle.flat_core.proofs.Tests.{by_test, same_self, put_here}
 use Rattle.flat_core.proofs.Exports.{IsCounted, counts_of, counted_still, counted_on, none_dirty_of}
 use Rattle.flat_core.proofs.Parts.{untouched, streams_kept, session_at, sessions_of, same_shape, session_kept, built_kept, op_kept}
 use Rattle.flat_core.proofs.Streams.{stream_owned, sum_same, sum_without, sum_zero, sum_raised, page_among, stream_among, none_elsewhere}
+use Rattle.flat_core.proofs.PageLists.{list_fits, gpas_apart, MayExport, each_exported, made_first, made_may, each_leaves}
 use Rattle.flat_core.proofs.EntryStates.{with_entry, counted_entry_kept, moved, others_counted}
 use Rattle.flat_core.proofs.Numbers.{few_where}
-use Rattle.flat_core.proofs.Ranges.{begun_of, paused_exporting, abortable_exporting, export_passed, entry_alive, can_export}
-use Rattle.flat_core.proofs.Passed.{TdPassed, td_alive}
+use Rattle.flat_core.proofs.Ranges.{begun_of, paused_exporting, abortable_exporting, can_export}
+use Rattle.flat_core.proofs.Passed.{TdPassed, td_alive, export_passed}
 
--- one more at a page, on both sides or on the greater one
-more_each : (f g : ℕ → ℕ) → ((q : ℕ) → f q ≤ g q) → (p q : ℕ) → put f p (f p + 1) q ≤ put g p (g p + 1) q
-more_each f g e p q = by_test (q == p) (λ y. (let h = e p in rw y (omega (arith, h)))) (λ n. rw n (e q))
+-- one more at a page, where there is room; and a bundle more makes room for as many pages as it may have
+one_more : (f g : ℕ → ℕ) → ((q : ℕ) → f q ≤ most_pages * g q) → (p : ℕ) → f p + 1 ≤ most_pages * g p → (q : ℕ) → put f p (f p + 1) q ≤ most_pages * g q
+one_more f g e p room q = by_test (q == p) (λ y. (let same = ap g (eqb-true q p y) in rw y (omega (arith, room, same)))) (λ n. rw n (e q))
 
-more_above : (f g : ℕ → ℕ) → ((q : ℕ) → f q ≤ g q) → (p q : ℕ) → f q ≤ put g p (g p + 1) q
+more_above : (f g : ℕ → ℕ) → ((q : ℕ) → f q ≤ most_pages * g q) → (p q : ℕ) → f q ≤ most_pages * put g p (g p + 1) q
 more_above f g e p q = by_test (q == p) (λ y. (let h = e q in let same = ap g (eqb-true q p y) in rw y (omega (arith, h, same)))) (λ n. rw n (e q))
 
 more_below : (f : ℕ → ℕ) → ((q : ℕ) → f q < 2 ^ 32) → (p : ℕ) → f p < 2 ^ 32 - 1 → (q : ℕ) → put f p (f p + 1) q < 2 ^ 32
@@ -93,7 +97,7 @@ module _ (m : Machine) (w : World) (t : ℕ) (l : Lawful m w) (alive : IsAlive w
   put_all_there : (f : ℕ → ℕ) (x : ℕ) → (x == t) ≡ false → IsAlive w.pages w.tds x → sum_by (put_all f (w.tds.streams t) 0) (w.tds.streams x) ≡ sum_by f (w.tds.streams x)
   put_all_there f x n a = sum_same (put_all f (w.tds.streams t) 0) f (w.tds.streams x) (λ q h. (let apart = stream_apart m w l t x q alive a n h in rw apart refl))
 
-  put_all_each : (f g : ℕ → ℕ) → ((q : ℕ) → f q ≤ g q) → (q : ℕ) → put_all f (w.tds.streams t) 0 q ≤ put_all g (w.tds.streams t) 0 q
+  put_all_each : (f g : ℕ → ℕ) → ((q : ℕ) → f q ≤ most_pages * g q) → (q : ℕ) → put_all f (w.tds.streams t) 0 q ≤ most_pages * put_all g (w.tds.streams t) 0 q
   put_all_each f g e q = by_test (list_any (λ p. p == q) (w.tds.streams t)) (λ y. rw y (lit≤ tt)) (λ n. rw n (e q))
 
   begun_here : IsCounted m.pages w.pages now.tds now.streams t
@@ -150,27 +154,18 @@ export_immutable-keeps m t slot = record {
   to_tell = λ w. refl;
 }
 
--- EXPORT.MEM: the entry is exported, as it was before in the session or for the first time, and its stream counts which
+-- EXPORT.MEM: an entry is exported, as it was before in the session or for the first time, and its stream counts which
 abbrev raised : Streams → (p : ℕ) → (again : Bool) → Streams
 raised s p again = record {
-  counters = put s.counters p (s.counters p + 1);
+  counters = s.counters;
   cleaned = if again then put s.cleaned p (s.cleaned p + 1) else s.cleaned;
   first_exports = if again then s.first_exports else put s.first_exports p (s.first_exports p + 1);
 }
 
-raised_lawful : (pages : Pages) (tds : Tds) (s : Streams) (p : ℕ) (again : Bool) → LawfulStreams pages tds s → IsOfBegun pages tds p → s.counters p < 2 ^ 32 - 1 → LawfulStreams pages tds (raised s p again)
-raised_lawful pages tds s p true l begun room = record {
-  counter = more_below s.counters l.counter p room;
-  cleaned = more_each s.cleaned s.counters l.cleaned p;
-  first_exports = more_above s.first_exports s.counters l.first_exports p;
-  uncounted = λ x q a new among. rw (begun x q a new among) (l.uncounted x q a new among);
-}
-raised_lawful pages tds s p false l begun room = record {
-  counter = more_below s.counters l.counter p room;
-  cleaned = more_above s.cleaned s.counters l.cleaned p;
-  first_exports = more_each s.first_exports s.counters l.first_exports p;
-  uncounted = λ x q a new among. rw (begun x q a new among) (l.uncounted x q a new among);
-}
+raised_lawful : (pages : Pages) (tds : Tds) (s : Streams) (p : ℕ) (again : Bool) → LawfulStreams pages tds s → s.cleaned p + 1 ≤ most_pages * s.counters p
+    → s.first_exports p + 1 ≤ most_pages * s.counters p → LawfulStreams pages tds (raised s p again)
+raised_lawful pages tds s p true l clean first = record { counter = l.counter; cleaned = one_more s.cleaned s.counters l.cleaned p clean; first_exports = l.first_exports; uncounted = l.uncounted }
+raised_lawful pages tds s p false l clean first = record { counter = l.counter; cleaned = l.cleaned; first_exports = one_more s.first_exports s.counters l.first_exports p first; uncounted = l.uncounted }
 
 -- what is counted on the stream's TD, and on another
 raised_here : (s : Streams) (ps : List ℕ) (k : ℕ) (again : Bool) → k < length ps → all_differ ps ≡ true
@@ -193,7 +188,7 @@ marked e mark small begun lawful =
 
 module _ (m : Machine) (w : World) (t number k : ℕ) (l : Lawful m w) (alive : IsAlive w.pages w.tds t) (exporting : is_exporting (w.tds.ops t) ≡ true) (few : k < length (w.tds.streams t))
     (used : is_free (w.tds.entries t 0 number).state ≡ false) (low : is_node (w.tds.entries t 0 number).state ≡ false) (dirt : is_dirty (w.tds.entries t 0 number).state ≡ is_exported (w.tds.entries t 0 number).state)
-    (room : w.streams.counters (get_or (w.tds.streams t) k 0) < 2 ^ 32 - 1) where
+    (clean : w.streams.cleaned (get_or (w.tds.streams t) k 0) + 1 ≤ most_pages * w.streams.counters (get_or (w.tds.streams t) k 0)) (first : w.streams.first_exports (get_or (w.tds.streams t) k 0) + 1 ≤ most_pages * w.streams.counters (get_or (w.tds.streams t) k 0)) where
   abbrev old : Entry
   old = w.tds.entries t 0 number
 
@@ -238,22 +233,86 @@ module _ (m : Machine) (w : World) (t number k : ℕ) (l : Lawful m w) (alive : 
       let session = session_at w.tds w.key_table l.sessions t in
       counted_entry_kept m w t 0 number new w.tds.dirtied w.tds.unrestored l used refl (sym low) refl (marked old (w.tds.mig_epochs t) session.1 (session.2 exporting).0) (λ x n. (refl, refl))
       streams
-      (raised_lawful w.pages after w.streams p (is_exported old.state) (streams_kept w.pages w.pages w.tds after w.streams (λ x a. record { kind = a.kind; life = a.life }) (λ x e. e) refl l.streams)
-      (λ x s a. of_begun m w l t k alive (exporting_begun (w.tds.ops t) exporting) few x s (record { kind = a.kind; life = a.life })) room)
+      (raised_lawful w.pages after w.streams p (is_exported old.state)
+      (streams_kept w.pages w.pages w.tds after w.streams (λ x a. record { kind = a.kind; life = a.life }) (λ x e. e) refl l.streams) clean first)
       (counts_of m.pages w.pages after streams (λ x a. by_test (x == t)
       (λ y. subst (λ (z : ℕ). IsCounted m.pages w.pages after streams z) (sym (eqb-true x t y)) exported_here)
       (λ n. exported_there x n a)))
 
-pub export_page-keeps : (m : Machine) (t gpa k slot : ℕ) → RowKeeps m (export_page m t gpa k slot)
-export_page-keeps m t gpa k slot = record {
-  act = λ w l ps.
-      let e : Entry = entry_at w t 0 gpa in
-      let p = export_passed m w t gpa k slot ps in
-      let r = can_export (w.tds.ops t) e.state p.state in
-      let alive = entry_alive w t gpa abortable_ops (exportable (w.tds.ops t)) p in
-      untouched m _ _ refl
-      (page_exported m w t (number_at 0 gpa) k l alive (abortable_exporting (w.tds.ops t) p.op) (ltb-true _ _ (search)) r.used (sym r.same_level) r.dirt (ltb-true _ _ (search)));
-  to_tell = λ w. refl;
+-- what holds from page to page: the TD is exported, and its stream has room to count so many pages more
+pub record MayGoOn (m : Machine) (t k left : ℕ) (w : World) : Type 0 where
+  pub lawful : Lawful m w
+  pub alive : IsAlive w.pages w.tds t
+  pub op : list_any (λ b. op_number b == op_number (w.tds.ops t)) abortable_ops ≡ true
+  pub few : k < length (w.tds.streams t)
+  pub clean : w.streams.cleaned (stream_page w t k) + left ≤ most_pages * w.streams.counters (stream_page w t k)
+  pub first : w.streams.first_exports (stream_page w t k) + left ≤ most_pages * w.streams.counters (stream_page w t k)
+
+raised_by : (s : Streams) (p n : ℕ) (again : Bool) → s.cleaned p + suc n ≤ most_pages * s.counters p → s.first_exports p + suc n ≤ most_pages * s.counters p
+    → ((raised s p again).cleaned p + n ≤ most_pages * s.counters p) × ((raised s p again).first_exports p + n ≤ most_pages * s.counters p)
+raised_by s p n true clean first = (let here = put_here s.cleaned p (s.cleaned p + 1) in omega (arith, clean, here), omega (arith, first))
+raised_by s p n false clean first = (omega (arith, clean), let here = put_here s.first_exports p (s.first_exports p + 1) in omega (arith, first, here))
+
+pub goes_on : (m : Machine) (t k n : ℕ) (w : World) (gpa : ℕ) → MayGoOn m t k (suc n) w → MayExport w t gpa → MayGoOn m t k n (export_page t k gpa w)
+goes_on m t k n w gpa h may =
+    let e : Entry = entry_at w t 0 gpa in
+    let r = can_export (w.tds.ops t) e.state may in
+    let p : ℕ = stream_page w t k in
+    let clean = h.clean in
+    let first = h.first in
+    let more = raised_by w.streams p n (is_exported e.state) clean first in
+    record {
+      lawful = untouched m _ (export_page t k gpa w) refl
+          (page_exported m w t (number_at 0 gpa) k h.lawful h.alive (abortable_exporting (w.tds.ops t) h.op) h.few r.used (sym r.same_level) r.dirt
+          (omega (arith, clean)) (omega (arith, first)));
+      alive = record { kind = h.alive.kind; life = h.alive.life };
+      op = h.op;
+      few = h.few;
+      clean = more.0;
+      first = more.1;
+    }
+
+-- a bundle is made first, and makes room for as many pages as a list has
+pub begins : (m : Machine) (w : World) (t slot : ℕ) (a : About) (payload : List ℕ) (left : ℕ) → Lawful m w → IsAlive w.pages w.tds t
+    → list_any (λ b. op_number b == op_number (w.tds.ops t)) abortable_ops ≡ true
+    → a.stream < length (w.tds.streams t) → stream_counter w t a.stream < 2 ^ 32 - 1 → left ≤ most_pages
+    → MayGoOn m t a.stream left (make_bundle t slot a payload w)
+begins m w t slot a payload left l alive op few room many =
+    let p : ℕ = stream_page w t a.stream in
+    let here = put_here w.streams.counters p (w.streams.counters p + 1) in
+    let clean = l.streams.cleaned p in
+    let first = l.streams.first_exports p in
+    record {
+      lawful = bundle_kept m w t slot a payload l alive (exporting_begun (w.tds.ops t) (abortable_exporting (w.tds.ops t) op)) few room;
+      alive = record { kind = alive.kind; life = alive.life };
+      op = op;
+      few = few;
+      clean = omega (arith, clean, here, many);
+      first = omega (arith, first, here, many);
+    }
+
+-- what the act of EXPORT.MEM keeps: what its bundle does, and then each page
+pub pages_exported : (m : Machine) (w : World) (t gpa k slot : ℕ) (count : Option ℕ) → Lawful m w → Passes ((export_pages m t gpa k slot count).items w)
+    → (P : ℕ → World → Type 0)
+    → ((a : About) (words : List ℕ) (n : ℕ) → a.stream ≡ k → P n (make_bundle t slot a words w))
+    → ((n : ℕ) (v : World) (g : ℕ) → MayGoOn m t k (suc n) v → P (suc n) v → MayExport v t g → P n (export_page t k g v))
+    → MayGoOn m t k 0 ((export_pages m t gpa k slot count).act w) × P 0 ((export_pages m t gpa k slot count).act w)
+pages_exported m w t gpa k slot count l ps P first one =
+    let gpas : List ℕ = gpas_from gpa (page_count count) in
+    let p = export_passed m w t gpa k slot count ps in
+    let about : About = about_pages w t k gpa count in
+    each_exported t k (λ n v. MayGoOn m t k n v × P n v) (λ n v g h may. (goes_on m t k n v g h.0 may, one n v g h.0 h.1 may)) gpas
+    (make_bundle t slot about (words_of_pages w t gpas) w)
+    (gpas_apart gpa (page_count count)) (made_may w t slot about (words_of_pages w t gpas) gpas p.pages) (
+      begins m w t slot about (words_of_pages w t gpas) (length gpas) l (td_alive p.td) p.td.op p.few p.room (list_fits gpa count),
+      first about
+          (words_of_pages w t gpas) (length gpas) refl,
+    )
+
+pub export_pages-keeps : (m : Machine) (t gpa k slot : ℕ) (count : Option ℕ) → RowKeeps m (export_pages m t gpa k slot count)
+export_pages-keeps m t gpa k slot count = record {
+  act = λ w l ps. (pages_exported m w t gpa k slot count l ps (λ n v. Unit {0}) (λ a words n e. tt) (λ n v g h u may. tt)).0.lawful;
+  to_tell = λ w. ap (λ (v : World). v.outgoing.to_tell) (each_leaves t k (gpas_from gpa (page_count count)) (made_first t gpa k slot count w));
 }
 
 -- EXPORT.TRACK: the migration epoch rises, to the start token's at last

@@ -4,8 +4,6 @@ use Rattle.std.proofs.lemmas.Bool.{eqb-true, eqb-false}
 use Rattle.td_words.specs.declared.names.Mode.{Mode}
 use Rattle.td_words.specs.declared.names.Mode.TheVariants.{Shared, Exclusive}
 use Rattle.td_words.specs.declared.names.ReadField.TheVariants as field
-use Rattle.td_words.specs.declared.names.OpState.{OpState}
-use Rattle.td_words.specs.declared.names.OpState.TheVariants as op
 use Rattle.td_words.specs.declared.names.EntryState.TheVariants as entry
 use Rattle.td_words.specs.declared.calls.Call.{Call}
 use Rattle.td_words.specs.declared.calls.Call.TheVariants as call
@@ -21,7 +19,6 @@ use Rattle.flat_core.specs.Conditions.{page_exclusive, host_page}
 use Rattle.flat_core.specs.Tracking.{tracked_page}
 use Rattle.flat_core.specs.KeyRows.{reclaim_conditions}
 use Rattle.flat_core.specs.MemRows.{open_states, blocked_states}
-use Rattle.flat_core.specs.BundleRows.{tracked_in}
 use Rattle.flat_core.specs.Table.{row_of}
 use Rattle.flat_core.specs.Event.{State, Event, OfCall, event_for, line_event, lines_left, calls_of, event, after_event, lp_after, call_lp, succeeded, settled, settle, call_busy, is_granted}
 use Rattle.flat_core.specs.Run.{play}
@@ -31,7 +28,8 @@ use Rattle.flat_core.proofs.Kept.{others_stay}
 use Rattle.flat_core.proofs.Tries.{rows_try_the_same}
 use Rattle.flat_core.proofs.Refused.{after_here, play_grows, no_more, same_last, HasActed, has_entered, Stays, still, over, own_stays}
 use Rattle.flat_core.proofs.Ordered.{MayAnswer, IsOrdered, HoldsFor, ArgumentsHold, walk_ordered, walk_alone_ordered, walk_holds, walk_alone_holds}
-use Rattle.flat_core.proofs.ImportOrdered.{import_immutable-ordered, import_page-ordered, import_token-ordered, import_td-ordered, import_vp-ordered, commit_import-ordered, end_import-ordered, abort_import-ordered, abort_by_token-ordered, import_page-holds}
+use Rattle.flat_core.proofs.ImportOrdered.{import_immutable-ordered, import_token-ordered, import_td-ordered, import_vp-ordered, commit_import-ordered, end_import-ordered, abort_import-ordered, abort_by_token-ordered}
+use Rattle.flat_core.proofs.PagesOrdered.{import_pages-ordered, import_pages-holds, export_pages-ordered, export_pages-holds}
 
 -- how many events a call has in all that is answered so, where its row tries n locks
 abbrev Takes : ℕ → Reply → ℕ → Type 0
@@ -85,10 +83,6 @@ reclaim_ordered : (w : World) (t page : ℕ) (b : Bool) → IsOrdered 1 (reclaim
 reclaim_ordered w t page true = (tt, tt)
 reclaim_ordered w t page false = (tt, tt)
 
-tracked_ordered : (j : ℕ) (s : OpState) (w : World) (t page : ℕ) → IsOrdered j (tracked_in s w t page)
-tracked_ordered j op.LiveExport w t page = (tt, tt)
-tracked_ordered j _ w t page = tt
-
 row_ordered : (o : Opening) (me : ℕ) (c : Call) (w : World) → IsOrdered 0 ((row_of o me c).items w)
 row_ordered o me (call.HostRead page word) w = (refl, (refl, tt))
 row_ordered o me (call.HostWrite page word value) w = (refl, (refl, (tt, tt)))
@@ -128,14 +122,14 @@ row_ordered o me (call.ExportPause t) w = (refl, (tt, (tt, (tt, (tt, tt)))))
 row_ordered o me (call.ExportAbort t) w = (refl, (tt, (tt, (tt, (tt, tt)))))
 row_ordered o me (call.ExportRestore t gpa) w = (refl, (refl, (refl, (tt, (tt, (tt, (tt, (tt, (tt, (tt, (tt, tt)))))))))))
 row_ordered o me (call.ExportStateImmutable t slot) w = (refl, (tt, (tt, (tt, (tt, (tt, (tt, (tt, tt))))))))
-row_ordered o me (call.ExportMem t gpa k slot) w = (refl, (refl, (refl, (refl, (tt, (tt, (tt, (tt, (tt, (tt, (tt, (tt, (tt, (tt, (tt, (tt, tracked_ordered 6 (w.tds.ops t) w t (entry_at w t 0 gpa).page))))))))))))))))
+row_ordered o me (call.ExportMem t gpa k slot) w = export_pages-ordered o.machine t gpa k slot None w
 row_ordered o me (call.ExportTrack t slot zero) w = (refl, (refl, (tt, (tt, (tt, (tt, (tt, (tt, tt))))))))
 row_ordered o me (call.ExportTrack t slot (suc n)) w = (refl, (refl, (tt, (tt, (tt, (tt, (tt, (tt, (tt, tt)))))))))
 row_ordered o me (call.ExportStateTd t slot) w = (refl, (tt, (tt, (tt, (tt, (tt, (tt, tt)))))))
 row_ordered o me (call.ExportStateVp t vp slot) w = (refl, (refl, (refl, (tt, (tt, (tt, (tt, (tt, (tt, (tt, tt))))))))))
 row_ordered o me (call.ExportAbortByToken t slot) w = abort_by_token-ordered o.machine (o.bundles slot) t slot w
 row_ordered o me (call.ImportStateImmutable t slot) w = import_immutable-ordered o.machine (o.bundles slot) t slot w
-row_ordered o me (call.ImportMem t slot page) w = import_page-ordered o.machine (o.bundles slot) t slot page w
+row_ordered o me (call.ImportMem t slot page) w = import_pages-ordered o.machine (o.bundles slot) t slot page None w
 row_ordered o me (call.ImportTrack t slot) w = import_token-ordered o.machine (o.bundles slot) t slot w
 row_ordered o me (call.ImportStateTd t slot) w = import_td-ordered o.machine (o.bundles slot) t slot w
 row_ordered o me (call.ImportStateVp t vp slot) w = import_vp-ordered o.machine (o.bundles slot) t vp slot w
@@ -148,10 +142,6 @@ reclaim_holds : (v w : World) (t page : ℕ) (b : Bool) → ArgumentsHold (recla
 reclaim_holds v w t page true h = (tt, tt)
 reclaim_holds v w t page false h = (tt, tt)
 
-tracked_holds : (s : OpState) (w : World) (t page : ℕ) → ArgumentsHold (tracked_in s w t page)
-tracked_holds op.LiveExport w t page = (tt, tt)
-tracked_holds _ w t page = tt
-
 row_holds : (o : Opening) (me : ℕ) (c : Call) (v w : World) → ArgumentsHold ((row_of o me c).items v) → ArgumentsHold ((row_of o me c).items w)
 row_holds o me (call.PhymemPageReclaim t page) v w h = (h.0, (h.1.0, (tt, (tt, reclaim_holds v w t page (page == t) (search)))))
 row_holds o me (call.MngRd t field.Life) v w h = (h.0, (tt, tt))
@@ -163,10 +153,10 @@ row_holds o me (call.MemSeptRd t gpa level) v w h = search (walk_alone_holds (is
 row_holds o me (call.MemSeptRemove t gpa level) v w h = search (walk_holds (is_passed w t gpa) (levels_above level) (state_in w t gpa level (entry.NlBlocked ∷ []) ∷ named_page w t gpa level Exclusive ∷ empty_below w t gpa level ∷ tracked_page w t (entry_at w t level gpa).page ∷ []) (tt, (tt, (tt, tt))))
 row_holds o me (call.MemRangeBlock t gpa level) v w h = search (walk_holds (is_passed w t gpa) (levels_above level) (state_in w t gpa level open_states ∷ named_page w t gpa level Exclusive ∷ []) (tt, tt))
 row_holds o me (call.MemRangeUnblock t gpa level) v w h = search (walk_holds (is_passed w t gpa) (levels_above level) (state_in w t gpa level blocked_states ∷ named_page w t gpa level Exclusive ∷ tracked_page w t (entry_at w t level gpa).page ∷ []) (tt, (tt, tt)))
-row_holds o me (call.ExportMem t gpa k slot) v w h = search (tracked_holds (w.tds.ops t) w t (entry_at w t 0 gpa).page)
+row_holds o me (call.ExportMem t gpa k slot) v w h = export_pages-holds o.machine t gpa k slot None v w h
 row_holds o me (call.ExportTrack t slot zero) v w h = h
 row_holds o me (call.ExportTrack t slot (suc n)) v w h = h
-row_holds o me (call.ImportMem t slot page) v w h = import_page-holds o.machine (o.bundles slot) t slot page v w h
+row_holds o me (call.ImportMem t slot page) v w h = import_pages-holds o.machine (o.bundles slot) t slot page None v w h
 row_holds o me (call.HostRead page word) v w h = h
 row_holds o me _ v w h = h
 

@@ -10,14 +10,13 @@ use Rattle.td_words.specs.declared.replies.Outcome.{Outcome}
 use Rattle.td_words.specs.declared.replies.Outcome.TheVariants.{Stop, Max}
 use Rattle.td_words.specs.declared.replies.Reply.{Reply}
 use Rattle.td_words.specs.Packing.{Entry}
-use Rattle.flat_core.specs.World.{World, Vps}
+use Rattle.flat_core.specs.World.{World}
 use Rattle.flat_core.specs.Processor.{Held, Phase, Trying, Undoing, Answered, Guest, new_guest, Lp}
 use Rattle.flat_core.specs.Opening.{Opening}
 use Rattle.flat_core.specs.Row.{Passes, OperationRow, after_move, Move, Attempts, Undoes, Refuses, Succeeds, Releases, Rests, next, next_in}
 use Rattle.flat_core.specs.Conditions.{is_associated, is_elsewhere}
 use Rattle.flat_core.specs.Effects.{pass_operation, tell_words}
 use Rattle.flat_core.specs.Guest.{ByRow, operation_of, is_pending_at, reach, walk_level, walk_step, walked_on, walked_entry, goes_on, answered}
-use Rattle.flat_core.specs.Tree.{entry_at}
 use Rattle.flat_core.specs.Inputs.{Input, input_in}
 use Rattle.flat_core.specs.Table.{row_of}
 use Rattle.flat_core.specs.Event.{State, Event, OfCall, OfOperation, Walks, Reaches, Leaves, next_event, after_event, world_after, operation_world, lp_after, call_lp, settled, settle, settled_guest, settle_operation, operation_guest, operation_busy, nothing_more, is_granted}
@@ -28,7 +27,8 @@ use Rattle.flat_core.proofs.Induction.{event_keeps, in_runs}
 use Rattle.flat_core.proofs.Operations.{operation_row, accepted}
 use Rattle.flat_core.proofs.Due.{Due, calls, frees, leaves, stops, fills, operates, walks, reaches, undoes, gives_back, due_event_is}
 use Rattle.flat_core.proofs.Enter.{enters_or_none, passed}
-use Rattle.flat_core.proofs.ImportFills.{fill_vps}
+use Rattle.flat_core.specs.PageLists.{page_count, gpas_from, arrivals}
+use Rattle.flat_core.proofs.PageLists.{made_first, each_leaves, takes_leave}
 
 -- One that nobody else has, and whose own processor has no guest, isn't counted.
 pub not_entered : (s : State) → EnteredAreIn s → (me v : ℕ) → (s.lps me).guest ≡ None → ((p : ℕ) → s.world.vps.associated v ≡ Some p → p ≡ me) → s.world.vps.entered v ≡ None
@@ -58,10 +58,13 @@ row_entered o me (call.VpFlush t v) w x e off ps none h = by_test (x == v)
 row_entered o me (call.ExportTrack t slot zero) w x e off ps none h = (h, refl)
 row_entered o me (call.ExportTrack t slot (suc n)) w x e off ps none h = (h, refl)
 row_entered o me (call.HostRead page i) w x e off ps none h = (h, refl)
+row_entered o me (call.ExportMem t gpa k slot) w x e off ps none h =
+    let same = each_leaves t k (gpas_from gpa (page_count None)) (made_first t gpa k slot None w) in
+    (ap (λ (v : World). v.vps.entered x) (sym same) ∙ h, ap (λ (v : World). v.vps.associated x) same)
 row_entered o me (call.ImportMem t slot page) w x e off ps none h =
     let i : Input = input_in (o.bundles slot) in
-    let same = fill_vps t i.header.gpa page i.words (entry_at w t 0 i.header.gpa).state w in
-    (ap (λ (v : Vps). v.entered x) (sym same) ∙ h, ap (λ (v : Vps). v.associated x) same)
+    let same = takes_leave t (arrivals i.header.gpa page i.words (page_count None)) w in
+    (ap (λ (v : World). v.vps.entered x) (sym same) ∙ h, ap (λ (v : World). v.vps.associated x) same)
 row_entered o me _ w x e off ps none h = (h, refl)
 
 -- an operation changes of virtual processors the position alone

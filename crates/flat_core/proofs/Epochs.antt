@@ -22,7 +22,7 @@ use Rattle.flat_core.specs.Lawful.{Lawful, IsAlive, IsPageOf}
 use Rattle.flat_core.specs.Access.{LawfulEpochs, has_not_run}
 use Rattle.flat_core.proofs.Tests.{by_test, host_kind}
 use Rattle.flat_core.proofs.Trackings.{none_at}
-use Rattle.flat_core.proofs.Shapes.{Aspect, aspect_of, OpGoes, unrun, runs, restored, EpochGoes, stay, begin, Begins, ChangesLife, ChangesOp, Takes, Enters, Advances, Shape, notes, fills, takes, reclaims, unmaps, begins, changes_life, changes_op, changes_vp, enters, flushes, changes_entry, advances, ActShape, one, moves, unmaps_kept}
+use Rattle.flat_core.proofs.Shapes.{Aspect, aspect_of, OpGoes, unrun, runs, restored, EpochGoes, stay, begin, Begins, ChangesLife, ChangesOp, Takes, Enters, Advances, Shape, notes, fills, takes, reclaims, unmaps, begins, changes_life, changes_op, changes_vp, enters, flushes, changes_entry, advances, ActShape, one, moves, page_by_page, by_shapes, unmaps_kept}
 use Rattle.flat_core.proofs.ShapeOf.{shape_of}
 use Rattle.flat_core.proofs.Sparing.{idle_off}
 
@@ -240,9 +240,10 @@ module _ (me : ℕ) (c : Call) (m : Machine) (w w' : World) (la : Lawful m w) (l
   shape-epochs (changes_entry x) = by-aspect _ x.rest refl refl refl refl refl refl refl refl
   shape-epochs (advances x) = by-world _ x.is (advanced-epochs x)
 
-pub act-epochs : (me : ℕ) (c : Call) (m : Machine) (w w' : World) → Lawful m w → LawfulEpochs w → ActShape me c w w' → LawfulEpochs w'
+pub act-epochs : (me : ℕ) (c : Call) (m : Machine) (w w' : World) → Lawful m w → LawfulEpochs w → ActShape m me c w w' → LawfulEpochs w'
 act-epochs me c m w w' la le (one x) = shape-epochs me c m w w' la le x
 act-epochs me c m w w' la le (moves v x y held) = takes-epochs me c m v w' (unmaps_kept m c w v la x) (shape-epochs me c m w v la le (unmaps x)) y
+act-epochs me c m w w' la le (page_by_page none x) = by_shapes w w' w LawfulEpochs (λ v u k y of h. shape-epochs me c m v u (k la) h y) (λ l. l) x le
 
 module _ (o : Opening) (w : World) (la : Lawful o.machine w) (le : LawfulEpochs w) where
   pub row-epochs : (me : ℕ) (c : Call) → Passes ((row_of o me c).items w) → LawfulEpochs ((row_of o me c).act w)

@@ -1,6 +1,6 @@
 -- Each row of an import asks and answers the same where two openings agree, in two worlds that differ in private words alone,
 -- and keeps them so: a bundle that comes in has the same header in both, and another payload only where that is private.
-use Rattle.std.proofs.Common.{◌≡◌, refl, sym, ◌∙◌, subst, ap, ℕ, ◌+◌, List, [], ◌∷◌, ◌++◌, map, Bool, true, false, ◌==◌}
+use Rattle.std.proofs.Common.{◌≡◌, refl, sym, ◌∙◌, subst, ap, ℕ, zero, suc, ◌+◌, List, [], ◌∷◌, ◌++◌, map, Bool, true, false, ◌==◌}
 use Rattle.std.specs.Prelude.{Option, Some, None, option_map, Result, Ok, Err, slice_index_or}
 use Rattle.std.specs.List.{list_any}
 use Rattle.std.proofs.lemmas.Bool.{eq-eqb, eqb-true}
@@ -17,17 +17,20 @@ use Rattle.td_words.specs.declared.replies.Reply.{Reply}
 use Rattle.td_words.specs.NameNumber.{op_number}
 use Rattle.flat_core.specs.World.{World, Tds, Vps, Streams, KeyTable, Made, ClearHeader, put}
 use Rattle.flat_core.specs.Opening.{Incoming, Opening, Agree, is_private_kind, blind_words, blind_bundle, public_bundle}
-use Rattle.flat_core.specs.Row.{Item, Passes}
-use Rattle.flat_core.specs.Tree.{page_of_gpa, number_at, entry_at, same_state}
+use Rattle.flat_core.specs.Row.{Item}
+use Rattle.flat_core.specs.Tree.{page_of_gpa, number_at, entry_at, same_state, walk, state_in}
 use Rattle.flat_core.specs.Effects.{set_page, map_page, begin_memory, set_op}
 use Rattle.flat_core.specs.Sessions.{stream_page, count_bundle, set_mig_epoch}
 use Rattle.flat_core.specs.Inputs.{Input, header_of_input, word_given, input_in, tag_holds}
-use Rattle.flat_core.specs.ImportRows.{filling_ops, begin_import, import_immutable, importable, page_to_fill, fill_page, import_page, is_start, op_then, import_token, give_rtmrs, import_td, give_vp_state, import_vp, note_commit, commit_import, end_import, abort_import, abort_by_token}
+use Rattle.flat_core.specs.PageLists.{page_count, Arrival, arrivals}
+use Rattle.flat_core.specs.ImportRows.{filling_ops, begin_import, import_immutable, importable, page_to_fill, page_filled, pages_to_fill, fill_page, take_in, take_each, import_pages, is_start, op_then, import_token, give_rtmrs, import_td, give_vp_state, import_vp, note_commit, commit_import, end_import, abort_import, abort_by_token}
 use Rattle.flat_core.specs.Lawful.{IsAlive, Lawful, is_free}
 use Rattle.flat_core.specs.Alike.{is_being_built, is_public, Alike, AreBlind}
 use Rattle.flat_core.proofs.Tests.{by_test, host_kind}
-use Rattle.flat_core.proofs.Passed.{TdPassed, td_alive}
+use Rattle.flat_core.proofs.Passed.{td_alive}
 use Rattle.flat_core.proofs.AlikeParts.{tds_alike, op_alike, vps_alike, hidden_alike, mapped_alike}
+use Rattle.flat_core.proofs.PageLists.{AreApart, MayTake, AllMayTake, EachIs, arrivals_apart, still_take, locked_first}
+use Rattle.flat_core.proofs.ImportKeeps.{MayFill, IsInRange, fills_on, take_passed, all_in_range}
 
 -- two inputs that differ in private words alone
 pub record AreAlikeInputs (x y : Input) : Type 0 where
@@ -164,9 +167,10 @@ private_filled v w p f g private a = record {
   bundles = a.bundles;
 }
 
-module _ (m : Machine) (v w : World) (t gpa page : ℕ) (f g : ℕ → ℕ) (rest : List (Item Reply)) (lv : Lawful m v) (alive : IsAlive v.pages v.tds t) (built : is_being_built (v.tds.ops t) ≡ false) (a : Alike v w) where
+module _ (m : Machine) (v w : World) (t : ℕ) (locked : List ℕ) (x y : Arrival) (lv : Lawful m v) (alive : IsAlive v.pages v.tds t)
+    (built : is_being_built (v.tds.ops t) ≡ false) (may : MayTake v t locked x) (a : Alike v w) where
   abbrev number : ℕ
-  number = number_at 0 gpa
+  number = number_at 0 x.gpa
 
   -- a page that an entry of the TD names
   named_private : is_free (v.tds.entries t 0 number).state ≡ false → is_public v.pages v.tds (v.tds.entries t 0 number).page ≡ false
@@ -174,59 +178,101 @@ module _ (m : Machine) (v w : World) (t gpa page : ℕ) (f g : ℕ → ℕ) (res
       let node = (lv.tree.lowest t number alive used).1 in
       rw (node.page.kind, node.page.owner) built
 
-  taken_private : let v1 = map_page page kind.Reg entry.Mapped t 0 number v in is_public v1.pages v1.tds page ≡ false
-  taken_private = by_test (page == page) (λ y. rw y built) (λ n. (let no : true ≡ false = sym (eq-eqb page page refl) ∙ n in cc))
+  taken_private : let v1 = map_page x.page kind.Reg entry.Mapped t 0 number v in is_public v1.pages v1.tds x.page ≡ false
+  taken_private = by_test (x.page == x.page) (λ e. rw e built) (λ n. (let no : true ≡ false = sym (eq-eqb x.page x.page refl) ∙ n in cc))
 
-  mapped_used : (s : EntryState) → list_any (λ b. same_state b s) importable ≡ true → (s ≡ entry.Free → ⊥) → is_free s ≡ false
-  mapped_used entry.Mapped h other = refl
-  mapped_used entry.Free h other = absurd (other refl)
-  mapped_used _ h other = cc
+  filled_alike : (s : EntryState) → (v.tds.entries t 0 number).state ≡ s → list_any (λ b. same_state b s) importable ≡ true
+      → Alike (fill_page t x.gpa x.page x.words s v) (fill_page t x.gpa x.page y.words s w)
+  filled_alike entry.Free is h =
+      private_filled (map_page x.page kind.Reg entry.Mapped t 0 number v)
+      (map_page x.page kind.Reg entry.Mapped t 0 number w) x.page x.words y.words taken_private
+      (mapped_alike v w x.page kind.Reg entry.Mapped t 0 number (host_kind _ (may.host is)) a)
+  filled_alike entry.Mapped is h =
+      let there : Alike (set_page (v.tds.entries t 0 number).page x.words v) (set_page (v.tds.entries t 0 number).page y.words w) =
+      private_filled v w (v.tds.entries t 0 number).page x.words y.words (named_private (ap is_free is)) a in
+      subst (λ (z : Tds). Alike (set_page (v.tds.entries t 0 number).page x.words v) (set_page (z.entries t 0 number).page y.words w)) a.tds there
+  filled_alike _ is h = cc
 
-  filled_alike : (s : EntryState) → (v.tds.entries t 0 number).state ≡ s → list_any (λ b. same_state b s) importable ≡ true → Passes (page_to_fill v t gpa page s ++ rest)
-      → Alike (fill_page t gpa page f s v) (fill_page t gpa page g s w)
-  filled_alike entry.Free is h ps =
-      private_filled (map_page page kind.Reg entry.Mapped t 0 number v) (map_page page kind.Reg entry.Mapped t 0 number w) page f g taken_private
-      (mapped_alike v w page kind.Reg entry.Mapped t 0 number (host_kind _ ps.0) a)
-  filled_alike entry.Mapped is h ps =
-      let there : Alike (set_page (v.tds.entries t 0 number).page f v) (set_page (v.tds.entries t 0 number).page g w) =
-      private_filled v w (v.tds.entries t 0 number).page f g (named_private (ap is_free is)) a in
-      subst (λ (z : Tds). Alike (set_page (v.tds.entries t 0 number).page f v) (set_page (z.entries t 0 number).page g w)) a.tds there
-  filled_alike _ is h ps = cc
+  -- with the entry's state as it is in the second world
+  taken_alike : (z : Arrival) → z.gpa ≡ x.gpa → z.page ≡ x.page → z.words ≡ y.words → Alike (take_in t x v) (take_in t z w)
+  taken_alike z gpa page words =
+      let s : EntryState = (entry_at v t 0 x.gpa).state in
+      let same : (entry_at w t 0 x.gpa).state ≡ s = ap (λ (d : Tds). (d.entries t 0 number).state) (sym a.tds) in
+      let v1 : World = fill_page t x.gpa x.page x.words s v in
+      let w1 : World = fill_page t x.gpa x.page y.words s w in
+      let a1 : Alike v1 w1 = filled_alike s refl may.state in
+      let v2 : World = begin_memory t (page_of_gpa x.gpa) x.words v1 in
+      let w2 : World = begin_memory t (page_of_gpa x.gpa) y.words w1 in
+      let a2 : Alike v2 w2 = hidden_alike v1 w1 a1 v2.hidden w2.hidden in
+      rw (gpa, page, words, same) a2
 
--- the act in the first world, and in the second one with what header and entry are there
-abbrev BothFilled : (t page : ℕ) → (before : ClearHeader) → (v w : World) → (f g : ℕ → ℕ) → ClearHeader → EntryState → Type 0
-BothFilled t page k v w f g h s = Alike
-    (count_bundle t k.stream (begin_memory t (page_of_gpa k.gpa) f (fill_page t k.gpa page f (entry_at v t 0 k.gpa).state v)))
-    (count_bundle t h.stream (begin_memory t (page_of_gpa h.gpa) g (fill_page t h.gpa page g s w)))
+-- two lists of pages that come in: the same GPAs and pages, and any words
+abbrev AreAlikeArrivals : List Arrival → List Arrival → Type 0
+AreAlikeArrivals [] [] = Unit {0}
+AreAlikeArrivals (x ∷ xs) (y ∷ ys) = (y.gpa ≡ x.gpa) × (y.page ≡ x.page) × AreAlikeArrivals xs ys
+AreAlikeArrivals _ _ = ⊥
 
--- they are the same as in the first
-other_filled : (t page : ℕ) (k h : ClearHeader) (v w : World) (f g : ℕ → ℕ) → k ≡ h → Alike v w → BothFilled t page k v w f g k (entry_at v t 0 k.gpa).state → BothFilled t page k v w f g h (entry_at w t 0 h.gpa).state
-other_filled t page k h v w f g e a b =
-    subst (λ (z : ClearHeader). BothFilled t page k v w f g z (entry_at w t 0 z.gpa).state) e
-    (subst (λ (z : Tds). BothFilled t page k v w f g k (z.entries t 0 (number_at 0 k.gpa)).state) a.tds b)
+arrive_alike : (gpa page : ℕ) (f g : ℕ → ℕ) (n : ℕ) → AreAlikeArrivals (arrivals gpa page f n) (arrivals gpa page g n)
+arrive_alike gpa page f g zero = tt
+arrive_alike gpa page f g (suc n) = (refl, refl, arrive_alike (gpa + 4096) (page + 1) (λ i. f (512 + i)) (λ i. g (512 + i)) n)
 
-page_items : (m : Machine) (b c : Option Incoming) (t slot page : ℕ) → AlikeIn b c → (v w : World) → Alike v w → (import_page m b t slot page).items v ≡ (import_page m c t slot page).items w
-page_items m b c t slot page i v w a = rw (a.pages, a.tds, a.streams, i.there, i.fault, i.header, i.tag_right) refl
+all_alike : (m : Machine) (t : ℕ) (xs ys : List Arrival) (v w : World) (locked : List ℕ) → AreAlikeArrivals xs ys → MayFill m t v
+    → AreApart (map (λ x. x.gpa) xs) → AllMayTake v t locked xs → EachIs (IsInRange m) xs → Alike v w
+    → Alike (take_each t xs v) (take_each t ys w)
+all_alike m t [] [] v w locked same h apart may fit a = a
+all_alike m t (x ∷ xs) (y ∷ ys) v w locked same h apart may fit a =
+    all_alike m t xs ys (take_in t x v) (take_in t y w) (page_filled v t x ∷ locked) same.2 (fills_on m t v h locked x may.0 fit.0) apart.1
+    (still_take v t x (page_filled v t x ∷ locked) xs (locked_first (page_filled v t x) locked) apart.0 may.1) fit.1
+    (taken_alike m v w t locked x y h.lawful h.alive (filling (v.tds.ops t) h.op) may.0 a y same.0 same.1 refl)
+all_alike m t [] (y ∷ ys) v w locked same h apart may fit a = absurd same
+all_alike m t (x ∷ xs) [] v w locked same h apart may fit a = absurd same
 
-pub import_page-blind : (m : Machine) (b c : Option Incoming) (t slot page : ℕ) → AlikeIn b c → AreBlind m (import_page m b t slot page) (import_page m c t slot page)
-import_page-blind m b c t slot page i = record {
+-- what is asked of each
+items_alike : (v w : World) (t : ℕ) (xs ys : List Arrival) (locked : List ℕ) → AreAlikeArrivals xs ys → Alike v w → (rest : List (Item Reply))
+    → pages_to_fill v t locked xs rest ≡ pages_to_fill w t locked ys rest
+items_alike v w t [] [] locked same a rest = refl
+items_alike v w t (x ∷ xs) (y ∷ ys) locked same a rest =
+    let behind = items_alike v w t xs ys (page_filled v t x ∷ locked) same.2 a rest in
+    rw (sym a.tds, sym a.pages, same.0, same.1)
+    (ap (λ (more : List (Item Reply)). walk v t x.gpa 0 ++ state_in v t x.gpa 0 importable ∷
+    (page_to_fill v t locked x.gpa x.page (entry_at v t 0 x.gpa).state ++ more)) behind)
+items_alike v w t [] (y ∷ ys) locked same a rest = absurd same
+items_alike v w t (x ∷ xs) [] locked same a rest = absurd same
+
+page_items : (m : Machine) (b c : Option Incoming) (t slot page : ℕ) (count : Option ℕ) → AlikeIn b c → (v w : World) → Alike v w
+    → (import_pages m b t slot page count).items v ≡ (import_pages m c t slot page count).items w
+page_items m b c t slot page count i v w a =
+    let x : Input = input_in b in
+    let y : Input = input_in c in
+    let n : ℕ = page_count count in
+    let end : List (Item Reply) = tag_holds x ∷ [] in
+    let fills : pages_to_fill v t [] (arrivals x.header.gpa page x.words n) end ≡ pages_to_fill w t [] (arrivals y.header.gpa page y.words n) end =
+    subst
+    (λ (h : ClearHeader). pages_to_fill v t [] (arrivals x.header.gpa page x.words n) end ≡ pages_to_fill w t []
+    (arrivals h.gpa page y.words n) end) i.header
+    (items_alike v w t (arrivals x.header.gpa page x.words n) (arrivals x.header.gpa page y.words n) []
+    (arrive_alike x.header.gpa page x.words y.words n) a end) in
+    rw (fills, a.pages, a.tds, a.streams, i.there, i.fault, i.header, i.tag_right) refl
+
+pub import_pages-blind : (m : Machine) (b c : Option Incoming) (t slot page : ℕ) (count : Option ℕ) → AlikeIn b c
+    → AreBlind m (import_pages m b t slot page count) (import_pages m c t slot page count)
+import_pages-blind m b c t slot page count i = record {
   enters = refl;
-  items = page_items m b c t slot page i;
+  items = page_items m b c t slot page count i;
   value = λ v w a. refl;
   cached = λ v w ts a. refl;
   act = λ v w lv lw a ps.
       let x : Input = input_in b in
       let y : Input = input_in c in
-      let gpa : ℕ = x.header.gpa in
-      let s : EntryState = (entry_at v t 0 gpa).state in
-      let td : TdPassed v t filling_ops = search in
-      let v1 : World = fill_page t gpa page x.words s v in
-      let w1 : World = fill_page t gpa page y.words s w in
-      let a1 : Alike v1 w1 = filled_alike m v w t gpa page x.words y.words (tag_holds x ∷ []) lv (td_alive td) (filling (v.tds.ops t) td.op) a s refl (search) (search) in
-      let v2 : World = begin_memory t (page_of_gpa gpa) x.words v1 in
-      let w2 : World = begin_memory t (page_of_gpa gpa) y.words w1 in
-      let a2 : Alike v2 w2 = hidden_alike v1 w1 a1 v2.hidden w2.hidden in
-      other_filled t page x.header y.header v w x.words y.words i.header a (counted_alike v2 w2 t x.header.stream a2);
+      let n : ℕ = page_count count in
+      let p = take_passed m b v t slot page count ps in
+      let all = all_alike m t (arrivals x.header.gpa page x.words n) (arrivals x.header.gpa page y.words n) v w []
+      (arrive_alike x.header.gpa page x.words y.words n)
+      (record { lawful = lv; alive = td_alive p.td; built = p.td.built; op = p.td.op }) (arrivals_apart x.header.gpa page x.words n) p.pages
+      (all_in_range m x.header.gpa page x.words n p.in_machine p.fits) a in
+      let v1 : World = take_each t (arrivals x.header.gpa page x.words n) v in
+      subst (λ (h : ClearHeader). Alike (count_bundle t x.header.stream v1) (count_bundle t h.stream (take_each t (arrivals h.gpa page y.words n) w))) i.header
+      (counted_alike v1 (take_each t (arrivals x.header.gpa page y.words n) w) t x.header.stream all);
 }
 
 -- IMPORT.TRACK

@@ -1,10 +1,9 @@
 -- Each row of an import keeps what every world keeps, whatever bundle has come in.
-use Rattle.std.proofs.Common.{lit<, lit≤, ◌≡◌, ◌≢◌, refl, sym, ◌∙◌, subst, ap, ℕ, ◌-◌, ◌*◌, ◌/◌, ◌%◌, ◌^◌, ◌<◌, ◌≤◌, List, [], ◌∷◌, ◌++◌, length, Bool, true, false, ◌==◌, ◌&&◌, nat_lt, arith}
+use Rattle.std.proofs.Common.{lit<, lit≤, ◌≡◌, ◌≢◌, refl, sym, ◌∙◌, subst, ap, ℕ, zero, suc, ◌+◌, ◌-◌, ◌*◌, ◌%◌, ◌^◌, ◌<◌, ◌≤◌, List, [], ◌∷◌, ◌++◌, length, Bool, true, false, ◌==◌, ◌&&◌, nat_lt, arith}
 use Rattle.std.specs.Prelude.{Option, Some, None, Result, Ok, Err, nat_le}
 use Rattle.std.specs.List.{list_any}
 use Rattle.std.proofs.Math.Nat.{lt_of_le_of_lt, div-mul-le_self}
-use Rattle.std.proofs.lemmas.Bool.{eqb-true, and_parts, ltb-true}
-use Rattle.std.proofs.lemmas.Bool.Decides.{nat_tests}
+use Rattle.std.proofs.lemmas.Bool.{eq-eqb, eqb-true, and_parts, ltb-true, leb-true, le-leb}
 use Rattle.td_words.specs.declared.names.PageKind.TheVariants as kind
 use Rattle.td_words.specs.declared.names.OpState.{OpState}
 use Rattle.td_words.specs.declared.names.OpState.TheVariants as op
@@ -17,27 +16,30 @@ use Rattle.td_words.specs.NameNumber.{op_number}
 use Rattle.flat_core.specs.World.{World, Tds, ClearHeader, put}
 use Rattle.flat_core.specs.Opening.{Incoming}
 use Rattle.flat_core.specs.Row.{Item, Passes}
-use Rattle.flat_core.specs.Arguments.{level_size}
-use Rattle.flat_core.specs.Tree.{page_of_gpa, number_at, entry_at}
-use Rattle.flat_core.specs.Effects.{set_op, begin_memory, map_page}
+use Rattle.flat_core.specs.Arguments.{level_size, apart_argument}
+use Rattle.flat_core.specs.Tree.{number_at, entry_at}
+use Rattle.flat_core.specs.Effects.{set_op, map_page}
 use Rattle.flat_core.specs.Sessions.{stream_page, stream_counter, count_bundle, set_mig_epoch}
-use Rattle.flat_core.specs.Inputs.{Input, has_values, has_no_fault, fault_of_input, header_of_input, input_in, most_info, most_gpa, tag_holds}
-use Rattle.flat_core.specs.ImportRows.{first_ops, filling_ops, td_state_ops, vp_state_ops, commit_ops, late_ops, given_up_ops, sent_ops, begin_import, import_immutable, page_to_fill, fill_page, import_page, is_start, import_token_ops, op_then, import_token, give_rtmrs, import_td, import_vp, note_commit, commit_import, end_import, abort_import, abort_by_token}
+use Rattle.flat_core.specs.Inputs.{Input, has_values, has_no_fault, fault_of_input, header_of_input, input_in, is_list, fits_version, most_info, most_gpa, input_row, tag_holds}
+use Rattle.flat_core.specs.PageLists.{most_pages, page_count, count_argument, pages_argument, Arrival, arrivals}
+use Rattle.flat_core.specs.ImportRows.{first_ops, filling_ops, td_state_ops, vp_state_ops, commit_ops, late_ops, given_up_ops, sent_ops, begin_import, import_immutable, fill_page, take_in, take_each, list_says, import_conditions, import_pages, is_start, import_token_ops, op_then, import_token, give_rtmrs, import_td, import_vp, note_commit, commit_import, end_import, abort_import, abort_by_token}
 use Rattle.flat_core.specs.Lawful.{IsAlive, Lawful, RowKeeps, is_free, is_exporting, is_importing, most_vps}
-use Rattle.flat_core.proofs.Tests.{by_test, tdr_kind, host_kind, same_self}
+use Rattle.flat_core.proofs.Tests.{by_test, host_kind, range_of, same_self}
 use Rattle.flat_core.proofs.Exports.{counts_of}
 use Rattle.flat_core.proofs.Parts.{untouched, streams_kept, sessions_kept, sessions_of, session_at, same_shape, built_kept, op_kept, new_kept, built_other}
 use Rattle.flat_core.proofs.Maps.{map_kept}
+use Rattle.flat_core.proofs.PageLists.{passes_first, passes_behind, arrivals_apart, MayTake, AllMayTake, all_may_take, EachIs, each_taken, TakenAs, takes_leave}
 use Rattle.flat_core.proofs.Streams.{stream_among}
 use Rattle.flat_core.proofs.Ranges.{begun_of}
-use Rattle.flat_core.proofs.Passed.{TdPassed, td_alive, lowest_above}
-use Rattle.flat_core.proofs.ImportFills.{fill_tells}
-use Rattle.flat_core.proofs.BundleKeeps.{IsOfBegun, of_begun, counted_bundle}
+use Rattle.flat_core.proofs.Passed.{TdPassed, td_alive}
+use Rattle.flat_core.proofs.BundleKeeps.{of_begun, counted_bundle}
 
 -- what the values of a header in form are bounded by
 pub record IsInForm (h : ClearHeader) : Type 0 where
-  pub info : h.info ≤ most_info h.kind
+  pub info : h.kind ≢ 3 → h.info ≤ most_info h.kind
   pub gpa : h.gpa ≤ most_gpa h.kind
+  pub aligned : h.gpa % 4096 ≡ 0
+  pub list : is_list h ≡ true → h.gpa + 4096 * h.info ≤ 2 ^ 47
   pub counter : h.counter < 2 ^ 32
   pub epoch : h.epoch < 2 ^ 32
   pub session : h.session < 2 ^ 16
@@ -46,17 +48,32 @@ pub in_form : (h : ClearHeader) → has_values h ≡ true → IsInForm h
 in_form h e =
     let a = and_parts (nat_le h.stream _) _ e in
     let b = and_parts (nat_le h.index _) _ a.1 in
-    let c = and_parts (nat_le h.info (most_info h.kind)) _ b.1 in
-    let d = and_parts (nat_le h.gpa (most_gpa h.kind)) _ c.1 in
-    let f = and_parts (h.gpa % 4096 == 0) _ d.1 in
+    let c = and_parts (fits_version h) _ b.1 in
+    let f = and_parts (h.gpa % 4096 == 0) _ c.1 in
     let g = and_parts (nat_lt h.counter (2 ^ 32)) _ f.1 in
     let i = and_parts (h.iv == h.counter) _ g.1 in
     let j = and_parts (nat_lt h.epoch (2 ^ 32)) _ i.1 in
     let k = and_parts (nat_le 1 h.session) _ j.1 in
-    record { info = few h.info (most_info h.kind) c.0; gpa = few h.gpa (most_gpa h.kind) d.0; counter = ltb-true _ _ g.0; epoch = ltb-true _ _ j.0; session = ltb-true _ _ k.1 }
+    record {
+      info = λ other. by_test (is_list h) (λ y. absurd (other (eqb-true _ 3 (and_parts (h.version == 2) (h.kind == 3) y).1))) (λ n. (one n c.0).0);
+      gpa = by_test (is_list h) (λ y. few (list y c.0) (eqb-true _ 3 (and_parts (h.version == 2) (h.kind == 3) y).1)) (λ n. (one n c.0).1);
+      aligned = eqb-true _ 0 f.0;
+      list = λ y. (list y c.0).1;
+      counter = ltb-true _ _ g.0;
+      epoch = ltb-true _ _ j.0;
+      session = ltb-true _ _ k.1;
+    }
   where
-    few : (a b : ℕ) → nat_le a b ≡ true → a ≤ b
-    few a b h = grind (arith, nat_tests)
+    list : is_list h ≡ true → fits_version h ≡ true → (1 ≤ h.info) × (h.gpa + 4096 * h.info ≤ 2 ^ 47)
+    list y fit =
+        let parts = and_parts (nat_le 1 h.info) _ (rw y at fit) in
+        (leb-true 1 h.info parts.0, leb-true _ _ (and_parts (nat_le h.info most_pages) _ parts.1).1)
+
+    one : is_list h ≡ false → fits_version h ≡ true → (h.info ≤ most_info h.kind) × (h.gpa ≤ most_gpa h.kind)
+    one n fit = let parts = and_parts (nat_le h.info (most_info h.kind)) _ (rw n at fit) in (leb-true _ _ parts.0, leb-true _ _ parts.1)
+
+    few : (1 ≤ h.info) × (h.gpa + 4096 * h.info ≤ 2 ^ 47) → h.kind ≡ 3 → h.gpa ≤ most_gpa h.kind
+    few fit k = let some = fit.0 in let end = fit.1 in rw k (omega (arith, some, end))
 
 -- an input that has no fault has such a header
 abbrev pub HasForm : Input → Type 0
@@ -218,13 +235,15 @@ last_imported_kept m w n l = record {
   sessions = sessions_of w.tds _ l.sessions.last_exported (session_at w.tds w.key_table l.sessions);
 }
 
+only_kind : (b : Bool) → list_any (λ z. z) (b ∷ []) ≡ true → b ≡ true
+only_kind true e = refl
+only_kind false e = cc
+
 -- of the first type at most eight are said
 few_expected : (h : ClearHeader) → IsInForm h → list_any (λ k. k == h.kind) (0 ∷ []) ≡ true → h.info ≤ 8
-few_expected h f k = subst (λ (n : ℕ). h.info ≤ most_info n) (sym (eqb-true 0 h.kind (only (0 == h.kind) k))) f.info
-  where
-    only : (b : Bool) → list_any (λ x. x) (b ∷ []) ≡ true → b ≡ true
-    only true e = refl
-    only false e = cc
+few_expected h f k =
+    let is : h.kind ≡ 0 = sym (eqb-true 0 h.kind (only_kind (0 == h.kind) k)) in
+    subst (λ (n : ℕ). h.info ≤ most_info n) is (f.info (λ three. (let no : 0 ≡ 3 = sym is ∙ three in cc)))
 
 pub import_immutable-keeps : (m : Machine) (b : Option Incoming) (t slot : ℕ) → RowKeeps m (import_immutable m b t slot)
 import_immutable-keeps m b t slot = record {
@@ -246,56 +265,155 @@ import_immutable-keeps m b t slot = record {
   to_tell = λ w. refl;
 }
 
--- IMPORT.MEM: the page is taken, or is there already
-fill_keeps_streams : (t gpa page : ℕ) (ws : ℕ → ℕ) (s : EntryState) (w : World) (k : ℕ) → stream_counter (fill_page t gpa page ws s w) t k ≡ stream_counter w t k
-fill_keeps_streams t gpa page ws entry.Free w k = refl
-fill_keeps_streams t gpa page ws _ w k = refl
+-- IMPORT.MEM: each page is taken, or is there already. What its row has asked: of its TD and its bundle, and of each page
+pub record TakePassed (m : Machine) (x : Input) (w : World) (t page : ℕ) (count : Option ℕ) : Type 0 where
+  pub td : TdPassed w t filling_ops
+  pub few : x.header.stream < length (w.tds.streams t)
+  pub pages : AllMayTake w t [] (arrivals x.header.gpa page x.words (page_count count))
+  pub room : stream_counter w t x.header.stream < 2 ^ 32 - 1
+  pub in_machine : page + page_count count ≤ m.pages
+  pub private : (x.header.kind == 3) ≡ true
+  pub fits : x.header.gpa + 4096 * page_count count ≤ 2 ^ 47
 
-fill_of_begun : (t gpa page : ℕ) (ws : ℕ → ℕ) (s : EntryState) (w : World) (k : ℕ) → IsOfBegun w.pages w.tds (stream_page w t k)
-    → IsOfBegun (fill_page t gpa page ws s w).pages (fill_page t gpa page ws s w).tds (stream_page (fill_page t gpa page ws s w) t k)
-fill_of_begun t gpa page ws entry.Free w k h x q a =
-    h x q (record { kind = by_test (x == page) (λ y. absurd (let no : kind.Reg ≡ kind.Tdr = rw y at a.kind in cc)) (λ n. rw n at a.kind); life = a.life })
-fill_of_begun t gpa page ws _ w k h x q a = h x q a
+pub kind_three : (h : ClearHeader) → list_any (λ k. k == h.kind) (3 ∷ []) ≡ true → h.kind ≡ 3
+kind_three h k = sym (eqb-true 3 h.kind (only_kind (3 == h.kind) k))
 
--- a GPA of the form's is one of the map's
-mapped_range : (h : ClearHeader) → IsInForm h → list_any (λ k. k == h.kind) (3 ∷ []) ≡ true → number_at 0 h.gpa * level_size 0 < 2 ^ 47
-mapped_range h f k =
-    let most : h.gpa ≤ 2 ^ 47 - 1 = subst (λ (n : ℕ). h.gpa ≤ most_gpa n) (sym (eqb-true 3 h.kind (only (3 == h.kind) k))) f.gpa in
-    lt_of_le_of_lt (div-mul-le_self h.gpa (level_size 0)) (below h.gpa most)
-  where
-    only : (b : Bool) → list_any (λ x. x) (b ∷ []) ≡ true → b ≡ true
-    only true e = refl
-    only false e = cc
+-- the run of pages is in the machine, and the run of GPAs below 2^47
+run_in : (m : Machine) (page t : ℕ) (count : Option ℕ) → page < m.pages → Passes (count_argument 4 count) → Passes (pages_argument m 4 page t count)
+    → page + page_count count ≤ m.pages
+run_in m page t None few a b = omega (arith, few)
+run_in m page t (Some n) few a b =
+    let low : nat_le n most_pages ≡ true = le-leb n most_pages (range_of n most_pages a.0).1 in
+    rw low (leb-true _ _ b.0)
 
-    below : (gpa : ℕ) → gpa ≤ 2 ^ 47 - 1 → gpa < 2 ^ 47
-    below gpa most = omega (arith, most)
+gpas_fit : (h : ClearHeader) (count : Option ℕ) → IsInForm h → h.kind ≡ 3 → Passes (count_argument 4 count) → Passes (list_says h count)
+    → h.gpa + 4096 * page_count count ≤ 2 ^ 47
+gpas_fit h None f k a b =
+    let most : h.gpa ≤ 2 ^ 47 - 1 = subst (λ (n : ℕ). h.gpa ≤ most_gpa n) k f.gpa in let whole = f.aligned in omega (arith, most, whole)
+gpas_fit h (Some n) f k a b =
+    let low : nat_le n most_pages ≡ true = le-leb n most_pages (range_of n most_pages a.0).1 in
+    let end : h.gpa + 4096 * h.info ≤ 2 ^ 47 = f.list (rw (b.0, k) refl) in
+    let same : h.info ≡ n = eqb-true _ n b.1.0 in
+    rw low (omega (arith, end, same))
 
-module _ (m : Machine) (w : World) (t gpa page : ℕ) (ws : ℕ → ℕ) (rest : List (Item Reply)) (l : Lawful m w) (root : w.pages.kinds t ≡ kind.Tdr) (built : (length (w.tds.controls t) == 2) ≡ true)
-    (small : page < m.pages) (range : number_at 0 gpa * level_size 0 < 2 ^ 47)
-    (above : 0 < 3 → is_free (w.tds.entries t 1 (number_at 0 gpa / 512)).state ≡ false) where
-  filled_kept : (s : EntryState) → (entry_at w t 0 gpa).state ≡ s → Passes (page_to_fill w t gpa page s ++ rest) → Lawful m (fill_page t gpa page ws s w)
-  filled_kept entry.Free is ps =
-      untouched m (map_page page kind.Reg entry.Mapped t 0 (number_at 0 gpa) w) _ refl
-      (map_kept m w page t 0 (number_at 0 gpa) entry.Mapped (host_kind _ ps.0) small l root built (ap is_free is) above refl refl refl (lit≤ tt) range)
-  filled_kept _ is ps = untouched m w _ refl l
+pub take_passed : (m : Machine) (b : Option Incoming) (w : World) (t slot page : ℕ) (count : Option ℕ) → Passes ((import_pages m b t slot page count).items w)
+    → TakePassed m (input_in b) w t page count
+take_passed m b w t slot page count ps =
+    let x : Input = input_in b in
+    let h : ClearHeader = x.header in
+    let pages : List Arrival = arrivals h.gpa page x.words (page_count count) in
+    let body : List (Item Reply) = import_conditions w t x pages in
+    let said : List (Item Reply) = input_row x slot (3 ∷ []) ++ (list_says h count ++ body) in
+    let behind_count : List (Item Reply) = apart_argument 3 page t ∷ (pages_argument m 4 page t count ++ said) in
+    let counted = passes_behind (count_argument 4 count) behind_count ps.1.1 in
+    let input = passes_behind (pages_argument m 4 page t count) said counted.1 in
+    let head = passes_behind (list_says h count) body input.1.1.1 in
+    let form : IsInForm h = input_form b input.1.0 in
+    let k : h.kind ≡ 3 = kind_three h input.1.1.0 in
+    let argument = passes_first (count_argument 4 count) behind_count ps.1.1 in
+    record {
+      td = record { root = head.0; life = head.1.0; built = head.1.1.0; op = head.1.1.1.0 };
+      few = ltb-true _ _ head.1.1.1.1.0;
+      pages = (all_may_take w t [] pages (tag_holds x ∷ []) head.1.1.1.1.1.1.1.1).0;
+      room = has_room h.counter (stream_counter w t h.stream) head.1.1.1.1.1.1.1.0;
+      in_machine = run_in m page t count (ltb-true page m.pages ps.1.0) argument (passes_first (pages_argument m 4 page t count) said counted.1);
+      private = eq-eqb h.kind 3 k;
+      fits = gpas_fit h count form k argument (passes_first (list_says h count) body input.1.1.1);
+    }
 
-pub import_page-keeps : (m : Machine) (b : Option Incoming) (t slot page : ℕ) → RowKeeps m (import_page m b t slot page)
-import_page-keeps m b t slot page = record {
+-- of each page: it is in the machine, and its GPA below 2^47
+pub record IsInRange (m : Machine) (a : Arrival) : Type 0 where
+  pub page : a.page < m.pages
+  pub gpa : number_at 0 a.gpa * level_size 0 < 2 ^ 47
+
+pub all_in_range : (m : Machine) (gpa page : ℕ) (words : ℕ → ℕ) (n : ℕ) → page + n ≤ m.pages → gpa + 4096 * n ≤ 2 ^ 47
+    → EachIs (IsInRange m) (arrivals gpa page words n)
+all_in_range m gpa page words zero few low = tt
+all_in_range m gpa page words (suc n) few low = (
+  record { page = omega (arith, few); gpa = lt_of_le_of_lt (div-mul-le_self gpa (level_size 0)) (omega (arith, low)) },
+  all_in_range m (gpa + 4096) (page + 1) (λ i. words (512 + i)) n (omega (arith, few)) (omega (arith, low)),
+)
+
+-- what holds from page to page
+pub record MayFill (m : Machine) (t : ℕ) (w : World) : Type 0 where
+  pub lawful : Lawful m w
+  pub alive : IsAlive w.pages w.tds t
+  pub built : (length (w.tds.controls t) == 2) ≡ true
+  pub op : list_any (λ b. op_number b == op_number (w.tds.ops t)) filling_ops ≡ true
+
+-- no page that is taken is a TDR page
+module _ (t : ℕ) (w : World) (alive : IsAlive w.pages w.tds t) (locked : List ℕ) (a : Arrival) (may : MayTake w t locked a) where
+  page_alive : (s : EntryState) → (entry_at w t 0 a.gpa).state ≡ s → let v = fill_page t a.gpa a.page a.words s w in IsAlive v.pages v.tds t
+  page_alive entry.Free is = record {
+    kind = by_test (t == a.page)
+        (λ y. absurd (let no : kind.Tdr ≡ kind.Nda = sym alive.kind ∙ (ap w.pages.kinds (eqb-true t a.page y) ∙ host_kind _ (may.host is)) in cc))
+        (λ n. rw n alive.kind);
+    life = alive.life;
+  }
+  page_alive _ is = record { kind = alive.kind; life = alive.life }
+
+  pub taken_alive : IsAlive (take_in t a w).pages (take_in t a w).tds t
+  taken_alive = let b = page_alive (entry_at w t 0 a.gpa).state refl in record { kind = b.kind; life = b.life }
+
+module _ (m : Machine) (t : ℕ) (w : World) (h : MayFill m t w) (locked : List ℕ) (a : Arrival) (may : MayTake w t locked a) (fit : IsInRange m a) where
+  abbrev Filled : EntryState → Type 0
+  Filled s = MayFill m t (fill_page t a.gpa a.page a.words s w)
+
+  taken_here : (entry_at w t 0 a.gpa).state ≡ entry.Free → Filled entry.Free
+  taken_here is =
+      let host = host_kind _ (may.host is) in
+      let l : Lawful m w = h.lawful in
+      record {
+        lawful = untouched m (map_page a.page kind.Reg entry.Mapped t 0 (number_at 0 a.gpa) w) _ refl
+            (map_kept m w a.page t 0 (number_at 0 a.gpa) entry.Mapped host fit.page l h.alive.kind h.built (ap is_free is) may.above refl refl refl
+            (lit≤ tt) fit.gpa);
+        alive = page_alive t w h.alive locked a may entry.Free is;
+        built = h.built;
+        op = h.op;
+      }
+
+  filled : (s : EntryState) → (entry_at w t 0 a.gpa).state ≡ s → Filled s
+  filled entry.Free is = taken_here is
+  filled _ is = record { lawful = untouched m w _ refl h.lawful; alive = record { kind = h.alive.kind; life = h.alive.life }; built = h.built; op = h.op }
+
+  pub fills_on : MayFill m t (take_in t a w)
+  fills_on =
+      let s : EntryState = (entry_at w t 0 a.gpa).state in
+      let f : Filled s = filled s refl in
+      record {
+        lawful = untouched m
+            (fill_page t a.gpa a.page a.words s w) _ refl f.lawful;
+        alive = record { kind = f.alive.kind; life = f.alive.life };
+        built = f.built;
+        op = f.op;
+      }
+
+-- what the act of IMPORT.MEM keeps: what each page does
+pub pages_taken : (m : Machine) (x : Input) (w : World) (t page : ℕ) (count : Option ℕ) → Lawful m w → TakePassed m x w t page count → (P : World → Type 0)
+    → P w → ((v : World) (locked : List ℕ) (a : Arrival) → MayFill m t v → P v → MayTake v t locked a → IsInRange m a → P (take_in t a v))
+    → MayFill m t (take_each t (arrivals x.header.gpa page x.words (page_count count)) w) × P (take_each t (arrivals x.header.gpa page x.words (page_count count)) w)
+pages_taken m x w t page count l p P first one =
+    each_taken t (IsInRange m) (λ v. MayFill m t v × P v) (λ v locked a h may fit. (fills_on m t v h.0 locked a may fit, one v locked a h.0 h.1 may fit))
+    (arrivals x.header.gpa page x.words (page_count count)) w [] (arrivals_apart x.header.gpa page x.words (page_count count)) p.pages
+    (all_in_range m x.header.gpa page x.words (page_count count) p.in_machine p.fits)
+    (record { lawful = l; alive = td_alive p.td; built = p.td.built; op = p.td.op }, first)
+
+filling_begun : (s : OpState) → list_any (λ b. op_number b == op_number s) filling_ops ≡ true → s ≢ op.Uninitialized
+filling_begun s h = begun_of filling_ops s refl h
+
+pub import_pages-keeps : (m : Machine) (b : Option Incoming) (t slot page : ℕ) (count : Option ℕ) → RowKeeps m (import_pages m b t slot page count)
+import_pages-keeps m b t slot page count = record {
   act = λ w l ps.
       let x : Input = input_in b in
-      let gpa : ℕ = x.header.gpa in
-      let s : EntryState = (entry_at w t 0 gpa).state in
-      let f : IsInForm x.header = input_form b (search) in
-      let td : TdPassed w t filling_ops = search in
-      let room = has_room x.header.counter (stream_counter w t x.header.stream) (search) in
-      let w1 : World = fill_page t gpa page x.words s w in
-      let l1 : Lawful m w1 =
-      filled_kept m w t gpa page x.words (tag_holds x ∷ []) l (tdr_kind _ td.root) td.built (ltb-true page m.pages (search)) (mapped_range x.header f (search)) (lowest_above w t gpa (search)) s refl (search) in
-      let w2 : World = begin_memory t (page_of_gpa gpa) x.words w1 in
-      let alive = td_alive td in
-      let begun = of_begun m w l t x.header.stream alive (begun_of filling_ops (w.tds.ops t) refl td.op) (ltb-true _ _ (search)) in
-      counted_bundle m w2 (stream_page w2 t x.header.stream) (untouched m w1 w2 refl l1) (fill_of_begun t gpa page x.words s w x.header.stream begun) (subst (λ (n : ℕ). n < 2 ^ 32 - 1) (sym (fill_keeps_streams t gpa page x.words s w x.header.stream)) room);
-  to_tell = λ w. (let x : Input = input_in b in fill_tells t x.header.gpa page x.words (entry_at w t 0 x.header.gpa).state w);
+      let pages : List Arrival = arrivals x.header.gpa page x.words (page_count count) in
+      let p = take_passed m b w t slot page count ps in
+      let h : MayFill m t (take_each t pages w) = (pages_taken m x w t page count l p (λ v. Unit {0}) tt (λ v locked a f u may fit. tt)).0 in
+      let same : TakenAs w (take_each t pages w) ≡ take_each t pages w = sym (takes_leave t pages w) in
+      counted m (take_each t pages w) t x.header.stream h.lawful h.alive (filling_begun ((take_each t pages w).tds.ops t) h.op)
+      (subst (λ (v : World). x.header.stream < length (v.tds.streams t)) same p.few)
+      (subst (λ (v : World). stream_counter v t x.header.stream < 2 ^ 32 - 1) same p.room);
+  to_tell = λ w.
+      (let x : Input = input_in b in ap (λ (v : World). v.outgoing.to_tell) (takes_leave t (arrivals x.header.gpa page x.words (page_count count)) w));
 }
 
 -- IMPORT.TRACK

@@ -1,14 +1,10 @@
 -- In the rows of an import arguments come before all tries, and are the same in every world.
-use Rattle.std.proofs.Common.{refl, ℕ, [], ◌∷◌, ◌++◌, Option}
-use Rattle.td_words.specs.declared.names.EntryState.{EntryState}
-use Rattle.td_words.specs.declared.names.EntryState.TheVariants as entry
+use Rattle.std.proofs.Common.{refl, ℕ, Option}
 use Rattle.td_words.specs.declared.machines.Machine.{Machine}
 use Rattle.flat_core.specs.World.{World}
 use Rattle.flat_core.specs.Opening.{Incoming}
-use Rattle.flat_core.specs.Tree.{entry_at}
-use Rattle.flat_core.specs.Inputs.{Input, input_in, tag_holds}
-use Rattle.flat_core.specs.ImportRows.{page_to_fill, import_immutable, import_page, import_token, import_td, import_vp, commit_import, end_import, abort_import, abort_by_token}
-use Rattle.flat_core.proofs.Ordered.{IsOrdered, ArgumentsHold}
+use Rattle.flat_core.specs.ImportRows.{import_immutable, import_token, import_td, import_vp, commit_import, end_import, abort_import, abort_by_token}
+use Rattle.flat_core.proofs.Ordered.{IsOrdered}
 
 pub import_immutable-ordered : (m : Machine) (b : Option Incoming) (t slot : ℕ) (w : World) → IsOrdered 0 ((import_immutable m b t slot).items w)
 import_immutable-ordered m b t slot w = (refl, (tt, (tt, (tt, (tt, (tt, (tt, (tt, (tt, (tt, (tt, (tt, (tt, tt)))))))))))))
@@ -33,21 +29,3 @@ abort_import-ordered m t slot w = (refl, (tt, (tt, (tt, (tt, tt)))))
 
 pub abort_by_token-ordered : (m : Machine) (b : Option Incoming) (t slot : ℕ) (w : World) → IsOrdered 0 ((abort_by_token m b t slot).items w)
 abort_by_token-ordered m b t slot w = (refl, (tt, (tt, (tt, (tt, (tt, (tt, (tt, (tt, (tt, (tt, tt)))))))))))
-
-fill_ordered : (j : ℕ) (w : World) (t gpa page : ℕ) (x : Input) (s : EntryState) → IsOrdered j (page_to_fill w t gpa page s ++ tag_holds x ∷ [])
-fill_ordered j w t gpa page x entry.Free = (tt, (tt, tt))
-fill_ordered j w t gpa page x _ = (tt, tt)
-
-fill_holds : (w : World) (t gpa page : ℕ) (x : Input) (s : EntryState) → ArgumentsHold (page_to_fill w t gpa page s ++ tag_holds x ∷ [])
-fill_holds w t gpa page x entry.Free = (tt, (tt, tt))
-fill_holds w t gpa page x _ = (tt, tt)
-
-pub import_page-ordered : (m : Machine) (b : Option Incoming) (t slot page : ℕ) (w : World) → IsOrdered 0 ((import_page m b t slot page).items w)
-import_page-ordered m b t slot page w =
-    let x : Input = input_in b in
-    (refl, (refl, (refl, (tt, (tt, (tt, (tt, (tt, (tt, (tt, (tt, (tt, (tt, (tt, (tt, (tt, (tt, (tt, fill_ordered 3 w t x.header.gpa page x (entry_at w t 0 x.header.gpa).state))))))))))))))))))
-
-pub import_page-holds : (m : Machine) (b : Option Incoming) (t slot page : ℕ) (v w : World) → ArgumentsHold ((import_page m b t slot page).items v) → ArgumentsHold ((import_page m b t slot page).items w)
-import_page-holds m b t slot page v w h =
-    let x : Input = input_in b in
-    search (fill_holds w t x.header.gpa page x (entry_at w t 0 x.header.gpa).state)

@@ -45,8 +45,8 @@ use Rattle.flat_core.proofs.Ranges.{begun_of, live_exporting, EntryPassed, livin
 use Rattle.flat_core.proofs.Passed.{TdPassed, td_alive, sept_passed, page_passed, augment_passed, relocate_passed, block_passed, unblock_passed, remove_passed, sept_remove_passed}
 use Rattle.flat_core.proofs.Removals.{empty_at, unmapped_kept}
 use Rattle.flat_core.proofs.Streams.{stream_kept}
-use Rattle.flat_core.proofs.BundleKeeps.{export_immutable-keeps, export_page-keeps, export_token-keeps, export_td-keeps, export_vp-keeps}
-use Rattle.flat_core.proofs.ImportKeeps.{import_immutable-keeps, import_page-keeps, import_token-keeps, import_td-keeps, import_vp-keeps, commit_import-keeps, end_import-keeps, abort_import-keeps, abort_by_token-keeps}
+use Rattle.flat_core.proofs.BundleKeeps.{export_immutable-keeps, export_pages-keeps, export_token-keeps, export_td-keeps, export_vp-keeps}
+use Rattle.flat_core.proofs.ImportKeeps.{import_immutable-keeps, import_pages-keeps, import_token-keeps, import_td-keeps, import_vp-keeps, commit_import-keeps, end_import-keeps, abort_import-keeps, abort_by_token-keeps}
 use Rattle.flat_core.proofs.Parts.{IsLive, LawfulBut, untouched, sessions_of, session_at, sessions_kept, new_kept, write_back_kept, life_kept, flush_kept, op_kept, epoch_kept, begin_kept, measure_kept, end_kept, control_kept, vp_kept, taken_kept, ended_kept, left_kept}
 
 pub host_read-keeps : (m : Machine) (page i : ℕ) → RowKeeps m (host_read m page i)
@@ -666,13 +666,13 @@ row-keeps o me (call.ExportPause t) = pause-keeps o.machine t
 row-keeps o me (call.ExportAbort t) = abort_export-keeps o.machine t
 row-keeps o me (call.ExportRestore t gpa) = restore-keeps o.machine t gpa
 row-keeps o me (call.ExportStateImmutable t slot) = export_immutable-keeps o.machine t slot
-row-keeps o me (call.ExportMem t gpa k slot) = export_page-keeps o.machine t gpa k slot
+row-keeps o me (call.ExportMem t gpa k slot) = export_pages-keeps o.machine t gpa k slot None
 row-keeps o me (call.ExportTrack t slot start) = export_token-keeps o.machine t slot start
 row-keeps o me (call.ExportStateTd t slot) = export_td-keeps o.machine t slot
 row-keeps o me (call.ExportStateVp t vp slot) = export_vp-keeps o.machine t vp slot
 row-keeps o me (call.ExportAbortByToken t slot) = abort_by_token-keeps o.machine (o.bundles slot) t slot
 row-keeps o me (call.ImportStateImmutable t slot) = import_immutable-keeps o.machine (o.bundles slot) t slot
-row-keeps o me (call.ImportMem t slot page) = import_page-keeps o.machine (o.bundles slot) t slot page
+row-keeps o me (call.ImportMem t slot page) = import_pages-keeps o.machine (o.bundles slot) t slot page None
 row-keeps o me (call.ImportTrack t slot) = import_token-keeps o.machine (o.bundles slot) t slot
 row-keeps o me (call.ImportStateTd t slot) = import_td-keeps o.machine (o.bundles slot) t slot
 row-keeps o me (call.ImportStateVp t vp slot) = import_vp-keeps o.machine (o.bundles slot) t vp slot

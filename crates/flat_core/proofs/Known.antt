@@ -20,7 +20,7 @@ use Rattle.flat_core.proofs.Tests.{by_test, host_kind, same_self}
 use Rattle.flat_core.proofs.EntryStates.{entry_set}
 use Rattle.flat_core.proofs.Removals.{other_entry}
 use Rattle.flat_core.proofs.Parts.{IsLive}
-use Rattle.flat_core.proofs.Shapes.{Aspect, aspect_of, IsHeld, Notes, Takes, Shape, notes, fills, takes, reclaims, unmaps, begins, changes_life, changes_op, changes_vp, enters, flushes, changes_entry, advances, ActShape, one, moves, unmaps_kept, owner_reclaimed}
+use Rattle.flat_core.proofs.Shapes.{Aspect, aspect_of, IsHeld, Notes, Takes, Shape, notes, fills, takes, reclaims, unmaps, begins, changes_life, changes_op, changes_vp, enters, flushes, changes_entry, advances, ActShape, one, moves, page_by_page, by_shapes, unmaps_kept, owner_reclaimed}
 
 -- an entry whose page holds memory isn't FREE
 taken : (s : EntryState) → holds_memory s ≡ true → is_free s ≡ false
@@ -210,6 +210,7 @@ module _ (me : ℕ) (c : Call) (m : Machine) (w w' : World) (l : Lawful m w) (h 
   shape_known (changes_entry x) = by_aspect _ x.rest (λ t n k a. restated_known m w l h x.tdr x.level x.number x.then_in x.mark x.same_memory t n (record { kind = k; life = a }))
   shape_known (advances x) = by_world _ x.is (λ t n a. h t n (record { kind = a.kind; life = a.life }))
 
-pub act_known : (me : ℕ) (c : Call) (m : Machine) (w w' : World) → Lawful m w → ArePagesKnown w → ActShape me c w w' → ArePagesKnown w'
+pub act_known : (me : ℕ) (c : Call) (m : Machine) (w w' : World) → Lawful m w → ArePagesKnown w → ActShape m me c w w' → ArePagesKnown w'
 act_known me c m w w' l h (one x) = shape_known me c m w w' l h x
 act_known me c m w w' l h (moves v x y held) = takes_known me c m v w' (unmaps_kept m c w v l x) (shape_known me c m w v l h (unmaps x)) y (held h)
+act_known me c m w w' l h (page_by_page none x) = by_shapes w w' w ArePagesKnown (λ v u k y of h. shape_known me c m v u (k l) h y) (λ l. l) x h

@@ -8,9 +8,11 @@ pub mod Maps
 pub mod Induction
 pub mod GuestWorked
 pub mod ImportWorked
+pub mod ListWorked
 pub mod Operations
 pub mod EntryStates
 pub mod Numbers
+pub mod PageLists
 pub mod Ranges
 pub mod Passed
 pub mod Removals
@@ -41,6 +43,7 @@ pub mod RefusedKeep
 pub mod Replies
 pub mod Ordered
 pub mod ImportOrdered
+pub mod PagesOrdered
 pub mod Counts
 pub mod Entries
 pub mod Entered

@@ -21,7 +21,7 @@ use Rattle.flat_core.specs.Laws.{with_bundles, AreMrtdsTrue, MrtdsAreKept, Every
 use Rattle.flat_core.proofs.Tests.{by_test}
 use Rattle.flat_core.proofs.Mrtd.{records_are_measured}
 use Rattle.flat_core.proofs.Shapes as shape
-use Rattle.flat_core.proofs.Shapes.{Measurement, mrtd_of, IsTrue, Aspect, aspect_of, IsOneOf, Takes, ChangesOp, Shape, ActShape, one, moves}
+use Rattle.flat_core.proofs.Shapes.{Measurement, mrtd_of, IsTrue, Aspect, aspect_of, IsOneOf, Takes, ChangesOp, Shape, ActShape, one, moves, page_by_page, by_shapes}
 use Rattle.flat_core.proofs.ShapeOf.{shape_of}
 use Rattle.flat_core.proofs.Operations.{operation_row, accepted}
 use Rattle.flat_core.proofs.Due.{Due, calls, frees, leaves, stops, fills, operates, walks, reaches, undoes, gives_back, due_event_is}
@@ -64,9 +64,10 @@ module _ (me : ℕ) (c : Call) (m : Machine) (w w' : World) (h : AreMrtdsTrue m 
   shape_true (shape.changes_entry x) = by_aspect _ x.rest h
   shape_true (shape.advances x) = by_world _ x.is h
 
-act_true : (me : ℕ) (c : Call) (m : Machine) (w w' : World) → AreMrtdsTrue m w → ActShape me c w w' → AreMrtdsTrue m w'
+act_true : (me : ℕ) (c : Call) (m : Machine) (w w' : World) → AreMrtdsTrue m w → ActShape m me c w w' → AreMrtdsTrue m w'
 act_true me c m w w' h (one x) = shape_true me c m w w' h x
 act_true me c m w w' h (moves v x y held) = takes_true me c m v w' (shape_true me c m w v h (shape.unmaps x)) y
+act_true me c m w w' h (page_by_page none x) = by_shapes w w' w (AreMrtdsTrue m) (λ v u k y of h. shape_true me c m v u h y) (λ l. l) x h
 
 row_true : (o : Opening) (me : ℕ) (c : Call) (w : World) → AreMrtdsTrue o.machine w → Passes ((row_of o me c).items w) → AreMrtdsTrue o.machine ((row_of o me c).act w)
 row_true o me c w h ps = act_true me c o.machine w ((row_of o me c).act w) h (shape_of o me c w ps)

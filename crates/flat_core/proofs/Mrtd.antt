@@ -1,17 +1,18 @@
 -- MRTD is read as the digest that was stored.
-use Rattle.std.proofs.Common.{lit<, ◌≡◌, refl, sym, ◌∙◌, ap, subst, ℕ, zero, suc, ◌<◌, List, [], ◌++◌, get_or, arith}
+use Rattle.std.proofs.Common.{lit<, ◌≡◌, refl, sym, ◌∙◌, ap, subst, ℕ, zero, suc, ◌<◌, List, [], ◌++◌, get_or, None, arith}
 use Rattle.std.specs.Prelude.{slice_index}
 use Rattle.std.specs.Int.{w64, byte_at, bytes_high_first, from_le_bytes, to_le_bytes, to_be_bytes}
 use Rattle.std.proofs.lemmas.Nat.{le_bytes_8}
 use Rattle.sha2.specs.Sha512.{sha384, digest_bytes as hash_bytes, final_hash, initial_hash_384}
 use Rattle.td_words.specs.declared.replies.Value.TheVariants as value
 use Rattle.td_words.specs.declared.calls.Call.TheVariants as call
+use Rattle.flat_core.specs.World.{World}
 use Rattle.flat_core.specs.Digests.{digest_word, digest_bytes, six_words}
-use Rattle.flat_core.specs.Tree.{entry_at}
 use Rattle.flat_core.specs.Inputs.{Input, input_in}
 use Rattle.flat_core.specs.Laws.{MrtdIsTheDigest, RecordsAreMeasured}
 use Rattle.flat_core.proofs.Tests.{put_here}
-use Rattle.flat_core.proofs.ImportFills.{fill_measured}
+use Rattle.flat_core.specs.PageLists.{page_count, gpas_from, arrivals}
+use Rattle.flat_core.proofs.PageLists.{made_first, each_leaves, takes_leave}
 
 byte_small : (i n : ℕ) → byte_at i n < 256
 byte_small zero n = omega arith
@@ -56,7 +57,8 @@ pub records_are_measured : RecordsAreMeasured
 records_are_measured o me (call.HostRead page i) w t = refl
 records_are_measured o me (call.ExportTrack u slot zero) w t = refl
 records_are_measured o me (call.ExportTrack u slot (suc n)) w t = refl
+records_are_measured o me (call.ExportMem u gpa k slot) w t = ap (λ (v : World). v.tds.measured t)
+    (each_leaves u k (gpas_from gpa (page_count None)) (made_first u gpa k slot None w))
 records_are_measured o me (call.ImportMem u slot page) w t =
-    let x : Input = input_in (o.bundles slot) in
-    ap (λ (f : ℕ → List ℕ). f t) (fill_measured u x.header.gpa page x.words (entry_at w u 0 x.header.gpa).state w)
+    let x : Input = input_in (o.bundles slot) in ap (λ (v : World). v.tds.measured t) (takes_leave u (arrivals x.header.gpa page x.words (page_count None)) w)
 records_are_measured o me _ w t = refl

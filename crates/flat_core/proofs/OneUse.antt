@@ -4,6 +4,7 @@ use Rattle.td_words.specs.declared.names.PageKind.{PageKind}
 use Rattle.td_words.specs.declared.names.PageKind.TheVariants as kind
 use Rattle.td_words.specs.declared.names.Access.{Access}
 use Rattle.td_words.specs.declared.names.Access.TheVariants.{Read, Write}
+use Rattle.td_words.specs.declared.machines.Machine.{Machine}
 use Rattle.td_words.specs.declared.calls.Call.{Call}
 use Rattle.td_words.specs.declared.calls.GuestOp.{GuestOp}
 use Rattle.td_words.specs.declared.replies.Outcome.{Outcome}
@@ -24,7 +25,7 @@ use Rattle.flat_core.proofs.Enter.{all_pass}
 use Rattle.flat_core.proofs.Due.{Due, calls, frees, leaves, stops, fills, operates, walks, reaches, undoes, gives_back, due_event_is}
 use Rattle.flat_core.proofs.Tests.{host_apart}
 use Rattle.flat_core.proofs.Shapes as shape
-use Rattle.flat_core.proofs.Shapes.{Aspect, aspect_of, Takes, Shape, ActShape, one, moves}
+use Rattle.flat_core.proofs.Shapes.{Aspect, aspect_of, Takes, Shape, ActShape, one, moves, page_by_page, by_shapes}
 use Rattle.flat_core.proofs.ShapeOf.{shape_of}
 
 abbrev same_use : (pages : Pages) (p : ℕ) → IsUsedAsBefore pages pages p
@@ -68,12 +69,20 @@ module _ (me : ℕ) (c : Call) (w w' : World) (p : ℕ) (owned : is_host_in w.pa
   shape_uses (shape.changes_entry x) = by_aspect _ x.rest (record { kind = refl; owner = refl; level = refl; number = refl })
   shape_uses (shape.advances x) = by_world _ x.is (same_use w.pages p)
 
-act_uses : (me : ℕ) (c : Call) (w w' : World) (p : ℕ) → is_host_in w.pages p ≡ false → is_given_back c w p ≡ false → ActShape me c w w' → IsUsedAsBefore w.pages w'.pages p
+used_on : (w v u : World) (p : ℕ) → IsUsedAsBefore w.pages v.pages p → IsUsedAsBefore v.pages u.pages p → IsUsedAsBefore w.pages u.pages p
+used_on w v u p a b = record { kind = b.kind ∙ a.kind; owner = b.owner ∙ a.owner; level = b.level ∙ a.level; number = b.number ∙ a.number }
+
+owned_on : (w v : World) (p : ℕ) → IsUsedAsBefore w.pages v.pages p → is_host_in w.pages p ≡ false → is_host_in v.pages p ≡ false
+owned_on w v p a owned = ap (λ (k : PageKind). same_kind k kind.Nda) a.kind ∙ owned
+
+act_uses : {m : Machine} (me : ℕ) (c : Call) (w w' : World) (p : ℕ) → is_host_in w.pages p ≡ false → is_given_back c w p ≡ false → ActShape m me c w w'
+    → IsUsedAsBefore w.pages w'.pages p
 act_uses me c w w' p owned stays (one x) = shape_uses me c w w' p owned stays x
 act_uses me c w w' p owned stays (moves v x y held) =
-    let a = shape_uses me c w v p owned stays (shape.unmaps x) in
-    let b = takes_uses v w' p (ap (λ (k : PageKind). same_kind k kind.Nda) a.kind ∙ owned) y in
-    record { kind = b.kind ∙ a.kind; owner = b.owner ∙ a.owner; level = b.level ∙ a.level; number = b.number ∙ a.number }
+    let a = shape_uses me c w v p owned stays (shape.unmaps x) in used_on w v w' p a (takes_uses v w' p (owned_on w v p a owned) y)
+act_uses me c w w' p owned stays (page_by_page none x) =
+    by_shapes w w' w (λ v. IsUsedAsBefore w.pages v.pages p) (λ v u l y of a. used_on w v u p a (shape_uses me c v u p (owned_on w v p a owned) (none v p) y))
+    (λ l. l) x (same_use w.pages p)
 
 pub one_use : PagesHaveOneUse
 one_use o me c w p ps owned stays = act_uses me c w ((row_of o me c).act w) p owned stays (shape_of o me c w ps)

@@ -1,9 +1,10 @@
 -- What the conditions of a row say that have passed, by name: a record for what many rows ask, and for what stands behind a walk.
 -- `search` finds a record's fields, or one condition, among those of the row, wherever they stand there; so a condition that is
 -- added to a row shifts no proof.
-use Rattle.std.proofs.Common.{◌≡◌, refl, subst, ℕ, suc, ◌/◌, ◌^◌, ◌<◌, List, [], ◌∷◌, length, true, false, not, ◌==◌, nat_lt, arith}
+use Rattle.std.proofs.Common.{◌≡◌, refl, subst, ℕ, suc, ◌-◌, ◌/◌, ◌^◌, ◌<◌, List, [], ◌∷◌, ◌++◌, length, true, false, not, ◌==◌, nat_lt, arith}
+use Rattle.std.specs.Prelude.{Option, flat_map}
 use Rattle.std.specs.List.{list_any}
-use Rattle.std.proofs.lemmas.Bool.{eqb-true, and_parts}
+use Rattle.std.proofs.lemmas.Bool.{eqb-true, and_parts, ltb-true}
 use Rattle.td_words.specs.declared.names.PageKind.{PageKind}
 use Rattle.td_words.specs.declared.names.PageKind.TheVariants as kind
 use Rattle.td_words.specs.declared.names.LifeState.TheVariants as life
@@ -19,9 +20,15 @@ use Rattle.flat_core.specs.Conditions.{same_kind, is_host, is_page_of, host_page
 use Rattle.flat_core.specs.Tracking.{tracked_page, is_tracked}
 use Rattle.flat_core.specs.Tree.{number_at, entry_at, same_state, is_passed, state_in, empty_below}
 use Rattle.flat_core.specs.MemRows.{open_states, blocked_states, removed_states, block_range, unblock_range, remove_page, another_page, relocate_page, remove_sept, add_sept, add_page, augment_page}
+use Rattle.flat_core.specs.Arguments.{aligned_argument}
+use Rattle.flat_core.specs.ExportRows.{abortable_ops}
+use Rattle.flat_core.specs.Sessions.{stream_page, stream_counter, counter_room}
+use Rattle.flat_core.specs.PageLists.{page_count, count_argument, gpas_argument, gpas_from}
+use Rattle.flat_core.specs.BundleRows.{page_to_export, tracked_in, export_conditions, export_pages}
 use Rattle.flat_core.specs.Lawful.{IsAlive, IsPageOf, is_free}
 use Rattle.flat_core.proofs.Tests.{tdr_kind, range_of}
 use Rattle.flat_core.proofs.Maps.{not_free, walk_passed}
+use Rattle.flat_core.proofs.PageLists.{passes_first, passes_behind, AllMayExport, all_may_export}
 use Rattle.flat_core.proofs.Ranges.{NamedPassed, named_passed, living}
 
 -- the beginning of the rows of a TD's calls: its TDR page, its life, its two TDCX pages and its operation state
@@ -67,6 +74,32 @@ page_passed m w t gpa p source ps = record { td = search; gpa_fits = search; pag
 
 pub augment_passed : (m : Machine) (w : World) (t gpa p : ℕ) → Passes ((augment_page m t gpa p).items w) → MapPassed m w t gpa 0 p augmented_ops
 augment_passed m w t gpa p ps = record { td = search; gpa_fits = search; page_fits = search; free = search; host = search; above = lowest_above w t gpa (search) }
+
+-- the row that exports pages
+pub record ExportPassed (w : World) (t k : ℕ) (gpas : List ℕ) : Type 0 where
+  pub td : TdPassed w t abortable_ops
+  pub few : k < length (w.tds.streams t)
+  pub pages : AllMayExport w t gpas
+  pub room : stream_counter w t k < 2 ^ 32 - 1
+  pub tracked : Passes (tracked_in (w.tds.ops t) w t gpas)
+
+pub export_passed : (m : Machine) (w : World) (t gpa k slot : ℕ) (count : Option ℕ) → Passes ((export_pages m t gpa k slot count).items w)
+    → ExportPassed w t k (gpas_from gpa (page_count count))
+export_passed m w t gpa k slot count ps =
+    let gpas : List ℕ = gpas_from gpa (page_count count) in
+    let last : List (Item Reply) = page_exclusive (stream_page w t k) ∷ counter_room w t k ∷ tracked_in (w.tds.ops t) w t gpas in
+    let body : List (Item Reply) = export_conditions w t k gpas in
+    let counted = passes_behind (count_argument 5 count) (aligned_argument 2 0 gpa ∷ (gpas_argument 5 gpa count ++ body)) ps.1.1.1 in
+    let head = passes_behind (gpas_argument 5 gpa count) body counted.1 in
+    let behind = head.1.1.1.1.1 in
+    let end = passes_behind (flat_map (page_to_export w t) gpas) last behind in
+    record {
+      td = record { root = head.0; life = head.1.0; built = head.1.1.0; op = head.1.1.1.0 };
+      few = ltb-true _ _ head.1.1.1.1.0;
+      pages = all_may_export w t gpas (passes_first (flat_map (page_to_export w t) gpas) last behind);
+      room = ltb-true _ _ end.0;
+      tracked = end.1;
+    }
 
 -- the row that moves what an entry names to a host page
 abbrev pub moving : World → (t gpa p : ℕ) → List (Item Reply)

@@ -20,7 +20,7 @@ use Rattle.flat_core.specs.Locks.{one_if}
 use Rattle.flat_core.specs.Conditions.{same_kind, blocking_ops, running_ops}
 use Rattle.flat_core.specs.Tree.{same_state, entry_at, state_in, named_page}
 use Rattle.flat_core.specs.ExportRows.{live_ops, abortable_ops, writable_states, write_blocked, block_write, write_blocked_states, write_unblocked, is_first_dirt, restored_states}
-use Rattle.flat_core.specs.BundleRows.{paused_ops, exportable, export_page}
+use Rattle.flat_core.specs.BundleRows.{paused_ops, exportable}
 use Rattle.flat_core.specs.Exports.{is_dirty}
 use Rattle.flat_core.specs.MemRows.{named_row, open_states, blocked_states, removed_states, blocked_state, unblocked_state}
 use Rattle.flat_core.specs.Lawful.{IsAlive, is_free, is_node, is_exporting}
@@ -89,9 +89,6 @@ pub record EntryPassed (w : World) (t gpa : ℕ) (ops : List OpState) (allowed :
 
 pub write_passed : (m : Machine) (w : World) (t gpa : ℕ) → Passes ((block_write m t gpa).items w) → EntryPassed w t gpa live_ops writable_states
 write_passed m w t gpa ps = search
-
-pub export_passed : (m : Machine) (w : World) (t gpa k slot : ℕ) → Passes ((export_page m t gpa k slot).items w) → EntryPassed w t gpa abortable_ops (exportable (w.tds.ops t))
-export_passed m w t gpa k slot ps = search
 
 pub entry_alive : (w : World) (t gpa : ℕ) (ops : List OpState) (allowed : List EntryState) → EntryPassed w t gpa ops allowed → IsAlive w.pages w.tds t
 entry_alive w t gpa ops allowed p = record { kind = tdr_kind _ p.root; life = living (w.tds.lives t) p.life }

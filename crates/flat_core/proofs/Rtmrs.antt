@@ -14,7 +14,6 @@ use Rattle.flat_core.specs.World.{World}
 use Rattle.flat_core.specs.Processor.{Answered, Held, Guest, Lp}
 use Rattle.flat_core.specs.Opening.{Opening}
 use Rattle.flat_core.specs.Row.{OperationRow, Move, Attempts, Undoes, Refuses, Succeeds, Releases, Rests, next, next_in}
-use Rattle.flat_core.specs.Tree.{entry_at}
 use Rattle.flat_core.specs.Inputs.{Input, input_in}
 use Rattle.flat_core.specs.Table.{row_of}
 use Rattle.flat_core.specs.Digests.{digest_bytes, six_words}
@@ -26,8 +25,9 @@ use Rattle.flat_core.specs.Rtmrs.{extension_bytes, rtmr_after_call, rtmr_after_o
 use Rattle.flat_core.proofs.Tests.{by_test}
 use Rattle.flat_core.proofs.Operations.{accepted}
 use Rattle.flat_core.proofs.Mrtd.{digest_read}
-use Rattle.flat_core.proofs.ImportFills.{fill_rtmrs}
 use Rattle.flat_core.proofs.Due.{Due, calls, frees, leaves, stops, fills, operates, walks, reaches, undoes, gives_back, due_event_is}
+use Rattle.flat_core.specs.PageLists.{page_count, gpas_from, arrivals}
+use Rattle.flat_core.proofs.PageLists.{made_first, each_leaves, takes_leave}
 
 abbrev bytes_of : (ℕ → ℕ) → List ℕ
 bytes_of f = digest_bytes (six_words f)
@@ -79,9 +79,10 @@ module _ (o : Opening) (w : World) (t i : ℕ) where
       (λ y. rw y refl)
   call_extends me (call.ExportTrack tdr slot zero) = refl
   call_extends me (call.ExportTrack tdr slot (suc n)) = refl
-  call_extends me (call.ImportMem tdr slot page) =
-      let x : Input = input_in (o.bundles slot) in
-      ap (λ (f : ℕ → ℕ → ℕ). bytes_of (λ k. f t (6 * i + k))) (fill_rtmrs tdr x.header.gpa page x.words (entry_at w tdr 0 x.header.gpa).state w)
+  call_extends me (call.ExportMem tdr gpa k slot) = ap (λ (v : World). rtmr_bytes v t i)
+      (each_leaves tdr k (gpas_from gpa (page_count None)) (made_first tdr gpa k slot None w))
+  call_extends me (call.ImportMem tdr slot page) = let x : Input = input_in (o.bundles slot) in ap (λ (v : World). rtmr_bytes v t i)
+      (takes_leave tdr (arrivals x.header.gpa page x.words (page_count None)) w)
   call_extends me (call.ImportStateTd tdr slot) = by_test (t == tdr)
       (λ y. rw y refl)
       (λ y. rw y refl)

@@ -1,5 +1,5 @@
 -- The shape of each call's act, from "its conditions passed".
-use Rattle.std.proofs.Common.{◌≡◌, ◌≢◌, ◌⊎◌, inl, inr, refl, sym, ◌∙◌, subst, ap, ℕ, zero, suc, List, [], ◌∷◌, ◌++◌, Option, Some, None, Bool, true, false, not, ◌==◌, if◌then◌else◌, arith}
+use Rattle.std.proofs.Common.{◌≡◌, ◌≢◌, ◌⊎◌, inl, inr, refl, sym, ◌∙◌, subst, ap, ℕ, zero, suc, List, [], ◌∷◌, length, map, Option, Some, None, Bool, true, false, not, ◌==◌, if◌then◌else◌, arith}
 use Rattle.std.specs.List.{list_any}
 use Rattle.std.proofs.lemmas.Bool.{eqb-true, eqb-false, and_parts}
 use Rattle.mrtd_measure.specs.Records.{page_record}
@@ -18,29 +18,32 @@ use Rattle.td_words.specs.declared.replies.Value.TheVariants.{Digest}
 use Rattle.td_words.specs.NameNumber.{op_number}
 use Rattle.td_words.specs.Packing.{Entry}
 use Rattle.flat_core.specs.World.{World, put}
-use Rattle.flat_core.specs.Opening.{Opening}
+use Rattle.flat_core.specs.Opening.{Opening, Incoming}
 use Rattle.flat_core.specs.Row.{Item, Passes}
 use Rattle.flat_core.specs.Conditions.{is_host, is_host_in, same_kind, running_ops, later_ops, augmented_ops}
 use Rattle.flat_core.specs.Effects.{take_node, set_page, map_page, set_entry, unmap_page, end_memory, begin_memory, measure}
 use Rattle.flat_core.specs.MemRows.{removed_states, move_page}
 use Rattle.flat_core.specs.Tracking.{is_tracked}
-use Rattle.flat_core.specs.Tree.{page_of_gpa, number_at, entry_at, state_in, same_state}
+use Rattle.flat_core.specs.Tree.{page_of_gpa, number_at, entry_at, same_state}
 use Rattle.flat_core.specs.KeyRows.{reclaim_conditions}
 use Rattle.flat_core.specs.ExportRows.{live_ops, abortable_ops, writable_states, write_blocked, write_blocked_states, write_unblocked, restoring_ops, restored_states}
-use Rattle.flat_core.specs.BundleRows.{session_ops, paused_ops}
+use Rattle.flat_core.specs.PageLists.{page_count, gpas_from, Arrival, arrivals}
+use Rattle.flat_core.specs.BundleRows.{session_ops, paused_ops, about_pages, words_of_pages, export_page, export_each, export_pages}
 use Rattle.flat_core.specs.Sessions.{count_bundle}
-use Rattle.flat_core.specs.Inputs.{Input, input_in, tag_holds}
-use Rattle.flat_core.specs.ImportRows.{first_ops, filling_ops, td_state_ops, commit_ops, late_ops, given_up_ops, sent_ops, import_token_ops, is_start, op_then, importable, page_to_fill, fill_page}
+use Rattle.flat_core.specs.Inputs.{Input, input_in}
+use Rattle.flat_core.specs.ImportRows.{first_ops, td_state_ops, commit_ops, late_ops, given_up_ops, sent_ops, import_token_ops, is_start, op_then, importable, page_filled, fill_page, take_in, take_each, import_pages}
 use Rattle.flat_core.specs.Table.{row_of}
-use Rattle.flat_core.specs.Lawful.{IsAlive, is_free}
+use Rattle.flat_core.specs.Lawful.{IsAlive, Lawful, is_free}
 use Rattle.flat_core.specs.Guests.{IsOccupied}
 use Rattle.flat_core.specs.Access.{is_pending, has_not_run}
 use Rattle.flat_core.specs.Laws.{given_or_measured, gives_back, holds_memory, memory_of, ArePagesKnown}
 use Rattle.flat_core.proofs.Tests.{host_apart, by_test, tdr_kind, range_of, same_self, put_here}
 use Rattle.flat_core.proofs.Mrtd.{mrtd_is_the_digest}
-use Rattle.flat_core.proofs.Maps.{behind_walk}
-use Rattle.flat_core.proofs.Ranges.{NamedPassed, EntryPassed, configured, has_run, begun_of, named_alive, write_passed, export_passed, entry_alive, block_restates, unblock_restates, write_remarks, unwrite_remarks, restored as can_restore, can_export, page_removed, removed_blocked, sept_removed, blocked_less, blocked_stops, unblocked_allows, mapped_allows, export_allows}
-use Rattle.flat_core.proofs.Passed.{TdPassed, td_alive, vp_of, sept_passed, page_passed, augment_passed, MovePassed, relocate_passed, block_passed, unblock_passed, remove_passed, sept_remove_passed}
+use Rattle.flat_core.proofs.PageLists.{gpas_apart, AreApart, arrivals_apart, MayExport, AllMayExport, still_may, made_first, made_may, list_fits, MayTake, AllMayTake, still_take, locked_first, EachIs}
+use Rattle.flat_core.proofs.BundleKeeps.{MayGoOn, goes_on, begins}
+use Rattle.flat_core.proofs.ImportKeeps.{MayFill, IsInRange, fills_on, taken_alive, take_passed, all_in_range, import_pages-keeps}
+use Rattle.flat_core.proofs.Ranges.{NamedPassed, EntryPassed, configured, has_run, begun_of, named_alive, write_passed, entry_alive, block_restates, unblock_restates, write_remarks, unwrite_remarks, restored as can_restore, can_export, page_removed, removed_blocked, sept_removed, blocked_less, blocked_stops, unblocked_allows, mapped_allows, export_allows}
+use Rattle.flat_core.proofs.Passed.{TdPassed, td_alive, vp_of, sept_passed, page_passed, augment_passed, export_passed, MovePassed, relocate_passed, block_passed, unblock_passed, remove_passed, sept_remove_passed}
 use Rattle.flat_core.proofs.Removals.{empty_at}
 use Rattle.flat_core.proofs.Keeps.{live_of, ended_of}
 use Rattle.flat_core.proofs.Known.{words_stay, entry_stays}
@@ -48,7 +51,7 @@ use Rattle.flat_core.proofs.AccessActs.{is_begun, free_of, unexempt, entry-apart
 use Rattle.flat_core.proofs.ImportStates.{first_only, token_not_run, token_later, td_state_not_run, commit_not_run, given_up_not_run}
 use Rattle.flat_core.proofs.Sparing.{not_configured, ready_only, paused_runs}
 use Rattle.flat_core.proofs.Shapes as shape
-use Rattle.flat_core.proofs.Shapes.{ActShape, one, moves, Takes, Unmaps, IsTrue, same_vp, mrtd_of, IsOneOf, aspect_of, Aspect, IsHeld, OpGoes, unrun, runs, restored, EpochGoes, stay, begin, BlockGoes, noted, open_on}
+use Rattle.flat_core.proofs.Shapes.{ActShape, one, moves, page_by_page, ListShape, ended, page_then, Shape, IsOfPages, ChangesEntry, Takes, Unmaps, IsTrue, same_vp, mrtd_of, IsOneOf, aspect_of, Aspect, IsHeld, OpGoes, unrun, runs, restored, EpochGoes, stay, begin, BlockGoes, noted, open_on}
 
 -- what conditions say of states
 
@@ -106,56 +109,65 @@ module _ (w : World) (t g page : ℕ) where
 
 -- shapes of several calls
 
-module _ (me : ℕ) (c : Call) (w w' : World) where
-  nothing : aspect_of w' ≡ aspect_of w → ActShape me c w w'
+-- a page is taken, but no virtual processor begins
+taken_from : (w w' : World) (page : ℕ) (k : PageKind) (t level number : ℕ) → is_host_in w.pages page ≡ true → k ≢ kind.Tdr → k ≢ kind.Tdvpr
+    → aspect_of w' ≡ record (aspect_of w) { pages = (take_node page k t level number w).pages; words = w'.words; entries = w'.tds.entries; mrtds = mrtd_of w'; memories = w'.hidden.memories }
+    → ((p : ℕ) → (p == page) ≡ false → w'.words p ≡ w.words p)
+    → ((u l n : ℕ) → is_free (w.tds.entries u l n).state ≡ false → w'.tds.entries u l n ≡ w.tds.entries u l n)
+    → ((u : ℕ) → IsOneOf later_ops (w.tds.ops u) → mrtd_of w' u ≡ mrtd_of w u) → Takes w w'
+taken_from w w' page k t level number host no_tdr no_vp e words entries mrtds = record {
+  page = page;
+  becomes = k;
+  tdr = t;
+  level = level;
+  number = number;
+  host = host;
+  no_tdr = no_tdr;
+  rest = ap (λ (z : Aspect). record z { vps = w'.vps; registers = w'.hidden.registers }) e;
+  words = words;
+  entries = entries;
+  mrtds = mrtds;
+  vps = λ v n. same_vp w w' v (ap (λ (z : Aspect). z.vps) e) (ap (λ (z : Aspect). z.registers) e);
+  begun = λ k. absurd (no_vp k);
+}
+
+module _ {m : Machine} (me : ℕ) (c : Call) (w w' : World) where
+  nothing : aspect_of w' ≡ aspect_of w → ActShape m me c w w'
   nothing e = one (shape.notes (record {
     rest = ap (λ (z : Aspect). record z { words = w'.words; mrtds = mrtd_of w' }) e;
     words = λ p h. ap (λ (z : Aspect). z.words p) e;
     mrtds = λ t h. ap (λ (z : Aspect). z.mrtds t) e;
   }))
 
-  -- a page is taken, but no virtual processor begins
   takes : (page : ℕ) (k : PageKind) (t level number : ℕ) → is_host_in w.pages page ≡ true → k ≢ kind.Tdr → k ≢ kind.Tdvpr
       → aspect_of w' ≡ record (aspect_of w) { pages = (take_node page k t level number w).pages; words = w'.words; entries = w'.tds.entries; mrtds = mrtd_of w'; memories = w'.hidden.memories }
       → ((p : ℕ) → (p == page) ≡ false → w'.words p ≡ w.words p) → ((u l n : ℕ) → is_free (w.tds.entries u l n).state ≡ false → w'.tds.entries u l n ≡ w.tds.entries u l n)
-      → ((u n : ℕ) → IsHeld w w' u n) → ((u : ℕ) → IsOneOf later_ops (w.tds.ops u) → mrtd_of w' u ≡ mrtd_of w u) → ActShape me c w w'
-  takes page k t level number host no_tdr no_vp e words entries held mrtds = one (shape.takes (record {
-    page = page;
-    becomes = k;
-    tdr = t;
-    level = level;
-    number = number;
-    host = host;
-    no_tdr = no_tdr;
-    rest = ap (λ (z : Aspect). record z { vps = w'.vps; registers = w'.hidden.registers }) e;
-    words = words;
-    entries = entries;
-    mrtds = mrtds;
-    vps = λ v n. same_vp w w' v (ap (λ (z : Aspect). z.vps) e) (ap (λ (z : Aspect). z.registers) e);
-    begun = λ k. absurd (no_vp k);
-  }) held)
+      → ((u n : ℕ) → IsHeld w w' u n) → ((u : ℕ) → IsOneOf later_ops (w.tds.ops u) → mrtd_of w' u ≡ mrtd_of w u) → ActShape m me c w w'
+  takes page k t level number host no_tdr no_vp e words entries held mrtds = one
+      (shape.takes (taken_from w w' page k t level number host no_tdr no_vp e words entries mrtds) held)
 
   -- an operation state changes; with it TD_EPOCH and MRTD may, or nothing else does
   op_goes : (t : ℕ) (s : OpState) → OpGoes w t s → s ≢ op.Uninitialized → (c ≡ call.ExportPause t) ⊎ (IsOneOf running_ops (w.tds.ops t) → IsOneOf running_ops s)
       → aspect_of w' ≡ record (aspect_of w) { ops = put w.tds.ops t s; epochs = w'.tds.epochs; mrtds = mrtd_of w' } → EpochGoes w w' t → ((u : ℕ) → (u == t) ≡ false → mrtd_of w' u ≡ mrtd_of w u)
-      → (IsOneOf later_ops s → (IsOneOf later_ops (w.tds.ops t) × (mrtd_of w' t ≡ mrtd_of w t)) ⊎ IsTrue (mrtd_of w' t)) → ActShape me c w w'
+      → (IsOneOf later_ops s → (IsOneOf later_ops (w.tds.ops t) × (mrtd_of w' t ≡ mrtd_of w t)) ⊎ IsTrue (mrtd_of w' t)) → ActShape m me c w w'
   op_goes t s way later running e epochs mrtds mrtd =
       one (shape.changes_op (record { tdr = t; then_in = s; goes = way; later = later; running = running; rest = e; epochs = epochs; mrtds = mrtds; mrtd = mrtd }))
 
   goes : (t : ℕ) (s : OpState) → OpGoes w t s → s ≢ op.Uninitialized → (c ≡ call.ExportPause t) ⊎ (IsOneOf running_ops (w.tds.ops t) → IsOneOf running_ops s) → IsOneOf later_ops (w.tds.ops t)
-      → aspect_of w' ≡ record (aspect_of w) { ops = put w.tds.ops t s } → ActShape me c w w'
+      → aspect_of w' ≡ record (aspect_of w) { ops = put w.tds.ops t s } → ActShape m me c w w'
   goes t s way later running has e =
       op_goes t s way later running (ap (λ (z : Aspect). record z { epochs = w'.tds.epochs; mrtds = mrtd_of w' }) e) (stay (ap (λ (z : Aspect). z.epochs) e))
       (λ u n. ap (λ (z : Aspect). z.mrtds u) e) (λ h. inl (has, ap (λ (z : Aspect). z.mrtds t) e))
 
   -- so before a guest of the TD has run here
-  goes_unrun : (t : ℕ) (s : OpState) → has_not_run (w.tds.ops t) ≡ true → s ≢ op.Uninitialized → IsOneOf later_ops (w.tds.ops t) → aspect_of w' ≡ record (aspect_of w) { ops = put w.tds.ops t s } → ActShape me c w w'
+  goes_unrun : (t : ℕ) (s : OpState) → has_not_run (w.tds.ops t) ≡ true → s ≢ op.Uninitialized → IsOneOf later_ops (w.tds.ops t)
+      → aspect_of w' ≡ record (aspect_of w) { ops = put w.tds.ops t s } → ActShape m me c w w'
   goes_unrun t s n later has e = goes t s (unrun n) later (inr (λ r. absurd (not_running (w.tds.ops t) n r))) has e
 
   -- and from MNG.CREATE on, as TD_EPOCH begins
   goes_first : (t : ℕ) (s : OpState) → same_kind (w.pages.kinds t) kind.Tdr ≡ true → IsOneOf first_ops (w.tds.ops t) → s ≢ op.Uninitialized
       → aspect_of w' ≡ record (aspect_of w) { ops = put w.tds.ops t s; epochs = put w.tds.epochs t 1; mrtds = mrtd_of w' } → ((u : ℕ) → (u == t) ≡ false → mrtd_of w' u ≡ mrtd_of w u)
-      → (IsOneOf later_ops s → IsTrue (mrtd_of w' t)) → ActShape me c w w'
+      → (IsOneOf later_ops s → IsTrue (mrtd_of w' t)) → ActShape m me c w w'
   goes_first t s root among later e mrtds mrtd =
       let new = first_only (w.tds.ops t) among in
       let n : has_not_run (w.tds.ops t) ≡ true = ap has_not_run new in
@@ -163,7 +175,8 @@ module _ (me : ℕ) (c : Call) (w w' : World) where
       (begin (tdr_kind _ root) new (ap (λ (z : Aspect). z.epochs) e)) mrtds (λ h. inr (mrtd h))
 
   restates : (t level number : ℕ) (s : EntryState) (mark : ℕ) (blocked : ℕ → ℕ) → (let e = w.tds.entries t level number in is_free e.state ≡ false → is_free s ≡ false → is_pending s ≡ is_pending e.state → holds_memory s ≡ holds_memory e.state
-      → BlockGoes w t e s blocked → aspect_of w' ≡ record (aspect_of w) { pages = record (w.pages) { blocked = blocked }; entries = (set_entry t level number (record { state = s; page = e.page; mark = mark }) w).tds.entries } → ActShape me c w w')
+      → BlockGoes w t e s blocked
+      → aspect_of w' ≡ record (aspect_of w) { pages = record (w.pages) { blocked = blocked }; entries = (set_entry t level number (record { state = s; page = e.page; mark = mark }) w).tds.entries } → ActShape m me c w w')
   restates t level number s mark blocked used still pending memory block e = one (shape.changes_entry (record {
     tdr = t;
     level = level;
@@ -179,14 +192,65 @@ module _ (me : ℕ) (c : Call) (w w' : World) where
     rest = e;
   }))
 
--- a page that comes in: at an entry that was FREE, or for the page that the entry names
-module _ (me : ℕ) (c : Call) (w : World) (t gpa page stream : ℕ) (ws : ℕ → ℕ) (rest : List (Item Reply)) (alive : IsAlive w.pages w.tds t) where
-  comes_in : (s : EntryState) → (entry_at w t 0 gpa).state ≡ s → list_any (λ b. same_state b s) importable ≡ true → Passes (page_to_fill w t gpa page s ++ rest)
-      → ActShape me c w (count_bundle t stream (begin_memory t (page_of_gpa gpa) ws (fill_page t gpa page ws s w)))
-  comes_in entry.Free is among ps =
-      takes me c w _ page kind.Reg t 0 (number_at 0 gpa) ps.0 (λ e. cc) (λ e. cc) refl (λ p e. rw e refl) (λ u l n f. entry-kept w t 0 (number_at 0 gpa) _ u l n (ap is_free is) f) (added_held w t (page_of_gpa gpa) page ws) (λ u h. refl)
-  comes_in entry.Mapped is among ps = one (shape.fills (record { tdr = t; number = page_of_gpa gpa; words = ws; alive = alive; mapped = is; rest = refl }))
-  comes_in _ is among ps = cc
+-- Lists of pages. A page of one is exported; or it comes in, at an entry that was FREE, or for the page that the entry names.
+module _ (m : Machine) (first : World) (me : ℕ) (c : Call) where
+  page_leaves_state : (w : World) (t k gpa : ℕ) → IsOneOf abortable_ops (w.tds.ops t) → MayExport w t gpa → ChangesEntry w (export_page t k gpa w)
+  page_leaves_state w t k gpa among may =
+      let s : EntryState = (entry_at w t 0 gpa).state in
+      let r = can_export (w.tds.ops t) s may in record {
+        tdr = t;
+        level = 0;
+        number = number_at 0 gpa;
+        then_in = entry.ExportedBlockedW;
+        mark = w.tds.mig_epochs t;
+        blocked = w.pages.blocked;
+        used = r.used;
+        still_used = refl;
+        same_pending = r.same_pending;
+        same_memory = r.same_memory;
+        block = open_on refl r.leaf (λ writes less. elim (export_allows writes (w.tds.ops t) s among may less) [
+          | inl y ↦ inl y
+          | inr y ↦ inr (refl, y)
+        ]);
+        rest = refl;
+      }
+
+  exports : (t k : ℕ) (gpas : List ℕ) (w : World) → AreApart gpas → AllMayExport w t gpas → IsOneOf abortable_ops (w.tds.ops t)
+      → (Lawful m first → MayGoOn m t k (length gpas) w)
+      → ListShape m first me c (export_each t k gpas w) w
+  exports t k [] w apart may among on = ended
+  exports t k (gpa ∷ gpas) w apart may among on =
+      let next = λ (l : Lawful m first). goes_on m t k (length gpas) w gpa (on l) may.0 in
+      page_then (export_page t k gpa w) (shape.changes_entry (page_leaves_state w t k gpa among may.0)) tt (λ l. (next l).lawful)
+      (exports t k gpas (export_page t k gpa w) apart.1 (still_may w t k gpa gpas apart.0 may.1) among next)
+
+  takes_in : (t : ℕ) (w : World) (locked : List ℕ) (a : Arrival) → IsAlive w.pages w.tds t → MayTake w t locked a
+      → (x : Shape me c w (take_in t a w)) × IsOfPages x
+  takes_in t w locked a alive may = comes_in (entry_at w t 0 a.gpa).state refl
+    where
+      comes_in : (s : EntryState) → (entry_at w t 0 a.gpa).state ≡ s
+          → (x : Shape me c w (begin_memory t (page_of_gpa a.gpa) a.words (fill_page t a.gpa a.page a.words s w))) × IsOfPages x
+      comes_in entry.Free is = (
+        shape.takes (taken_from w _ a.page kind.Reg t 0 (number_at 0 a.gpa) (may.host is) (λ e. cc) (λ e. cc) refl (λ p e. rw e refl)
+            (λ u l n f. entry-kept w t 0 (number_at 0 a.gpa) _ u l n (ap is_free is) f) (λ u h. refl)) (added_held w t (page_of_gpa a.gpa) a.page a.words),
+        tt,
+      )
+      comes_in entry.Mapped is = (shape.fills (record { tdr = t; number = page_of_gpa a.gpa; words = a.words; alive = alive; mapped = is; rest = refl }), tt)
+      comes_in _ is = absurd (let no : false ≡ true = ap (λ (s : EntryState). list_any (λ b. same_state b s) importable) (sym is) ∙ may.state in cc)
+
+  comes : (t stream : ℕ) (pages : List Arrival) (w : World) (locked : List ℕ) → AreApart (map (λ a. a.gpa) pages) → AllMayTake w t locked pages
+      → EachIs (IsInRange m) pages → IsAlive w.pages w.tds t
+      → (Lawful m first → MayFill m t w) → (Lawful m first → Lawful m (count_bundle t stream (take_each t pages w)))
+      → ListShape m first me c (count_bundle t stream (take_each t pages w)) w
+  comes t stream [] w locked apart may fit alive on kept =
+      page_then (count_bundle t stream w) (shape.notes (record { rest = refl; words = λ p h. refl; mrtds = λ u h. refl })) tt kept ended
+  comes t stream (a ∷ pages) w locked apart may fit alive on kept =
+      let x = takes_in t w locked a alive may.0 in
+      let next = λ (l : Lawful m first). fills_on m t w (on l) locked a may.0 fit.0 in
+      page_then (take_in t a w) x.0 x.1 (λ l. (next l).lawful)
+      (comes t stream pages (take_in t a w) (page_filled w t a ∷ locked) apart.1
+      (still_take w t a (page_filled w t a ∷ locked) pages (locked_first (page_filled w t a) locked) apart.0 may.1)
+      fit.1 (taken_alive t w alive locked a may.0) next kept)
 
 -- the private page that an entry names leaves
 page_leaves : (c : Call) (w : World) (t gpa : ℕ) (rest : List (Item Reply)) → NamedPassed w t gpa 0 removed_states rest → is_tracked w t (entry_at w t 0 gpa).page ≡ true
@@ -247,7 +311,33 @@ module _ (m : Machine) (w : World) (t gpa page : ℕ) (q : MovePassed m w t gpa 
       (λ z. inr (rw (y, z) refl, inl (entry-apart left t 0 g _ x 0 n (λ a b c. eqb-false n g z c)))))
       (λ y. inr (rw y refl, inl (rw y refl)))
 
-pub shape_of : (o : Opening) (me : ℕ) (c : Call) (w : World) → Passes ((row_of o me c).items w) → ActShape me c w ((row_of o me c).act w)
+-- rows of lists of pages, with any COUNT
+pub export_shape : (m : Machine) (me t gpa k slot : ℕ) (count : Option ℕ) (w : World) → Passes ((export_pages m t gpa k slot count).items w)
+    → ActShape m me (call.ExportMem t gpa k slot) w ((export_pages m t gpa k slot count).act w)
+export_shape m me t gpa k slot count w ps =
+    let gpas : List ℕ = gpas_from gpa (page_count count) in
+    let q = export_passed m w t gpa k slot count ps in
+    let v : World = made_first t gpa k slot count w in
+    let on = λ (l : Lawful m w). begins m w t slot (about_pages w t k gpa count) (words_of_pages w t gpas) (length gpas) l
+    (td_alive q.td) q.td.op q.few q.room (list_fits gpa count) in
+    page_by_page (λ u p. refl)
+    (page_then v (shape.notes (record { rest = refl; words = λ p h. refl; mrtds = λ u h. refl })) tt (λ l. (on l).lawful)
+    (exports m w me _ t k gpas v (gpas_apart gpa (page_count count))
+    (made_may w t slot (about_pages w t k gpa count) (words_of_pages w t gpas) gpas q.pages) q.td.op on))
+
+pub import_shape : (m : Machine) (b : Option Incoming) (me t slot page : ℕ) (count : Option ℕ) (w : World)
+    → Passes ((import_pages m b t slot page count).items w) → ActShape m me (call.ImportMem t slot page) w ((import_pages m b t slot page count).act w)
+import_shape m b me t slot page count w ps =
+    let x : Input = input_in b in
+    let gpa : ℕ = x.header.gpa in
+    let q = take_passed m b w t slot page count ps in
+    let alive = td_alive q.td in
+    page_by_page (λ u p. refl)
+    (comes m w me _ t x.header.stream (arrivals gpa page x.words (page_count count)) w [] (arrivals_apart gpa page x.words (page_count count)) q.pages
+    (all_in_range m gpa page x.words (page_count count) q.in_machine q.fits) alive (λ l. record { lawful = l; alive = alive; built = q.td.built; op = q.td.op })
+    (λ l. (import_pages-keeps m b t slot page count).act w l ps))
+
+pub shape_of : (o : Opening) (me : ℕ) (c : Call) (w : World) → Passes ((row_of o me c).items w) → ActShape o.machine me c w ((row_of o me c).act w)
 shape_of o me (call.HostRead page i) w ps = nothing me _ w _ refl
 shape_of o me (call.HostWrite page i v) w ps = one (shape.notes (record { rest = refl; words = λ p h. words_stay w.words page i v p (host_apart w page p (search) h); mrtds = λ t h. refl }))
 shape_of o me (call.PhymemPageRdmd page) w ps = nothing me _ w _ refl
@@ -372,15 +462,7 @@ shape_of o me (call.ExportRestore t gpa) w ps =
 shape_of o me (call.ExportStateImmutable t slot) w ps =
     let td : TdPassed w t session_ops = search in
     goes me _ w _ t op.LiveExport (restored refl (td_alive td) (search)) (λ e. cc) (inr (λ r. refl)) (has_mrtd session_ops (w.tds.ops t) refl refl td.op) refl
-shape_of o me (call.ExportMem t gpa k slot) w ps =
-    let q = export_passed o.machine w t gpa k slot ps in
-    let s : EntryState = (entry_at w t 0 gpa).state in
-    let r = can_export (w.tds.ops t) s q.state in
-    restates me _ w _ t 0 (number_at 0 gpa) entry.ExportedBlockedW (w.tds.mig_epochs t) w.pages.blocked r.used refl r.same_pending r.same_memory
-    (open_on refl r.leaf (λ writes less. elim (export_allows writes (w.tds.ops t) s q.op q.state less) [
-      | inl y ↦ inl y
-      | inr y ↦ inr (refl, y)
-    ])) refl
+shape_of o me (call.ExportMem t gpa k slot) w ps = export_shape o.machine me t gpa k slot None w ps
 shape_of o me (call.ExportTrack t slot zero) w ps = nothing me _ w _ refl
 shape_of o me (call.ExportTrack t slot (suc n)) w ps =
     let paused : IsOneOf paused_ops (w.tds.ops t) = search in
@@ -393,13 +475,7 @@ shape_of o me (call.ExportStateVp t v slot) w ps =
 shape_of o me (call.ExportAbortByToken t slot) w ps = goes me _ w _ t op.Runnable (runs refl refl) (λ e. cc) (inr (λ r. refl)) (has_mrtd sent_ops (w.tds.ops t) refl refl (search)) refl
 shape_of o me (call.ImportStateImmutable t slot) w ps =
     goes_first me _ w _ t op.MemoryImport (search) (search) (λ e. cc) refl (λ u n. rw n refl) (λ h. let here = same_self t in rw here refl)
-shape_of o me (call.ImportMem t slot page) w ps =
-    let x : Input = input_in (o.bundles slot) in
-    let gpa : ℕ = x.header.gpa in
-    let s : EntryState = (entry_at w t 0 gpa).state in
-    let td : TdPassed w t filling_ops = search in
-    let behind = behind_walk w t gpa 0 (state_in w t gpa 0 importable ∷ (page_to_fill w t gpa page s ++ tag_holds x ∷ [])) (search) in
-    comes_in me _ w t gpa page x.header.stream x.words (tag_holds x ∷ []) (td_alive td) s refl behind.0 behind.1
+shape_of o me (call.ImportMem t slot page) w ps = import_shape o.machine (o.bundles slot) me t slot page None w ps
 shape_of o me (call.ImportTrack t slot) w ps =
     let start : Bool = is_start (input_in (o.bundles slot)).header in
     let among : IsOneOf (import_token_ops start) (w.tds.ops t) = search in

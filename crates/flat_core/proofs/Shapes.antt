@@ -278,11 +278,32 @@ pub data Shape (me : ℕ) (c : Call) (w w' : World) : Type 0 where
   changes_entry : ChangesEntry w w' → Shape me c w w'
   advances : Advances w w' → Shape me c w w'
 
--- An act has one of these shapes; or the page that an entry names leaves, and a page of the host is taken behind that. What both
--- keep, it keeps.
-pub data ActShape (me : ℕ) (c : Call) (w w' : World) : Type 0 where
-  one : Shape me c w w' → ActShape me c w w'
-  moves : (v : World) → Unmaps c w v → Takes v w' → (ArePagesKnown w → (t n : ℕ) → IsHeld v w' t n) → ActShape me c w w'
+-- of these the act for a list of pages is made, page by page; a lawful first world makes each between lawful
+abbrev pub IsOfPages : {me : ℕ} {c : Call} {w w' : World} → Shape me c w w' → Type 0
+IsOfPages (notes x) = Unit {0}
+IsOfPages (fills x) = Unit {0}
+IsOfPages (takes x held) = Unit {0}
+IsOfPages (changes_entry x) = Unit {0}
+IsOfPages _ = ⊥
+
+pub data ListShape (m : Machine) (first : World) (me : ℕ) (c : Call) (w' : World) : World → Type 0 where
+  ended : ListShape m first me c w' w'
+  page_then : {w : World} (v : World) (x : Shape me c w v) → IsOfPages x → (Lawful m first → Lawful m v) → ListShape m first me c w' v
+      → ListShape m first me c w' w
+
+-- An act has one of these shapes; or the page that an entry names leaves, and a page of the host is taken behind that; or it is
+-- made page by page, and gives no page back. What the parts keep, it keeps.
+pub data ActShape (m : Machine) (me : ℕ) (c : Call) (w w' : World) : Type 0 where
+  one : Shape me c w w' → ActShape m me c w w'
+  moves : (v : World) → Unmaps c w v → Takes v w' → (ArePagesKnown w → (t n : ℕ) → IsHeld v w' t n) → ActShape m me c w w'
+  page_by_page : ((v : World) (p : ℕ) → gives_back c v p ≡ false) → ListShape m w me c w' w → ActShape m me c w w'
+
+-- what the act for each page keeps, that for all keeps
+pub by_shapes : {m : Machine} {me : ℕ} {c : Call} (first w' w : World) (P : World → Type 0)
+    → ((v u : World) → (Lawful m first → Lawful m v) → (x : Shape me c v u) → IsOfPages x → P v → P u)
+    → (Lawful m first → Lawful m w) → ListShape m first me c w' w → P w → P w'
+by_shapes first w' w P step l ended h = h
+by_shapes first w' w P step l (page_then v x of kept more) h = by_shapes first w' v P step kept more (step w v l x of h)
 
 -- a page that leaves the map leaves a lawful world
 pub unmaps_kept : (m : Machine) (c : Call) (w v : World) → Lawful m w → Unmaps c w v → Lawful m v
@@ -338,6 +359,9 @@ module _ (me : ℕ) (c : Call) (w w' : World) (never : (t h : ℕ) → c ≢ cal
   shape_alive (changes_entry y) = by_aspect _ y.rest (λ x k. k) (λ x h. h)
   shape_alive (advances y) = by_world _ y.is (λ x k. k) refl
 
-pub act_alive : (me : ℕ) (c : Call) (w w' : World) → ((t h : ℕ) → c ≢ call.MngCreate t h) → ActShape me c w w' → (x : ℕ) → IsAlive w'.pages w'.tds x → IsAlive w.pages w.tds x
+pub act_alive : {m : Machine} (me : ℕ) (c : Call) (w w' : World) → ((t h : ℕ) → c ≢ call.MngCreate t h) → ActShape m me c w w' → (x : ℕ)
+    → IsAlive w'.pages w'.tds x → IsAlive w.pages w.tds x
 act_alive me c w w' never (one y) x a = shape_alive me c w w' never y x a
 act_alive me c w w' never (moves v y z held) x a = shape_alive me c w v never (unmaps y) x (takes_alive me c v w' never z x a)
+act_alive me c w w' never (page_by_page none y) x a =
+    by_shapes w w' w (λ v. IsAlive v.pages v.tds x → IsAlive w.pages w.tds x) (λ v u l y of h b. h (shape_alive me c v u never y x b)) (λ l. l) y (λ b. b) a

@@ -1,9 +1,8 @@
 -- Each event puts the words that it tells at the end of the world's list.
-use Rattle.std.proofs.Common.{◌≡◌, refl, sym, ◌∙◌, ℕ, zero, suc, [], ◌++◌, Option, Some, None, false}
+use Rattle.std.proofs.Common.{ap, ◌≡◌, refl, sym, ◌∙◌, ℕ, zero, suc, [], ◌++◌, Option, Some, None, false}
 use Rattle.std.proofs.lemmas.List.{append-nil}
 use Rattle.td_words.specs.declared.names.Access.{Access}
 use Rattle.td_words.specs.declared.names.Access.TheVariants.{Read, Write}
-use Rattle.td_words.specs.declared.names.EntryState.{EntryState}
 use Rattle.td_words.specs.declared.calls.Call.{Call}
 use Rattle.td_words.specs.declared.calls.Call.TheVariants as call
 use Rattle.td_words.specs.declared.replies.Outcome.{Outcome}
@@ -12,15 +11,15 @@ use Rattle.flat_core.specs.World.{World}
 use Rattle.flat_core.specs.Processor.{Answered, Lp, idle}
 use Rattle.flat_core.specs.Opening.{Opening}
 use Rattle.flat_core.specs.Row.{OperationRow, Move, Attempts, Undoes, Refuses, Succeeds, Releases, Rests, next_in}
-use Rattle.flat_core.specs.Tree.{entry_at}
 use Rattle.flat_core.specs.Inputs.{Input, input_in}
 use Rattle.flat_core.specs.Table.{row_of}
 use Rattle.flat_core.specs.Event.{Event, OfCall, OfOperation, Reaches, nothing_more, next_event, after_event, world_after}
 use Rattle.flat_core.specs.TwoWorlds.{words_told, EventsTellTheirWords}
 use Rattle.flat_core.proofs.Told.{operations_tell_both}
-use Rattle.flat_core.proofs.ImportFills.{fill_told, fill_tells}
 use Rattle.flat_core.proofs.Operations.{operation_row, accepted}
 use Rattle.flat_core.proofs.Due.{Due, calls, frees, leaves, stops, fills, operates, walks, reaches, undoes, gives_back, due_event_is}
+use Rattle.flat_core.specs.PageLists.{page_count, gpas_from, arrivals}
+use Rattle.flat_core.proofs.PageLists.{made_first, each_leaves, takes_leave}
 
 -- no call tells a word
 abbrev pub TellsNothing : (before after : World) → Type 0
@@ -30,10 +29,13 @@ pub row_tells_nothing : (o : Opening) (me : ℕ) (c : Call) (w : World) → Tell
 row_tells_nothing o me (call.ExportTrack t slot zero) w = (refl, refl)
 row_tells_nothing o me (call.ExportTrack t slot (suc n)) w = (refl, refl)
 row_tells_nothing o me (call.HostRead page i) w = (refl, refl)
+row_tells_nothing o me (call.ExportMem t gpa k slot) w =
+    let same = each_leaves t k (gpas_from gpa (page_count None)) (made_first t gpa k slot None w) in
+    (ap (λ (v : World). v.outgoing.told) same, ap (λ (v : World). v.outgoing.to_tell) same)
 row_tells_nothing o me (call.ImportMem t slot page) w =
     let x : Input = input_in (o.bundles slot) in
-    let s : EntryState = (entry_at w t 0 x.header.gpa).state in
-    (fill_told t x.header.gpa page x.words s w, fill_tells t x.header.gpa page x.words s w)
+    let same = takes_leave t (arrivals x.header.gpa page x.words (page_count None)) w in
+    (ap (λ (v : World). v.outgoing.told) same, ap (λ (v : World). v.outgoing.to_tell) same)
 row_tells_nothing o me _ w = (refl, refl)
 
 abbrev Grows : World → Event → Type 0

@@ -12,17 +12,17 @@ use Rattle.flat_core.specs.World.{World, put}
 use Rattle.flat_core.specs.Processor.{Phase, Trying, Undoing, Answered, Held, Guest, Entering, Lp}
 use Rattle.flat_core.specs.Opening.{Opening}
 use Rattle.flat_core.specs.Row.{Row, OperationRow, Move, Attempts, Undoes, Refuses, Succeeds, Releases, Rests, next, next_in}
-use Rattle.flat_core.specs.Tree.{entry_at}
 use Rattle.flat_core.specs.Inputs.{Input, input_in}
 use Rattle.flat_core.specs.Table.{row_of}
 use Rattle.flat_core.specs.Guest.{ByRow, operation_of, is_pending_at}
 use Rattle.flat_core.specs.Event.{State, Event, OfCall, OfOperation, Walks, Reaches, start, after_event, world_after, lp_after, call_lp, succeeded, settle, operation_told, nothing_more, is_granted}
 use Rattle.flat_core.specs.Laws.{AreMerged, nothing_told, more_told, ToldAreMerged, OperationsTellBoth}
 use Rattle.flat_core.proofs.Tests.{by_test}
-use Rattle.flat_core.proofs.ImportFills.{fill_told}
 use Rattle.flat_core.proofs.Operations.{operation_row, accepted}
 use Rattle.flat_core.proofs.Due.{Due, calls, frees, leaves, stops, fills, operates, walks, reaches, undoes, gives_back, due_event_is}
 use Rattle.flat_core.proofs.Induction.{play_keeps}
+use Rattle.flat_core.specs.PageLists.{page_count, gpas_from, arrivals}
+use Rattle.flat_core.proofs.PageLists.{made_first, each_leaves, takes_leave}
 
 pub operations_tell_both : OperationsTellBoth
 operations_tell_both w granted row (Attempts l m) lp stays = (sym (append-nil w.outgoing.told), refl)
@@ -37,7 +37,10 @@ row_tells : (o : Opening) (me : ℕ) (c : Call) (w : World) → ((row_of o me c)
 row_tells o me (call.HostRead page i) w = refl
 row_tells o me (call.ExportTrack t slot zero) w = refl
 row_tells o me (call.ExportTrack t slot (suc n)) w = refl
-row_tells o me (call.ImportMem t slot page) w = let x : Input = input_in (o.bundles slot) in fill_told t x.header.gpa page x.words (entry_at w t 0 x.header.gpa).state w
+row_tells o me (call.ExportMem t gpa k slot) w = ap (λ (v : World). v.outgoing.told)
+    (each_leaves t k (gpas_from gpa (page_count None)) (made_first t gpa k slot None w))
+row_tells o me (call.ImportMem t slot page) w = let x : Input = input_in (o.bundles slot) in ap (λ (v : World). v.outgoing.told)
+    (takes_leave t (arrivals x.header.gpa page x.words (page_count None)) w)
 row_tells o me _ w = refl
 
 call_tells : (o : Opening) (me : ℕ) (c : Call) (move : Move Reply) (w : World) → (world_after (OfCall (row_of o me c) move) w).outgoing.told ≡ w.outgoing.told

@@ -1,6 +1,7 @@
 -- The tree lock of a TD can't be busy for a processor that holds its op state lock alone: every row tries the op state lock
 -- before the tree lock, and locks are released newest first, so who holds T holds O.
 use Rattle.std.proofs.Common.{◌≡◌, ◌≢◌, ◌⊎◌, inl, inr, refl, sym, ◌∙◌, subst, ap, ℕ, zero, suc, ◌+◌, ◌<◌, ◌≤◌, List, [], ◌∷◌, ◌++◌, length, drop, Option, Some, None, Bool, true, false, not, ◌==◌, option_map, if◌then◌else◌, arith, length-append}
+use Rattle.std.specs.Prelude.{map}
 use Rattle.std.proofs.lemmas.Bool.{eq-eqb, eqb-true, eqb-false, ne_eqb}
 use Rattle.td_words.specs.declared.names.Mode.{Mode}
 use Rattle.td_words.specs.declared.names.Mode.TheVariants.{Shared, Exclusive}
@@ -19,6 +20,11 @@ use Rattle.flat_core.specs.Processor.{LockId, OfPage, OfOp, OfTree, OfEpoch, OfR
 use Rattle.flat_core.specs.Locks.{same_lock, is_alone, alone_in, shared_in, refused_in, alone_of, shared_of, refused_of, sum_below, holders, sharers, refusals, grants}
 use Rattle.flat_core.specs.Opening.{Opening}
 use Rattle.flat_core.specs.Row.{Item, Check, Try, Row, OperationRow, Move, Attempts, Undoes, Refuses, Succeeds, Releases, Rests, next, next_in, after_move, but_newest}
+use Rattle.flat_core.specs.Tree.{entry_at}
+use Rattle.flat_core.specs.Sessions.{stream_page}
+use Rattle.flat_core.specs.Inputs.{Input, input_in}
+use Rattle.flat_core.specs.PageLists.{page_count, gpas_from, Arrival, arrivals}
+use Rattle.flat_core.specs.ImportRows.{page_filled}
 use Rattle.flat_core.specs.Table.{row_of}
 use Rattle.flat_core.specs.Guest.{ByRow, operation_of, walk_level, walk_step, walked_on, walked_entry, goes_on as may_go, answered as with_answer}
 use Rattle.flat_core.specs.Event.{State, Event, OfCall, OfOperation, Walks, Reaches, Leaves, next_event, lines_left, calls_of, after_event, lp_after, call_lp, succeeded, settled, settle, call_busy, is_granted, is_epoch_lock, operation_guest, operation_busy, settled_guest, settle_operation, nothing_more}
@@ -63,6 +69,21 @@ AreBehindOps (x ∷ xs) = IsBehindOp x xs × AreBehindOps xs
 tree_first : (t : ℕ) (xs : List (Option LockId)) → InOrder (Some (OfTree t) ∷ Some (OfOp t) ∷ None ∷ []) xs → InOrder [] (None ∷ Some (OfOp t) ∷ Some (OfTree t) ∷ xs)
 tree_first t xs h = (tt, (tt, ((inl refl, tt), h)))
 
+-- pages of a list come behind both
+abbrev exports_kinds : (w : World) (t k : ℕ) (gpas : List ℕ) → List (Option LockId)
+exports_kinds w t k gpas = kinds (map (λ gpa. alone (OfPage (entry_at w t 0 gpa).page)) gpas ++ alone (OfPage (stream_page w t k)) ∷ [])
+
+abbrev fills_kinds : (w : World) (t : ℕ) → List Arrival → List (Option LockId)
+fills_kinds w t pages = kinds (map (λ a. alone (OfPage (page_filled w t a))) pages)
+
+export_pages_behind : (w : World) (t k : ℕ) (gpas : List ℕ) (seen : List (Option LockId)) → InOrder seen (exports_kinds w t k gpas)
+export_pages_behind w t k [] seen = (tt, tt)
+export_pages_behind w t k (gpa ∷ gpas) seen = (tt, export_pages_behind w t k gpas (None ∷ seen))
+
+import_pages_behind : (w : World) (t : ℕ) (pages : List Arrival) (seen : List (Option LockId)) → InOrder seen (fills_kinds w t pages)
+import_pages_behind w t [] seen = tt
+import_pages_behind w t (a ∷ pages) seen = (tt, import_pages_behind w t pages (None ∷ seen))
+
 tries_in_order : (o : Opening) (c : Call) (w : World) → InOrder [] (kinds (tries_of o c w))
 tries_in_order o (call.PhymemPageReclaim t page) w = by (page == t)
   where
@@ -106,13 +127,16 @@ tries_in_order o (call.ExportPause t) w = tree_first t [] tt
 tries_in_order o (call.ExportAbort t) w = tree_first t [] tt
 tries_in_order o (call.ExportRestore t gpa) w = tree_first t (None ∷ []) (tt, tt)
 tries_in_order o (call.ExportStateImmutable t slot) w = (tt, (tt, (tt, tt)))
-tries_in_order o (call.ExportMem t gpa k slot) w = tree_first t (Some (OfEpoch t) ∷ None ∷ None ∷ []) (tt, (tt, (tt, tt)))
+tries_in_order o (call.ExportMem t gpa k slot) w = tree_first t (Some (OfEpoch t) ∷ exports_kinds w t k (gpas_from gpa (page_count None)))
+    (tt, export_pages_behind w t k (gpas_from gpa (page_count None)) (Some (OfEpoch t) ∷ Some (OfTree t) ∷ Some (OfOp t) ∷ None ∷ []))
 tries_in_order o (call.ExportTrack t slot start) w = tree_first t [] tt
 tries_in_order o (call.ExportStateTd t slot) w = (tt, (tt, tt))
 tries_in_order o (call.ExportStateVp t vp slot) w = (tt, (tt, (tt, tt)))
 tries_in_order o (call.ExportAbortByToken t slot) w = tree_first t [] tt
 tries_in_order o (call.ImportStateImmutable t slot) w = (tt, (tt, (tt, tt)))
-tries_in_order o (call.ImportMem t slot page) w = tree_first t (None ∷ []) (tt, tt)
+tries_in_order o (call.ImportMem t slot page) w =
+    let x : Input = input_in (o.bundles slot) in tree_first t (fills_kinds w t (arrivals x.header.gpa page x.words (page_count None)))
+    (import_pages_behind w t (arrivals x.header.gpa page x.words (page_count None)) (Some (OfTree t) ∷ Some (OfOp t) ∷ None ∷ []))
 tries_in_order o (call.ImportTrack t slot) w = tree_first t [] tt
 tries_in_order o (call.ImportStateTd t slot) w = (tt, (tt, tt))
 tries_in_order o (call.ImportStateVp t vp slot) w = (tt, (tt, (tt, tt)))
@@ -121,7 +145,23 @@ tries_in_order o (call.ImportEnd t) w = (tt, (tt, tt))
 tries_in_order o (call.ImportAbort t slot) w = tree_first t [] tt
 
 -- and in every world they are the same, whatever bundles have come in
+same_exports : (t k : ℕ) (gpas : List ℕ) (v w : World) → exports_kinds v t k gpas ≡ exports_kinds w t k gpas
+same_exports t k [] v w = refl
+same_exports t k (gpa ∷ gpas) v w = ap (λ (ls : List (Option LockId)). None ∷ ls) (same_exports t k gpas v w)
+
+same_fills : (t n g h p q : ℕ) (f e : ℕ → ℕ) (v w : World) → fills_kinds v t (arrivals g p f n) ≡ fills_kinds w t (arrivals h q e n)
+same_fills t zero g h p q f e v w = refl
+same_fills t (suc n) g h p q f e v w = ap (λ (ls : List (Option LockId)). None ∷ ls)
+    (same_fills t n (g + 4096) (h + 4096) (p + 1) (q + 1) (λ i. f (512 + i)) (λ i. e (512 + i)) v w)
+
 pub kinds_same : (c : Call) (o q : Opening) (v w : World) → kinds (tries_of o c v) ≡ kinds (tries_of q c w)
+kinds_same (call.ExportMem t gpa k slot) o q v w = ap (λ (ls : List (Option LockId)). None ∷ Some (OfOp t) ∷ Some (OfTree t) ∷ Some (OfEpoch t) ∷ ls)
+    (same_exports t k (gpas_from gpa (page_count None)) v w)
+kinds_same (call.ImportMem t slot page) o q v w =
+    let x : Input = input_in (o.bundles slot) in
+    let y : Input = input_in (q.bundles slot) in
+    ap (λ (ls : List (Option LockId)). None ∷ Some (OfOp t) ∷ Some (OfTree t) ∷ ls)
+    (same_fills t (page_count None) x.header.gpa y.header.gpa page page x.words y.words v w)
 kinds_same (call.HostRead page word) o q v w = refl
 kinds_same _ o q v w = refl
 

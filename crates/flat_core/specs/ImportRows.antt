@@ -1,7 +1,8 @@
 -- Calls of a migration's destination, and the end of a source's export by the destination's token (TD Migration Architecture,
 -- "Migration Session Control"; ABI Reference, "TDH.IMPORT" leaf functions). Each row of a call with an input
 -- slot is given the bundle that came there.
-use Rattle.std.specs.Prelude.{ℕ, ◌+◌, ◌-◌, ◌^◌, ◌==◌, List, [], ◌∷◌, ◌++◌, Option, Some, Bool, true, false, nat_lt}
+use Rattle.std.specs.Prelude.{ℕ, ◌+◌, ◌-◌, ◌^◌, ◌==◌, List, [], ◌∷◌, ◌++◌, Option, Some, None, Bool, true, false, not, nat_lt}
+use Rattle.std.specs.List.{list_any}
 use Rattle.td_words.specs.declared.names.PageKind.TheVariants as kind
 use Rattle.td_words.specs.declared.names.OpState.{OpState}
 use Rattle.td_words.specs.declared.names.OpState.TheVariants as op
@@ -11,7 +12,7 @@ use Rattle.td_words.specs.declared.names.VcpuState.TheVariants as vcpu
 use Rattle.td_words.specs.declared.names.HeaderField.TheVariants as field
 use Rattle.td_words.specs.declared.names.Mode.TheVariants.{Exclusive}
 use Rattle.td_words.specs.declared.machines.Machine.{Machine}
-use Rattle.td_words.specs.declared.refusals.Status.TheVariants.{TokenTotal}
+use Rattle.td_words.specs.declared.refusals.Status.TheVariants.{PageMetadataIncorrect, TokenTotal}
 use Rattle.td_words.specs.declared.replies.Value.TheVariants as value
 use Rattle.td_words.specs.declared.replies.Reply.{Reply}
 use Rattle.flat_core.specs.World.{World, ClearHeader, put}
@@ -23,6 +24,7 @@ use Rattle.flat_core.specs.Tree.{page_of_gpa, number_at, entry_at, walk, state_i
 use Rattle.flat_core.specs.Effects.{set_page, map_page, begin_memory, set_op, add_bundle}
 use Rattle.flat_core.specs.ExportRows.{image_of}
 use Rattle.flat_core.specs.Sessions.{stream_counter, bundles_so_far, has_stream, count_bundle, set_mig_epoch}
+use Rattle.flat_core.specs.PageLists.{page_count, count_argument, pages_argument, Arrival, arrivals}
 use Rattle.flat_core.specs.Inputs.{Input, input_in, no_header, input_row, header_says, stream_there, session_same, epoch_same, counter_due, tag_holds}
 
 -- the operation states in which a session begins, its memory comes in, and its TD and VCPU states come in; in which an import
@@ -75,28 +77,66 @@ import_immutable m b tdr slot = let x = input_in b in call_row
     (λ w. count_bundle tdr 0 (begin_import tdr x w))
     (λ w. value.Nothing)
 
--- IMPORT.MEM TDR SLOT PAGE: a page's words come in, before the start token; a page that comes late has no row yet. Where its
--- entry is FREE, the page is taken, else PAGE isn't used; that the guest may know the words from then on, is noted (ABI
--- Reference, "TDH.IMPORT.MEM")
+-- IMPORT.MEM TDR SLOT PAGE [COUNT]: the words of pages at consecutive GPAs come in, before the start token; pages that come
+-- late have no row yet. Where an entry is FREE, the page that is offered for it is taken, which must be none that the call has
+-- locked already; else it isn't used. That the guest may know the words from then on, is noted (ABI Reference,
+-- "TDH.IMPORT.MEM"). What comes behind the pages is given.
 abbrev pub importable : List EntryState
 importable = entry.Free ∷ entry.Mapped ∷ []
 
-abbrev pub page_to_fill : World → (tdr gpa page : ℕ) → EntryState → List (Item Reply)
-page_to_fill w t gpa page entry.Free = page_exclusive page ∷ host_page w page ∷ []
-page_to_fill w t gpa page _ = named_page w t gpa 0 Exclusive ∷ []
+abbrev pub is_among : ℕ → List ℕ → Bool
+is_among p ps = list_any (λ q. q == p) ps
+
+abbrev pub unlocked_page : (locked : List ℕ) → (page : ℕ) → List (Item Reply)
+unlocked_page [] page = []
+unlocked_page (p ∷ locked) page = needs (not (is_among page (p ∷ locked))) (PageMetadataIncorrect page) ∷ []
+
+abbrev pub page_to_fill : World → (tdr : ℕ) → (locked : List ℕ) → (gpa page : ℕ) → EntryState → List (Item Reply)
+page_to_fill w t locked gpa page entry.Free = unlocked_page locked page ++ page_exclusive page ∷ host_page w page ∷ []
+page_to_fill w t locked gpa page _ = named_page w t gpa 0 Exclusive ∷ []
+
+-- the page that is locked for an entry, by its state
+abbrev pub filled_page : (page : ℕ) → EntryState → (named : ℕ) → ℕ
+filled_page page entry.Free named = page
+filled_page page _ named = named
+
+abbrev pub page_filled : World → (tdr : ℕ) → Arrival → ℕ
+page_filled w t a = let e = entry_at w t 0 a.gpa in filled_page a.page e.state e.page
+
+abbrev pub pages_to_fill : World → (tdr : ℕ) → (locked : List ℕ) → List Arrival → List (Item Reply) → List (Item Reply)
+pages_to_fill w t locked [] rest = rest
+pages_to_fill w t locked (a ∷ pages) rest =
+    walk w t a.gpa 0 ++ state_in w t a.gpa 0 importable
+    ∷ (page_to_fill w t locked a.gpa a.page (entry_at w t 0 a.gpa).state ++ pages_to_fill w t (page_filled w t a ∷ locked) pages rest)
 
 abbrev pub fill_page : (tdr gpa page : ℕ) → (ℕ → ℕ) → EntryState → World → World
 fill_page t gpa page ws entry.Free w = set_page page ws (map_page page kind.Reg entry.Mapped t 0 (number_at 0 gpa) w)
 fill_page t gpa page ws _ w = set_page (entry_at w t 0 gpa).page ws w
 
-abbrev pub import_page : Machine → Option Incoming → (tdr slot page : ℕ) → Row
-import_page m b tdr slot page = let x = input_in b in call_row
-    (λ w. let h = x.header in
-    page_argument m 1 tdr ∷ page_argument m 3 page ∷ apart_argument 3 page tdr ∷ (input_row x slot (3 ∷ []) ++ (td_shared w tdr filling_ops ++ tree_exclusive tdr
-    ∷ stream_there w tdr h ∷ session_same w tdr h ∷ epoch_same w tdr h ∷ counter_due (stream_counter w tdr h.stream) h
-    ∷ (walk w tdr h.gpa 0 ++ state_in w tdr h.gpa 0 importable ∷ (page_to_fill w tdr h.gpa page (entry_at w tdr 0 h.gpa).state ++ tag_holds x ∷ [])))))
-    (λ w. let gpa = x.header.gpa in
-    count_bundle tdr x.header.stream (begin_memory tdr (page_of_gpa gpa) x.words (fill_page tdr gpa page x.words (entry_at w tdr 0 gpa).state w)))
+abbrev pub take_in : (tdr : ℕ) → Arrival → World → World
+take_in t a w =
+    begin_memory t (page_of_gpa a.gpa) a.words (fill_page t a.gpa a.page a.words (entry_at w t 0 a.gpa).state w)
+
+abbrev pub take_each : (tdr : ℕ) → List Arrival → World → World
+take_each t [] w = w
+take_each t (a ∷ pages) w = take_each t pages (take_in t a w)
+
+-- A list's bundle is one of version 2 that says COUNT; as long as no such bundle is read, every other is of version 1
+abbrev pub list_says : ClearHeader → Option ℕ → List (Item Reply)
+list_says h None = []
+list_says h (Some n) = header_says (h.version == 2) field.Version ∷ header_says (h.info == n) field.Count ∷ []
+
+-- what is asked behind the arguments and the bundle's form
+abbrev pub import_conditions : World → (tdr : ℕ) → Input → List Arrival → List (Item Reply)
+import_conditions w t x pages = let h = x.header in
+    td_shared w t filling_ops ++ tree_exclusive t ∷ stream_there w t h ∷ session_same w t h ∷ epoch_same w t h
+    ∷ counter_due (stream_counter w t h.stream) h ∷ pages_to_fill w t [] pages (tag_holds x ∷ [])
+
+abbrev pub import_pages : Machine → Option Incoming → (tdr slot page : ℕ) → Option ℕ → Row
+import_pages m b tdr slot page count = let x = input_in b in let h = x.header in let pages = arrivals h.gpa page x.words (page_count count) in call_row
+    (λ w. page_argument m 1 tdr ∷ page_argument m 3 page ∷ (count_argument 4 count ++ apart_argument 3 page tdr
+    ∷ (pages_argument m 4 page tdr count ++ (input_row x slot (3 ∷ []) ++ (list_says h count ++ import_conditions w tdr x pages)))))
+    (λ w. count_bundle tdr h.stream (take_each tdr pages w))
     (λ w. value.Nothing)
 
 -- IMPORT.TRACK TDR SLOT: a token ends the migration epoch, and says how many bundles came before it; with the start token all

@@ -1,6 +1,6 @@
 -- Bundles that come in, as the rows of the calls with an input slot look at them (TD Migration Architecture, "Migration
 -- Bundles").
-use Rattle.std.specs.Prelude.{ℕ, ◌-◌, ◌%◌, ◌^◌, List, [], ◌∷◌, length, Option, Some, None, Result, Ok, Err, Bool, true, false, ◌==◌, ◌&&◌, nat_lt, nat_le, slice_index_or, if◌then◌else◌}
+use Rattle.std.specs.Prelude.{ℕ, ◌+◌, ◌-◌, ◌*◌, ◌%◌, ◌^◌, List, [], ◌∷◌, length, Option, Some, None, Result, Ok, Err, Bool, true, false, ◌==◌, ◌&&◌, nat_lt, nat_le, slice_index_or, if◌then◌else◌}
 use Rattle.std.specs.List.{list_any}
 use Rattle.td_words.specs.declared.names.HeaderField.{HeaderField}
 use Rattle.td_words.specs.declared.names.HeaderField.TheVariants as field
@@ -9,6 +9,7 @@ use Rattle.td_words.specs.declared.replies.Reply.{Reply}
 use Rattle.flat_core.specs.World.{World, ClearHeader}
 use Rattle.flat_core.specs.Opening.{Incoming}
 use Rattle.flat_core.specs.Row.{Item, needs}
+use Rattle.flat_core.specs.PageLists.{most_pages}
 
 -- what a row looks at: whether the slot has a bundle, the first fault of its form, its header, whether its tag is that of its
 -- bytes, and the words of its payload, which are 0 behind the last
@@ -32,12 +33,25 @@ most_info kind = if kind == 0 then 8 else if kind == 2 then 256 else 0
 abbrev pub most_gpa : ℕ → ℕ
 most_gpa kind = if kind == 3 then 2 ^ 47 - 1 else 0
 
--- a header's fields have values that its form allows: those that depend on the type, a counter and an epoch of 32 bits, a
--- session of 16 bits that isn't 0, and a GPA that is a page's
+-- a bundle of pages of version 2 is a list of them: it says how many, and they end by 2^47
+abbrev pub is_list : ClearHeader → Bool
+is_list h = h.version == 2 && h.kind == 3
+
+abbrev pub fits_list : (info gpa : ℕ) → Bool
+fits_list info gpa = nat_le 1 info && (nat_le info most_pages && nat_le (gpa + 4096 * info) (2 ^ 47))
+
+abbrev pub fits_one : (kind info gpa : ℕ) → Bool
+fits_one kind info gpa = nat_le info (most_info kind) && nat_le gpa (most_gpa kind)
+
+abbrev pub fits_version : ClearHeader → Bool
+fits_version h = if is_list h then fits_list h.info h.gpa else fits_one h.kind h.info h.gpa
+
+-- a header's fields have values that its form allows: those that depend on type and version, a counter and an epoch of 32 bits,
+-- a session of 16 bits that isn't 0, and a GPA that is a page's
 abbrev pub has_values : ClearHeader → Bool
 has_values h =
-    nat_le h.stream (most_stream h.kind) && (nat_le h.index (most_index h.kind) && (nat_le h.info (most_info h.kind) && (nat_le h.gpa (most_gpa h.kind)
-    && ((h.gpa % 4096 == 0) && (nat_lt h.counter (2 ^ 32) && ((h.iv == h.counter) && (nat_lt h.epoch (2 ^ 32) && (nat_le 1 h.session && nat_lt h.session (2 ^ 16)))))))))
+    nat_le h.stream (most_stream h.kind) && (nat_le h.index (most_index h.kind) && (fits_version h && ((h.gpa % 4096 == 0)
+    && (nat_lt h.counter (2 ^ 32) && ((h.iv == h.counter) && (nat_lt h.epoch (2 ^ 32) && (nat_le 1 h.session && nat_lt h.session (2 ^ 16))))))))
 
 abbrev pub no_header : ClearHeader
 no_header = record { size = 0; version = 0; stream = 0; kind = 0; reserved = 0; counter = 0; epoch = 0; iv = 0; session = 0; index = 0; info = 0; gpa = 0; total = 0 }

@@ -18,6 +18,7 @@ use Rattle.flat_core.specs.Row.{Row, Passes}
 use Rattle.flat_core.specs.Arguments.{level_size}
 use Rattle.flat_core.specs.Conditions.{is_host_in}
 use Rattle.flat_core.specs.Exports.{is_dirty, entries_where}
+use Rattle.flat_core.specs.PageLists.{most_pages}
 
 -- a TD that is alive
 pub record IsAlive (pages : Pages) (tds : Tds) (t : ℕ) : Type 0 where
@@ -165,12 +166,12 @@ pub record LawfulCounts (count : ℕ) (pages : Pages) (tds : Tds) (streams : Str
   pub dirtied : (t : ℕ) → IsAlive pages tds t → entries_where is_dirty count pages tds t + sum_by streams.cleaned (tds.streams t) ≡ tds.dirtied t
   pub unrestored : (t : ℕ) → IsAlive pages tds t → entries_where is_exported count pages tds t ≡ (tds.unrestored t + sum_by streams.first_exports (tds.streams t)) % 2 ^ 64
 
--- A stream counts its bundles in 32 bits; each page that it cleaned, and each that it exported first, was one of them. The
+-- A stream counts its bundles in 32 bits; each page that it cleaned, and each that it exported first, was in one of them. The
 -- streams of a TD that is UNINITIALIZED have counted nothing.
 pub record LawfulStreams (pages : Pages) (tds : Tds) (streams : Streams) : Type 0 where
   pub counter : (s : ℕ) → streams.counters s < 2 ^ 32
-  pub cleaned : (s : ℕ) → streams.cleaned s ≤ streams.counters s
-  pub first_exports : (s : ℕ) → streams.first_exports s ≤ streams.counters s
+  pub cleaned : (s : ℕ) → streams.cleaned s ≤ most_pages * streams.counters s
+  pub first_exports : (s : ℕ) → streams.first_exports s ≤ most_pages * streams.counters s
   pub uncounted : (t s : ℕ) → IsAlive pages tds t → tds.ops t ≡ Uninitialized → list_any (λ q. q == s) (tds.streams t) ≡ true → streams.counters s ≡ 0
 
 -- the operation states of a TD that is being exported

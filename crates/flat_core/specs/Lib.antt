@@ -18,11 +18,13 @@ pub mod MemRows
 pub mod Exports
 pub mod ExportRows
 pub mod Sessions
-pub mod BundleRows
+pub mod PageLists
 pub mod Inputs
+pub mod BundleRows
 pub mod ImportRows
 pub mod Table
 pub mod Tries
+pub mod ListTries
 pub mod Guest
 pub mod Event
 pub mod Run
@@ -48,3 +50,4 @@ pub mod Entered
 pub mod Worked
 pub mod GuestWorked
 pub mod ImportWorked
+pub mod ListWorked

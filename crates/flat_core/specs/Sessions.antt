@@ -72,6 +72,7 @@ payload_words ws n = map ws (range_with_len 0 n)
 
 -- what differs from one bundle of a session to the next; and what differs by kind and epoch alone
 pub record About : Type 0 where
+  pub version : ℕ
   pub stream : ℕ
   pub kind : ℕ
   pub epoch : ℕ
@@ -81,13 +82,13 @@ pub record About : Type 0 where
   pub total : ℕ
 
 abbrev pub about : (kind epoch : ℕ) → About
-about k e = record { stream = 0; kind = k; epoch = e; index = 0; info = 0; gpa = 0; total = 0 }
+about k e = record { version = 1; stream = 0; kind = k; epoch = e; index = 0; info = 0; gpa = 0; total = 0 }
 
 -- its header: its stream's counter is the counter and the IV
 abbrev pub header_of : World → ℕ → About → ClearHeader
 header_of w t a = record {
   size = 64;
-  version = 1;
+  version = a.version;
   stream = a.stream;
   kind = a.kind;
   reserved = 0;

@@ -1,5 +1,5 @@
 -- The leaf table: the row of each call, for the logical processor that makes it, and at most how many events it takes.
-use Rattle.std.specs.Prelude.{ℕ, ◌+◌, ◌*◌}
+use Rattle.std.specs.Prelude.{ℕ, ◌+◌, ◌*◌, None}
 use Rattle.td_words.specs.declared.calls.Call.{Call}
 use Rattle.td_words.specs.declared.calls.Call.TheVariants as call
 use Rattle.flat_core.specs.Opening.{Opening}
@@ -10,8 +10,8 @@ use Rattle.flat_core.specs.KeyRows.{write_caches_back, reclaim_page, end_flush, 
 use Rattle.flat_core.specs.VpRows.{create_vp, initialize_vp, enter_vp, flush_vp}
 use Rattle.flat_core.specs.MemRows.{add_sept, read_sept, add_page, augment_page, remove_page, relocate_page, remove_sept, block_range, unblock_range, advance_epoch, extend}
 use Rattle.flat_core.specs.ExportRows.{create_stream, block_write, unblock_write, pause, abort_export, restore}
-use Rattle.flat_core.specs.BundleRows.{export_immutable, export_page, export_token, export_td, export_vp}
-use Rattle.flat_core.specs.ImportRows.{import_immutable, import_page, import_token, import_td, import_vp, commit_import, end_import, abort_import, abort_by_token}
+use Rattle.flat_core.specs.BundleRows.{export_immutable, export_pages, export_token, export_td, export_vp}
+use Rattle.flat_core.specs.ImportRows.{import_immutable, import_pages, import_token, import_td, import_vp, commit_import, end_import, abort_import, abort_by_token}
 
 abbrev pub row_of : Opening → ℕ → Call → Row
 row_of o me (call.HostRead page word) = host_read o.machine page word
@@ -49,13 +49,13 @@ row_of o me (call.ExportPause tdr) = pause o.machine tdr
 row_of o me (call.ExportAbort tdr) = abort_export o.machine tdr
 row_of o me (call.ExportRestore tdr gpa) = restore o.machine tdr gpa
 row_of o me (call.ExportStateImmutable tdr slot) = export_immutable o.machine tdr slot
-row_of o me (call.ExportMem tdr gpa stream slot) = export_page o.machine tdr gpa stream slot
+row_of o me (call.ExportMem tdr gpa stream slot) = export_pages o.machine tdr gpa stream slot None
 row_of o me (call.ExportTrack tdr slot start) = export_token o.machine tdr slot start
 row_of o me (call.ExportStateTd tdr slot) = export_td o.machine tdr slot
 row_of o me (call.ExportStateVp tdr vp slot) = export_vp o.machine tdr vp slot
 row_of o me (call.ExportAbortByToken tdr slot) = abort_by_token o.machine (o.bundles slot) tdr slot
 row_of o me (call.ImportStateImmutable tdr slot) = import_immutable o.machine (o.bundles slot) tdr slot
-row_of o me (call.ImportMem tdr slot page) = import_page o.machine (o.bundles slot) tdr slot page
+row_of o me (call.ImportMem tdr slot page) = import_pages o.machine (o.bundles slot) tdr slot page None
 row_of o me (call.ImportTrack tdr slot) = import_token o.machine (o.bundles slot) tdr slot
 row_of o me (call.ImportStateTd tdr slot) = import_td o.machine (o.bundles slot) tdr slot
 row_of o me (call.ImportStateVp tdr vp slot) = import_vp o.machine (o.bundles slot) tdr vp slot

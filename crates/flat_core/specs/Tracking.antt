@@ -34,6 +34,10 @@ entered_at entered epoch (v ∷ vs) = one_at (entered v) + entered_at entered ep
 abbrev pub is_tracked : World → ℕ → ℕ → Bool
 is_tracked w t p = tracked (w.pages.blocked p) (w.tds.epochs t) (entry_epochs w.vps.entered (w.tds.vps t))
 
+-- a block of the TD at that epoch is
+abbrev pub tracked_block : World → (tdr blocked : ℕ) → Item Reply
+tracked_block w t blocked = needs (tracked blocked (w.tds.epochs t) (entry_epochs w.vps.entered (w.tds.vps t))) TlbTrackingNotDone
+
 abbrev pub tracked_page : World → ℕ → ℕ → Item Reply
 tracked_page w t p = needs (is_tracked w t p) TlbTrackingNotDone
 

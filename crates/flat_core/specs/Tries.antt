@@ -1,7 +1,5 @@
 -- What each call tries: its locks in order, each with its mode.
 use Rattle.std.specs.Prelude.{◌≡◌, ℕ, List, [], ◌∷◌, ◌++◌, ◌==◌, if◌then◌else◌}
-use Rattle.td_words.specs.declared.names.EntryState.{EntryState}
-use Rattle.td_words.specs.declared.names.EntryState.TheVariants as entry
 use Rattle.td_words.specs.declared.names.Mode.{Mode}
 use Rattle.td_words.specs.declared.names.Mode.TheVariants.{Shared, Exclusive}
 use Rattle.td_words.specs.declared.names.ReadField.{ReadField}
@@ -15,6 +13,7 @@ use Rattle.flat_core.specs.Row.{Item, Check, Try, Row}
 use Rattle.flat_core.specs.Tree.{entry_at}
 use Rattle.flat_core.specs.Sessions.{stream_page}
 use Rattle.flat_core.specs.Inputs.{input_in}
+use Rattle.flat_core.specs.ImportRows.{filled_page}
 use Rattle.flat_core.specs.Table.{row_of}
 
 -- the tries of a row, whether or not its conditions hold
@@ -71,10 +70,6 @@ tree_tries t = td_tries t Exclusive ++ alone (OfTree t) ∷ []
 
 abbrev pub vp_tries : (tdr vp : ℕ) → List Held
 vp_tries t v = td_tries t Exclusive ++ alone (OfPage v) ∷ []
-
-abbrev pub filled_page : (page : ℕ) → EntryState → (named : ℕ) → ℕ
-filled_page page entry.Free named = page
-filled_page page _ named = named
 
 abbrev pub page_tries : (tdr gpa page : ℕ) → World → List Held
 page_tries t gpa page w = let e = entry_at w t 0 gpa in td_tries t Shared ++ alone (OfTree t) ∷ alone (OfPage (filled_page page e.state e.page)) ∷ []

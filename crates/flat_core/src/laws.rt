@@ -9,6 +9,7 @@ ghost use Rattle.flat_core.specs.GuestWorked.{GuestExamples};
 ghost use Rattle.flat_core.specs.Guests.{RowsSpare};
 ghost use Rattle.flat_core.specs.ImportWorked.{ImportExamples};
 ghost use Rattle.flat_core.specs.Laws.{RowsKeep, RowsAreBlind, MrtdIsTheDigest, RecordsAreMeasured, TimelinessIsKept, EveryWorldIsLawful, LawfulPagesAreOwned, OwnersAreKept, EveryPageIsOwned, LawfulWorldsAreCounted, CountsAreKept, ExportedAreCounted, OthersStay, QuietEventsStay, NoWordsToTell, ExclusionIsKept, LocksExclude, RefusedCallsStay, QuietCallsKeep, RefusalsLeaveTheirReply, RowsTryTheSame, CallsHaveTheirEvents, EventsKeepLawful, MrtdsAreKept, EveryMrtdIsTrue, EventsMeasure, PagesHaveOneUse, GuestsKnowTheirPages, ToldAreMerged, OperationsTellBoth};
+ghost use Rattle.flat_core.specs.ListWorked.{ListExamples};
 ghost use Rattle.flat_core.specs.Order.{OrderIsKept, TreeIsFreeInOrder, TreeIsNeverBusy};
 ghost use Rattle.flat_core.specs.PageUses.{EventsKeepUses};
 ghost use Rattle.flat_core.specs.Replies.{RepliesComeOneByOne, RepliesAreKept, RepliesAreToLines, EveryLineIsAnswered};
@@ -17,11 +18,12 @@ ghost use Rattle.flat_core.specs.Tries.{RowsTryTheirLists};
 ghost use Rattle.flat_core.specs.TwoWorlds.{OperationsAreBlind, EventsAreBlind, EventsTellTheirWords};
 ghost use Rattle.flat_core.specs.Worked.{Examples};
 
-/// The worked examples: replies of small runs, and how many events they take; and of imports, of
-/// bundles that a worked export makes.
+/// The worked examples: replies of small runs, and how many events they take; of imports, of bundles that
+/// a worked export makes; and of lists of pages.
 pub fn worked_examples()
     ensures runs { Examples }
     ensures imports { ImportExamples }
+    ensures lists { ListExamples }
 {}
 
 /// The worked examples of guests: their exits, notes and told words, and how many events they take.

@@ -102,6 +102,7 @@ field_text field.Stream = codes "STREAM"
 field_text field.Session = codes "SESSION"
 field_text field.Epoch = codes "EPOCH"
 field_text field.Index = codes "INDEX"
+field_text field.Count = codes "COUNT"
 
 abbrev pub read_text : ReadField → List ℕ
 read_text read.Life = codes "LIFE"

@@ -188,6 +188,7 @@ impl fmt::Display for HeaderField {
             HeaderField::Session => "SESSION",
             HeaderField::Epoch => "EPOCH",
             HeaderField::Index => "INDEX",
+            HeaderField::Count => "COUNT",
         };
         f.write_str(text)
     }

@@ -108,6 +108,7 @@ pub enum HeaderField {
     Session,
     Epoch,
     Index,
+    Count,
 }
 
 /// What MNG.RD can read of a TD.
