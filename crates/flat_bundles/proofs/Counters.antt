@@ -232,11 +232,11 @@ module _ (o : Opening) (me : ℕ) (w : World) (low : (page : ℕ) → w.streams.
   reclaim-asks t page true = refl
   reclaim-asks t page false = refl
 
-  tracked-asks : (s : OpState) (t page : ℕ) → asked_in (tracked_in s w t page) ≡ []
-  tracked-asks op.LiveExport t page = refl
-  tracked-asks _ t page = refl
+  tracked-asks : (s : OpState) (t : ℕ) (gpas : List ℕ) → asked_in (tracked_in s w t gpas) ≡ []
+  tracked-asks op.LiveExport t gpas = refl
+  tracked-asks _ t gpas = refl
 
-  filled-asks : (t gpa page : ℕ) (x : Input) (s : EntryState) → asked_in (page_to_fill w t gpa page s ++ tag_holds x ∷ []) ≡ []
+  filled-asks : (t gpa page : ℕ) (x : Input) (s : EntryState) → asked_in (page_to_fill w t [] gpa page s ++ tag_holds x ∷ []) ≡ []
   filled-asks t gpa page x entry.Free = refl
   filled-asks t gpa page x _ = refl
 
@@ -248,7 +248,7 @@ module _ (o : Opening) (me : ℕ) (w : World) (low : (page : ℕ) → w.streams.
   row-asks (call.MemSeptRemove t gpa level) = none-asked (call.MemSeptRemove t gpa level) (asked-behind w t gpa level _ refl)
   row-asks (call.MemRangeBlock t gpa level) = none-asked (call.MemRangeBlock t gpa level) (asked-behind w t gpa level _ refl)
   row-asks (call.MemRangeUnblock t gpa level) = none-asked (call.MemRangeUnblock t gpa level) (asked-behind w t gpa level _ refl)
-  row-asks (call.ExportMem t gpa k slot) = none-asked (call.ExportMem t gpa k slot) (tracked-asks (w.tds.ops t) t (entry_at w t 0 gpa).page)
+  row-asks (call.ExportMem t gpa k slot) = none-asked (call.ExportMem t gpa k slot) (tracked-asks (w.tds.ops t) t (gpa ∷ []))
   row-asks (call.ExportTrack t slot zero) = none-asked (call.ExportTrack t slot zero) refl
   row-asks (call.ExportTrack t slot (suc n)) = none-asked (call.ExportTrack t slot (suc n)) refl
   row-asks (call.ExportAbortByToken t slot) = one-asked (call.ExportAbortByToken t slot) (input_in (o.bundles slot)).header.counter 0 (omega arith) refl

@@ -88,6 +88,7 @@ formed_of b k is v long = record { lawful = λ tag tagged. lawful_of b.header k 
 
 -- what a bundle of a session says besides its session and its counter
 record FitsKind (a : About) (k : Allowed) : Type 0 where
+  version : a.version ≡ 1
   page : a.gpa % 4096 ≡ 0
   stream : a.stream ≤ k.stream
   epoch : a.epoch ≤ k.epoch
@@ -105,7 +106,7 @@ module _ (w : World) (h : FormsHold w) (t slot : ℕ) (a : About) (payload : Lis
   new_formed : IsFormed new
   new_formed = formed_of new k is (record {
     size = refl;
-    version = refl;
+    version = v.version;
     reserved = refl;
     counter = counter;
     iv = refl;
@@ -226,7 +227,7 @@ module _ (o : Opening) (me : ℕ) (w : World) (l : Lawful o.machine w) (h : Form
         session = λ x e. by_test (x == t) (λ y. rw y (omega arith)) (λ y. rw y (h.session x (rw y at e)));
       } in
       made_forms (begin_session t w) begun t slot (record (about 0 1) { info = length (w.tds.vps t) }) (six_words (w.tds.mrtds t)) bundle.ImmutableState refl
-      (record { page = refl; stream = omega arith; epoch = omega arith; index = omega arith; info = few; gpa = omega arith; total = omega arith }) refl
+      (record { version = refl; page = refl; stream = omega arith; epoch = omega arith; index = omega arith; info = few; gpa = omega arith; total = omega arith }) refl
       (rw (same_self t) (omega arith)) (rw (same_self t) (omega (arith, room)))
       (by_test (list_any (λ p. p == stream_page w t 0) (w.tds.streams t)) (λ y. rw y (omega arith)) (λ y. rw y (l.streams.counter (stream_page w t 0))))
 
@@ -236,7 +237,17 @@ module _ (o : Opening) (me : ℕ) (w : World) (l : Lawful o.machine w) (h : Form
       let low : gpa < 2 ^ 47 = ltb-true _ _ (search) in
       let v : World = count_export t k (entry_at w t 0 gpa).state (restate t (number_at 0 gpa) entry.ExportedBlockedW (w.tds.mig_epochs t) w) in
       made_forms v (record { formed = h.formed; position = h.position; session = h.session }) t slot (record (about 3 (w.tds.mig_epochs t)) { stream = k; gpa = gpa }) (payload_words (w.words (entry_at w t 0 gpa).page) 512) bundle.Memory refl
-      (record { page = eqb-true (gpa % 4096) 0 (search); stream = omega (arith, few); epoch = epoch_fits t; index = omega arith; info = omega arith; gpa = omega (arith, low); total = omega arith })
+      (record {
+        version = refl;
+        page = eqb-true (gpa % 4096) 0 (search);
+        stream = omega
+            (arith, few);
+        epoch = epoch_fits t;
+        index = omega arith;
+        info = omega arith;
+        gpa = omega (arith, low);
+        total = omega arith;
+      })
       (let all = length-map-range_with_len (w.words (entry_at w t 0 gpa).page) 0 512 in omega (arith, all))
       (h.session t (abortable_session (w.tds.ops t) (search))) (l.sessions.session t) (counter_fits t k)
 
@@ -244,18 +255,28 @@ module _ (o : Opening) (me : ℕ) (w : World) (l : Lawful o.machine w) (h : Form
   token_forms t slot zero ps =
       let less : w.tds.mig_epochs t < 2 ^ 32 - 2 = ltb-true _ _ (search) in
       made_forms (set_mig_epoch t (w.tds.mig_epochs t + 1) w) (record { formed = h.formed; position = h.position; session = h.session }) t slot (record (about 4 (w.tds.mig_epochs t + 1)) { total = bundles_so_far w t }) [] bundle.EpochToken refl
-      (record { page = refl; stream = omega arith; epoch = omega (arith, less); index = omega arith; info = omega arith; gpa = omega arith; total = total_fits t }) refl
+      (record {
+        version = refl;
+        page = refl;
+        stream = omega arith;
+        epoch = omega
+            (arith, less);
+        index = omega arith;
+        info = omega arith;
+        gpa = omega arith;
+        total = total_fits t;
+      }) refl
       (h.session t (abortable_session (w.tds.ops t) (search))) (l.sessions.session t) (counter_fits t 0)
   token_forms t slot (suc n) ps =
       let own : 1 ≤ w.tds.sessions t = h.session t (paused_session (w.tds.ops t) (search)) in
       made_forms (set_op t op.PostExport (set_mig_epoch t start_epoch w)) (over_forms (set_mig_epoch t start_epoch w) t op.PostExport (λ e. own) (record { formed = h.formed; position = h.position; session = h.session }))
       t slot (record (about 5 start_epoch) { total = bundles_so_far w t }) [] bundle.StartToken refl
-      (record { page = refl; stream = omega arith; epoch = omega arith; index = omega arith; info = omega arith; gpa = omega arith; total = total_fits t }) refl own (l.sessions.session t) (counter_fits t 0)
+      (record { version = refl; page = refl; stream = omega arith; epoch = omega arith; index = omega arith; info = omega arith; gpa = omega arith; total = total_fits t }) refl own (l.sessions.session t) (counter_fits t 0)
 
   td_forms : (t slot : ℕ) → Passes ((row_of o me (call.ExportStateTd t slot)).items w) → FormsHold (After (call.ExportStateTd t slot))
   td_forms t slot ps =
       made_forms (note_td_export t w) (record { formed = h.formed; position = h.position; session = h.session }) t slot (about 1 (w.tds.mig_epochs t)) (payload_words (w.hidden.rtmrs t) 24) bundle.TdState refl
-      (record { page = refl; stream = omega arith; epoch = epoch_fits t; index = omega arith; info = omega arith; gpa = omega arith; total = omega arith })
+      (record { version = refl; page = refl; stream = omega arith; epoch = epoch_fits t; index = omega arith; info = omega arith; gpa = omega arith; total = omega arith })
       (let all = length-map-range_with_len (w.hidden.rtmrs t) 0 24 in omega (arith, all))
       (h.session t (paused_session (w.tds.ops t) (search))) (l.sessions.session t) (counter_fits t 0)
 
@@ -267,7 +288,17 @@ module _ (o : Opening) (me : ℕ) (w : World) (l : Lawful o.machine w) (h : Form
       let same = mod-le (w.vps.positions p) (2 ^ 32) in
       made_forms (note_vp_export t p w) (record { formed = h.formed; position = h.position; session = h.session }) t slot (record (about 2 (w.tds.mig_epochs t)) { index = w.vps.indexes p; info = w.vps.positions p % 2 ^ 32 })
       (payload_words (w.hidden.registers p) 8) bundle.VcpuState refl
-      (record { page = refl; stream = omega arith; epoch = epoch_fits t; index = index_fits t p (td_alive td) its.0 (eqb-true _ _ its.1); info = omega (arith, low, same); gpa = omega arith; total = omega arith })
+      (record {
+        version = refl;
+        page = refl;
+        stream = omega arith;
+        epoch = epoch_fits t;
+        index = index_fits t p (td_alive td) its.0
+            (eqb-true _ _ its.1);
+        info = omega (arith, low, same);
+        gpa = omega arith;
+        total = omega arith;
+      })
       (let all = length-map-range_with_len (w.hidden.registers p) 0 8 in omega (arith, all))
       (h.session t (paused_session (w.tds.ops t) td.op)) (l.sessions.session t) (counter_fits t 0)
 
@@ -340,7 +371,8 @@ module _ (o : Opening) (me : ℕ) (w : World) (l : Lawful o.machine w) (h : Form
       other_forms (After (call.ImportStateTd t slot)) t refl refl (λ e. h.session t (td_state_session (w.tds.ops t) (search))) (λ x y. rw y refl) (λ x y. refl)
   row-forms (call.ImportStateVp t p slot) ps =
       let x : Input = input_in (o.bundles slot) in
-      let few : x.header.info ≤ 256 = subst (λ (n : ℕ). x.header.info ≤ most_info n) (only_two x.header.kind (search)) (input_form (o.bundles slot) (search)).info in
+      let few : x.header.info ≤ 256 = subst (λ (n : ℕ). x.header.info ≤ most_info n) (only_two x.header.kind (search))
+      ((input_form (o.bundles slot) (search)).info (λ e. (let no : 2 ≡ 3 = sym (only_two x.header.kind (search)) ∙ e in cc))) in
       record {
         formed = h.formed;
         position = λ q. by_test (q == p) (λ y. rw y few) (λ y. rw y (h.position q));

@@ -1,5 +1,5 @@
 -- Which bundles each act adds.
-use Rattle.std.proofs.Common.{◌≡◌, refl, ℕ, zero, suc, ◌≤◌, List, [], ◌∷◌, ◌++◌, length, Some, None, arith}
+use Rattle.std.proofs.Common.{◌≡◌, refl, ap, ℕ, zero, suc, ◌≤◌, List, [], ◌∷◌, ◌++◌, length, Some, None, arith}
 use Rattle.std.proofs.lemmas.List.FromFn.{length-map-range_with_len}
 use Rattle.td_words.specs.declared.calls.Call.{Call}
 use Rattle.td_words.specs.declared.calls.Call.TheVariants as call
@@ -15,7 +15,8 @@ use Rattle.flat_core.specs.Table.{row_of}
 use Rattle.flat_core.specs.Sessions.{payload_words}
 use Rattle.flat_core.specs.Inputs.{Input, input_in}
 use Rattle.flat_core.specs.Guest.{ByRow, operation_of, is_pending_at, reach}
-use Rattle.flat_core.proofs.ImportFills.{fill_made}
+use Rattle.flat_core.specs.PageLists.{page_count, arrivals}
+use Rattle.flat_core.proofs.PageLists.{takes_leave}
 use Rattle.flat_core.proofs.Operations.{operation_row, accepted}
 use Rattle.flat_bundles.specs.Bundles.{AddsBundle, CallsAddTheirOwn}
 
@@ -33,7 +34,8 @@ calls-add o me (call.ExportTrack tdr slot zero) w = adds-one _ w.outgoing.bundle
 calls-add o me (call.ExportTrack tdr slot (suc n)) w = adds-one _ w.outgoing.bundles (omega arith)
 calls-add o me (call.ExportStateTd tdr slot) w = adds-one _ w.outgoing.bundles (of_page (w.hidden.rtmrs tdr) 24 (omega arith))
 calls-add o me (call.ExportStateVp tdr vp slot) w = adds-one _ w.outgoing.bundles (of_page (w.hidden.registers vp) 8 (omega arith))
-calls-add o me (call.ImportMem tdr slot page) w = let x : Input = input_in (o.bundles slot) in fill_made tdr x.header.gpa page x.words (entry_at w tdr 0 x.header.gpa).state w
+calls-add o me (call.ImportMem tdr slot page) w = let x : Input = input_in (o.bundles slot) in ap (λ (v : World). v.outgoing.bundles)
+    (takes_leave tdr (arrivals x.header.gpa page x.words (page_count None)) w)
 calls-add o me (call.ImportAbort tdr slot) w = adds-one _ w.outgoing.bundles (omega arith)
 calls-add o me (call.HostRead page word) w = refl
 calls-add o me _ w = refl

@@ -14,7 +14,7 @@ use Rattle.flat_core.specs.Opening.{Opening, Incoming}
 use Rattle.flat_core.specs.Row.{Row}
 use Rattle.flat_core.specs.Table.{row_of}
 use Rattle.flat_core.specs.Inputs.{input_in}
-use Rattle.flat_core.specs.ImportRows.{import_immutable, import_page, import_token, import_td, import_vp, abort_by_token}
+use Rattle.flat_core.specs.ImportRows.{import_immutable, import_pages, import_token, import_td, import_vp, abort_by_token}
 use Rattle.flat_core.specs.Guest.{operation_of}
 use Rattle.flat_core.specs.Event.{State, Event, start, event, after_event, event_for, line_event, entered_event, epoch_event, is_epoch_lock, guest_event, staying_event, due_event, operation_due, max_event, operation_event, lines_left, calls_of}
 use Rattle.flat_core.specs.Run.{play}
@@ -24,7 +24,7 @@ use Rattle.flat_bundles.specs.Taken.{TakesTheSame, CallsTakeTheirOwn, CallsNeedT
 lines-take : (o : Opening) (calls : List (List Call)) (bundles : ℕ → Option Incoming) (me : ℕ) (c : Call) → TakesTheSame bundles o.bundles c → row_of (with_lines o calls bundles) me c ≡ row_of o me c
 lines-take o calls bundles me (call.ExportAbortByToken tdr slot) same = ap (λ (b : Option Incoming). abort_by_token o.machine b tdr slot) (same slot refl)
 lines-take o calls bundles me (call.ImportStateImmutable tdr slot) same = ap (λ (b : Option Incoming). import_immutable o.machine b tdr slot) (same slot refl)
-lines-take o calls bundles me (call.ImportMem tdr slot page) same = ap (λ (b : Option Incoming). import_page o.machine b tdr slot page) (same slot refl)
+lines-take o calls bundles me (call.ImportMem tdr slot page) same = ap (λ (b : Option Incoming). import_pages o.machine b tdr slot page None) (same slot refl)
 lines-take o calls bundles me (call.ImportTrack tdr slot) same = ap (λ (b : Option Incoming). import_token o.machine b tdr slot) (same slot refl)
 lines-take o calls bundles me (call.ImportStateTd tdr slot) same = ap (λ (b : Option Incoming). import_td o.machine b tdr slot) (same slot refl)
 lines-take o calls bundles me (call.ImportStateVp tdr vp slot) same = ap (λ (b : Option Incoming). import_vp o.machine b tdr vp slot) (same slot refl)

@@ -1,6 +1,6 @@
 -- Pages that move: what is given back was out of reach, and what is taken waits, for its guest to accept it or for its TD to be
 -- built.
-use Rattle.std.proofs.Common.{◌≡◌, inl, inr, refl, sym, ◌∙◌, ap, subst, ℕ, zero, suc, ◌≤◌, List, [], ◌∷◌, Contains, Option, Some, Bool, true, false, not, ◌==◌, arith}
+use Rattle.std.proofs.Common.{◌≡◌, inl, inr, refl, sym, ◌∙◌, ap, subst, ℕ, zero, suc, ◌≤◌, List, [], ◌∷◌, Contains, Option, Some, None, Bool, true, false, not, ◌==◌, arith}
 use Rattle.std.specs.List.{list_any}
 use Rattle.std.proofs.lemmas.Bool.{eq-eqb, eqb-true, and_parts}
 use Rattle.td_words.specs.declared.calls.Call.{Call}
@@ -42,7 +42,9 @@ use Rattle.flat_laws.proofs.Usable.{current, alive, node, own, host-unnamed, gua
 use Rattle.flat_laws.proofs.Unreached.{closed-is-unreached, is-sound}
 use Rattle.flat_laws.proofs.GivenBack.{IsActOf, act-world, act-of, emptied}
 use Rattle.flat_laws.proofs.Waits.{Waits, WaitsWherePrivate, host-not-private}
-use Rattle.flat_laws.proofs.ImportWaits.{import_page-waits}
+use Rattle.flat_core.specs.PageLists.{page_count, gpas_from}
+use Rattle.flat_core.proofs.PageLists.{made_first, each_leaves}
+use Rattle.flat_laws.proofs.ImportWaits.{import_pages-waits}
 
 removed-unreached : (x : EntryState) (over : Bool) → list_any (λ a. same_state a x) removed_states ≡ true → over ≡ true → unreached_in x over ≡ true
 removed-unreached entry.Blocked over h k = k
@@ -171,7 +173,11 @@ module _ (o : Opening) (s : State) (me q : ℕ) (all : IsGuarded o s) where
     taken-waits (call.MemPageAug t gpa page) ps e = by_test (q == page)
         (λ y. inl (let a = eq-eqb t t refl in let b = eq-eqb (number_at 0 gpa) (number_at 0 gpa) refl in rw (y, a, b) refl))
         (λ n. absurd (host-not-private (w.pages.kinds q) (host_kind _ host) (rw n at e)))
-    taken-waits (call.ImportMem t slot page) ps e = import_page-waits o.machine (o.bundles slot) t slot page w q host ps e
+    taken-waits (call.ImportMem t slot page) ps e = import_pages-waits o.machine (o.bundles slot) t slot page None w q host ps e
+    taken-waits (call.ExportMem t gpa k slot) ps e =
+        absurd
+        (host-not-private (w.pages.kinds q) (host_kind _ host)
+        (sym (ap (λ (v : World). v.pages.kinds q) (each_leaves t k (gpas_from gpa (page_count None)) (made_first t gpa k slot None w))) ∙ e))
     taken-waits (call.ExportTrack t slot zero) ps e = absurd (host-not-private (w.pages.kinds q) (host_kind _ host) e)
     taken-waits (call.ExportTrack t slot (suc n)) ps e = absurd (host-not-private (w.pages.kinds q) (host_kind _ host) e)
     taken-waits _ ps e = absurd (host-not-private (w.pages.kinds q) (host_kind _ host) e)

@@ -1,5 +1,5 @@
 -- Each word of a run is one of 64 bits: what keeps it, act by act.
-use Rattle.std.proofs.Common.{lit<, ◌≡◌, refl, subst, ℕ, zero, suc, ◌+◌, ◌*◌, ◌/◌, ◌%◌, ◌^◌, ◌<◌, List, [], ◌∷◌, ◌++◌, length, get_or, take, drop, map, Option, Some, None, option_map, Bool, true, false, ◌==◌, ◌&&◌, if◌then◌else◌, arith}
+use Rattle.std.proofs.Common.{lit<, ◌≡◌, refl, sym, subst, ℕ, zero, suc, ◌+◌, ◌*◌, ◌/◌, ◌%◌, ◌^◌, ◌<◌, List, [], ◌∷◌, ◌++◌, length, get_or, take, drop, map, Option, Some, None, option_map, Bool, true, false, ◌==◌, ◌&&◌, if◌then◌else◌, arith}
 use Rattle.std.specs.Prelude.{IfSome, slice_get, slice_index, slice_index_or}
 use Rattle.std.specs.List.{All, range_with_len}
 use Rattle.std.specs.Int.{w64, byte_at, bytes_high_first, from_le_bytes, to_be_bytes}
@@ -23,7 +23,11 @@ use Rattle.flat_core.specs.Digests.{digest_word}
 use Rattle.flat_core.specs.Tree.{page_of_gpa, word_of_gpa, entry_at}
 use Rattle.flat_core.specs.Effects.{put_in, memory_unless, stored_in, set_word, begin_memory, set_register, set_rtmr, pass_operation, word_told, tell_words, add_bundle}
 use Rattle.flat_core.specs.Inputs.{Input, input_in}
-use Rattle.flat_core.specs.ImportRows.{fill_page}
+use Rattle.flat_core.specs.Sessions.{payload_words}
+use Rattle.flat_core.specs.PageLists.{page_count, gpas_from, Arrival, arrivals}
+use Rattle.flat_core.specs.BundleRows.{words_of_pages}
+use Rattle.flat_core.specs.ImportRows.{fill_page, take_in, take_each}
+use Rattle.flat_core.proofs.PageLists.{made_first, each_leaves}
 use Rattle.flat_core.specs.Table.{row_of}
 use Rattle.flat_core.specs.Run.{play}
 use Rattle.flat_core.specs.Guest.{Operation, ByRow, operation_of, register_told, extended_rtmr, accept_page, is_pending_at, is_private, shared_page, shared_load, shared_store, reach}
@@ -123,6 +127,46 @@ of_held w h = record { memory = h.0; registers = h.1; rtmrs = h.2; mrtds = h.3; 
 zeros : AreWords (λ i. 0)
 zeros i = lit< tt
 
+-- a page that comes in, and all of a bundle
+comes_in : (v : World) → Held v → (t : ℕ) (a : Arrival) (s : EntryState) → AreWords a.words
+    → Held (begin_memory t (page_of_gpa a.gpa) a.words (fill_page t a.gpa a.page a.words s v))
+comes_in v h t a entry.Free is = (
+  put_holds AreWords v.words a.page a.words h.0 is,
+  h.1,
+  h.2,
+  h.3,
+  put_in_holds (λ x. IfSome x AreWords) v.hidden.memories t (page_of_gpa a.gpa)
+      (Some a.words) h.4 is,
+  h.5,
+  h.6,
+  h.7,
+)
+comes_in v h t a _ is = (
+  put_holds AreWords v.words (entry_at v t 0 a.gpa).page a.words h.0 is,
+  h.1,
+  h.2,
+  h.3,
+  put_in_holds (λ x. IfSome x AreWords) v.hidden.memories t
+      (page_of_gpa a.gpa) (Some a.words) h.4 is,
+  h.5,
+  h.6,
+  h.7,
+)
+
+all_come_in : (t n gpa page : ℕ) (words : ℕ → ℕ) (v : World) → Held v → AreWords words → Held (take_each t (arrivals gpa page words n) v)
+all_come_in t zero gpa page words v h is = h
+all_come_in t (suc n) gpa page words v h is =
+    let a : Arrival = record { gpa = gpa; page = page; words = words } in
+    all_come_in t n (gpa + 4096) (page + 1) (λ i. words (512 + i)) (take_in t a v) (comes_in v h t a (entry_at v t 0 gpa).state is) (λ i. is (512 + i))
+
+-- the words of exported pages
+exported_words : (w : World) → ((p : ℕ) → AreWords (w.words p)) → (t : ℕ) (gpas : List ℕ) → All IsWord (words_of_pages w t gpas)
+exported_words w h t [] = All-nil IsWord
+exported_words w h t (gpa ∷ []) = words_of (w.words (entry_at w t 0 gpa).page) (range_with_len 0 512) (h (entry_at w t 0 gpa).page)
+exported_words w h t (gpa ∷ next ∷ gpas) =
+    All-append IsWord (payload_words (w.words (entry_at w t 0 gpa).page) 512) (words_of_pages w t (next ∷ gpas))
+    (words_of (w.words (entry_at w t 0 gpa).page) (range_with_len 0 512) (h (entry_at w t 0 gpa).page)) (exported_words w h t (next ∷ gpas))
+
 -- The acts of calls
 module _ (w : World) (h : Held w) where
   page_words : (p : ℕ) (ws : ℕ → ℕ) → AreWords ws → (page : ℕ) → AreWords (put w.words p ws page)
@@ -147,10 +191,6 @@ module _ (w : World) (h : Held w) where
   module _ (o : Opening) (gives : GivesWords o) where
     came : (slot : ℕ) → AreWords (input_in (o.bundles slot)).words
     came slot = input_words (o.bundles slot) (gives.bundles slot)
-
-    comes_in : (t gpa page : ℕ) (ws : ℕ → ℕ) (s : EntryState) → AreWords ws → Held (begin_memory t (page_of_gpa gpa) ws (fill_page t gpa page ws s w))
-    comes_in t gpa page ws entry.Free is = (page_words page ws is, h.1, h.2, h.3, known_words t (page_of_gpa gpa) (Some ws) is, h.5, h.6, h.7)
-    comes_in t gpa page ws _ is = (page_words (entry_at w t 0 gpa).page ws is, h.1, h.2, h.3, known_words t (page_of_gpa gpa) (Some ws) is, h.5, h.6, h.7)
 
     call_keeps : (me : ℕ) (c : Call) → GivesWord c → Held ((row_of o me c).act w)
     call_keeps me (call.HostRead page word) is = h
@@ -182,14 +222,18 @@ module _ (w : World) (h : Held w) where
         let left = (entry_at w tdr 0 gpa).page in (put_holds AreWords (put w.words left (λ i. 0)) page (w.words left) (cleared left) (h.0 left), h.1, h.2, h.3, h.4, h.5, h.6, h.7)
     call_keeps me (call.MigStreamCreate tdr page) is = (cleared page, h.1, h.2, h.3, h.4, h.5, h.6, h.7)
     call_keeps me (call.ExportStateImmutable tdr slot) is = makes _ (words_of (w.tds.mrtds tdr) (0 ∷ 1 ∷ 2 ∷ 3 ∷ 4 ∷ 5 ∷ []) (h.3 tdr))
-    call_keeps me (call.ExportMem tdr gpa stream slot) is = makes _ (words_of (w.words (entry_at w tdr 0 gpa).page) (range_with_len 0 512) (h.0 (entry_at w tdr 0 gpa).page))
+    call_keeps me (call.ExportMem tdr gpa stream slot) is =
+        let gpas : List ℕ = gpas_from gpa (page_count None) in
+        let first : World = made_first tdr gpa stream slot None w in
+        let made : Held first = makes _ (exported_words w h.0 tdr gpas) in
+        subst Held (sym (each_leaves tdr stream gpas first)) (made.0, made.1, made.2, made.3, made.4, made.5, made.6, made.7)
     call_keeps me (call.ExportTrack tdr slot zero) is = makes _ (All-nil IsWord)
     call_keeps me (call.ExportTrack tdr slot (suc n)) is = makes _ (All-nil IsWord)
     call_keeps me (call.ExportStateTd tdr slot) is = makes _ (words_of (w.hidden.rtmrs tdr) (range_with_len 0 24) (h.2 tdr))
     call_keeps me (call.ExportStateVp tdr vp slot) is = makes _ (words_of (w.hidden.registers vp) (range_with_len 0 8) (h.1 vp))
     call_keeps me (call.ImportStateImmutable tdr slot) is = (h.0, h.1, h.2, put_holds AreWords w.tds.mrtds tdr _ h.3 (came slot), h.4, h.5, h.6, h.7)
     call_keeps me (call.ImportMem tdr slot page) is =
-        let x : Input = input_in (o.bundles slot) in comes_in tdr x.header.gpa page x.words (entry_at w tdr 0 x.header.gpa).state (came slot)
+        let x : Input = input_in (o.bundles slot) in all_come_in tdr (page_count None) x.header.gpa page x.words w h (came slot)
     call_keeps me (call.ImportStateTd tdr slot) is = (h.0, h.1, put_holds AreWords w.hidden.rtmrs tdr _ h.2 (came slot), h.3, h.4, h.5, h.6, h.7)
     call_keeps me (call.ImportStateVp tdr vp slot) is = (h.0, put_holds AreWords w.hidden.registers vp _ h.1 (came slot), h.2, h.3, h.4, h.5, h.6, h.7)
     call_keeps me (call.ImportAbort tdr slot) is = makes _ (All-nil IsWord)

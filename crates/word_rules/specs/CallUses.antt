@@ -1,6 +1,6 @@
 -- The uses of each call that has a row, with the TD and the page whose words they are of; and that the row gets the locks
 -- that are written of them.
-use Rattle.std.specs.Prelude.{◌≡◌, ℕ, true, List, [], ◌∷◌, ◌++◌}
+use Rattle.std.specs.Prelude.{◌≡◌, ℕ, true, List, [], ◌∷◌, ◌++◌, None}
 use Rattle.td_words.specs.declared.names.Mode.{Mode}
 use Rattle.td_words.specs.declared.names.Mode.TheVariants.{Shared, Exclusive}
 use Rattle.td_words.specs.declared.names.EntryState.{EntryState}
@@ -16,6 +16,7 @@ use Rattle.flat_core.specs.Row.{Item, Check, Try}
 use Rattle.flat_core.specs.Tree.{entry_at}
 use Rattle.flat_core.specs.Sessions.{stream_page}
 use Rattle.flat_core.specs.Inputs.{input_in}
+use Rattle.flat_core.specs.PageLists.{page_count, gpas_from, Arrival, arrivals}
 use Rattle.flat_core.specs.Table.{row_of}
 use Rattle.word_rules.specs.Guards.{Guard, Locked, Role, Grip, MeetsAll}
 use Rattle.word_rules.specs.Rules.{Unused}
@@ -73,6 +74,17 @@ abbrev pub fill_uses : (tdr page : ℕ) → EntryState → (named : ℕ) → Lis
 fill_uses t p entry.Free named = taken_uses p ++ of_td t AddsEntry ∷ []
 fill_uses t p _ named = of_both t named ImportMemoryWords ∷ []
 
+abbrev pub fills_uses : World → (tdr : ℕ) → List Arrival → List CallUse
+fills_uses w t [] = []
+fills_uses w t (a ∷ pages) = let e = entry_at w t 0 a.gpa in fill_uses t a.page e.state e.page ++ fills_uses w t pages
+
+-- pages whose words go out: each has its lock, its entry, and its words
+abbrev pub export_uses : World → (tdr : ℕ) → List ℕ → List CallUse
+export_uses w t [] = []
+export_uses w t (gpa ∷ gpas) =
+    let page = (entry_at w t 0 gpa).page in of_page page HeadPage
+    ∷ of_both t page ExportMemoryRunning ∷ of_both t page ExportMemoryPaused ∷ of_both t page ExportMemoryWordsPaused ∷ export_uses w t gpas
+
 -- the uses of a call, in the order of the leaf table. Two are left out, by which words of a private page are read while guests may
 -- run: `ExportMemoryWords`, and `RelocateWords` of MEM.PAGE.RELOCATE's copy. No lock keeps stores off these words.
 abbrev pub uses_of : Opening → World → Call → List CallUse
@@ -120,14 +132,16 @@ uses_of o w (call.ExportAbort tdr) = td_uses tdr ++ of_td tdr ExportAbort ∷ of
 uses_of o w (call.ExportRestore tdr gpa) = td_uses tdr ++ of_td tdr ExportRestore ∷ []
 uses_of o w (call.ExportStateImmutable tdr slot) = td_uses tdr ++ of_td tdr ExportImmutable ∷ of_td tdr ChangesOp ∷ []
 uses_of o w (call.ExportMem tdr gpa stream slot) =
-    let page = (entry_at w tdr 0 gpa).page in td_uses tdr ++ (of_td tdr ExportMemory ∷ of_page page HeadPage ∷ of_td tdr BlockTestedShared
-    ∷ of_both tdr page ExportMemoryRunning ∷ of_both tdr page ExportMemoryPaused ∷ of_both tdr (stream_page w tdr stream) ExportMemoryStream ∷ of_both tdr page ExportMemoryWordsPaused ∷ [])
+    td_uses tdr ++ (of_td tdr ExportMemory ∷ of_td tdr BlockTestedShared ∷ of_both tdr (stream_page w tdr stream) ExportMemoryStream
+    ∷ export_uses w tdr (gpas_from gpa (page_count None)))
 uses_of o w (call.ExportTrack tdr slot start) = td_uses tdr ++ of_td tdr ExportTokens ∷ of_td tdr ChangesOp ∷ []
 uses_of o w (call.ExportStateTd tdr slot) = td_uses tdr ++ of_td tdr ExportTdState ∷ []
 uses_of o w (call.ExportStateVp tdr vp slot) = td_uses tdr ++ of_page vp HeadPage ∷ of_both tdr vp ExportVpState ∷ []
 uses_of o w (call.ExportAbortByToken tdr slot) = td_uses tdr ++ of_td tdr ExportAbort ∷ of_td tdr ChangesOp ∷ []
 uses_of o w (call.ImportStateImmutable tdr slot) = td_uses tdr ++ of_td tdr ImportImmutable ∷ of_td tdr BeginsEpochs ∷ []
-uses_of o w (call.ImportMem tdr slot page) = let e = entry_at w tdr 0 (input_in (o.bundles slot)).header.gpa in td_uses tdr ++ of_td tdr ImportMemory ∷ fill_uses tdr page e.state e.page
+uses_of o w (call.ImportMem tdr slot page) =
+    let x = input_in (o.bundles slot) in
+    td_uses tdr ++ of_td tdr ImportMemory ∷ fills_uses w tdr (arrivals x.header.gpa page x.words (page_count None))
 uses_of o w (call.ImportTrack tdr slot) = td_uses tdr ++ of_td tdr ImportTokens ∷ of_td tdr ChangesOp ∷ []
 uses_of o w (call.ImportStateTd tdr slot) = td_uses tdr ++ of_td tdr ImportTdState ∷ of_td tdr ChangesOp ∷ []
 uses_of o w (call.ImportStateVp tdr vp slot) = td_uses tdr ++ of_page vp HeadPage ∷ of_both tdr vp ImportVpState ∷ []
