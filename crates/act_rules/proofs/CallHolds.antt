@@ -1,7 +1,7 @@
 -- A call holds the first of the locks that its row tries, in every state that a run reaches. Which page an entry of a TD names,
 -- whether it is FREE, and which pages the TD's streams have, stays the same for whoever holds P of the TDR page, O and T, in
 -- either mode: a call that changes it has one of them alone.
-use Rattle.std.proofs.Common.{◌≡◌, ◌⊎◌, inl, inr, ◌≢◌, refl, sym, ◌∙◌, subst, ap, ℕ, zero, suc, ◌+◌, ◌<◌, List, [], ◌∷◌, ◌++◌, length, drop, Option, Some, None, option_map, Bool, true, false, ◌==◌, ◌&&◌, ◌||◌, arith}
+use Rattle.std.proofs.Common.{◌≡◌, ◌⊎◌, inl, inr, ◌≢◌, refl, sym, ◌∙◌, subst, ap, ℕ, zero, suc, ◌+◌, ◌<◌, List, [], ◌∷◌, ◌++◌, length, map, drop, Option, Some, None, option_map, Bool, true, false, ◌==◌, ◌&&◌, ◌||◌, arith}
 use Rattle.std.specs.Prelude.{slice_index_or, if◌then◌else◌}
 use Rattle.std.proofs.lemmas.Bool.{eq-eqb, eqb-true, eqb-false, ne_eqb}
 use Rattle.td_words.specs.declared.names.EntryState.{EntryState}
@@ -27,9 +27,11 @@ use Rattle.flat_core.specs.ExportRows.{write_blocked}
 use Rattle.flat_core.specs.Lawful.{is_free}
 use Rattle.flat_core.specs.Tree.{same_state, entry_at, number_at}
 use Rattle.flat_core.specs.Sessions.{stream_page}
-use Rattle.flat_core.specs.Tries.{shared, alone, td_tries, named_tries, opened_tries, filled_page, tries_of}
+use Rattle.flat_core.specs.Tries.{shared, alone, td_tries, named_tries, opened_tries, tries_of}
+use Rattle.flat_core.specs.PageLists.{page_count, gpas_from, Arrival, arrivals}
+use Rattle.flat_core.specs.BundleRows.{about_pages, words_of_pages, export_each}
 use Rattle.flat_core.specs.Inputs.{Input, input_in}
-use Rattle.flat_core.specs.ImportRows.{fill_page}
+use Rattle.flat_core.specs.ImportRows.{filled_page, page_filled, fill_page, take_in, take_each}
 use Rattle.flat_core.specs.Guest.{ByRow, operation_of, is_pending_at, reach, walk_step, answered}
 use Rattle.flat_core.specs.Inside.{held_then}
 use Rattle.flat_core.specs.Event.{State, Event, OfCall, OfOperation, Walks, Reaches, start, next_event, event, lines_left, after_event, world_after, call_world, operation_world, lp_after, call_lp, succeeded, settled, settle, settled_guest, operation_guest, nothing_more, is_granted}
@@ -42,7 +44,9 @@ use Rattle.flat_core.proofs.Due.{Due, calls, frees, leaves, stops, fills, operat
 use Rattle.flat_core.proofs.Ends.{next_is, below_calls}
 use Rattle.flat_core.proofs.Always.{settled-lp}
 use Rattle.flat_core.proofs.Tries.{rows_try_lists}
-use Rattle.flat_core.proofs.Ranges.{export_passed, can_export}
+use Rattle.flat_core.proofs.Ranges.{can_export}
+use Rattle.flat_core.proofs.Passed.{export_passed}
+use Rattle.flat_core.proofs.PageLists.{gpas_apart, AllMayExport, each_exported, made_first, made_may, each_leaves, takes_leave}
 use Rattle.word_rules.specs.Guards.{Locked, Apart}
 use Rattle.lock_words.specs.Grips.{holds, holds_alone, operation_locks, locks_of, grip_of}
 use Rattle.lock_words.proofs.Apart.{grips-apart}
@@ -152,6 +156,23 @@ filled-same : (p : ℕ) (r s : EntryState) (m n : ℕ) → is_free r ≡ is_free
 filled-same p r s m n free page =
     filled-as p r m ∙ (ap (λ (b : Bool). if b then p else m) free ∙ (ap (λ (x : ℕ). if is_free s then p else x) page ∙ sym (filled-as p s n)))
 
+-- so of each page of a list
+pages-same : (v w : World) (t : ℕ) (gpas : List ℕ) → NamesSame w v t
+    → map (λ q. alone (OfPage (entry_at v t 0 q).page)) gpas ≡ map (λ q. alone (OfPage (entry_at w t 0 q).page)) gpas
+pages-same v w t [] same = refl
+pages-same v w t (gpa ∷ gpas) same =
+    ap (λ (p : ℕ). alone (OfPage p) ∷ map (λ q. alone (OfPage (entry_at v t 0 q).page)) gpas) (same.entries 0 (number_at 0 gpa)).page
+    ∙ ap (λ (hs : List Held). alone (OfPage (entry_at w t 0 gpa).page) ∷ hs) (pages-same v w t gpas same)
+
+fills-same : (v w : World) (t : ℕ) (pages : List Arrival) → NamesSame w v t
+    → map (λ a. alone (OfPage (page_filled v t a))) pages ≡ map (λ a. alone (OfPage (page_filled w t a))) pages
+fills-same v w t [] same = refl
+fills-same v w t (a ∷ pages) same =
+    let e = same.entries 0 (number_at 0 a.gpa) in
+    ap (λ (p : ℕ). alone (OfPage p) ∷ map (λ x. alone (OfPage (page_filled v t x))) pages)
+    (filled-same a.page (entry_at v t 0 a.gpa).state (entry_at w t 0 a.gpa).state (entry_at v t 0 a.gpa).page (entry_at w t 0 a.gpa).page e.free e.page)
+    ∙ ap (λ (hs : List Held). alone (OfPage (page_filled w t a)) ∷ hs) (fills-same v w t pages same)
+
 names-last : (o : Opening) (c : Call) → ((v w : World) → tries_of o c v ≡ tries_of o c w) ⊎ NamesLast o c
 names-last o (call.MrExtend t gpa) =
     inr (by-entry o (call.MrExtend t gpa) t gpa 0 (td_tries t Exclusive ++ shared (OfTree t) ∷ []) Shared (λ w. refl) (rw (eq-eqb t t refl) refl) (rw (eq-eqb t t refl) refl) (rw (eq-eqb t t refl) refl))
@@ -174,28 +195,28 @@ names-last o (call.ExportBlockw t gpa) =
     (rw (eq-eqb t t refl) refl) (rw (eq-eqb t t refl) refl) (rw (eq-eqb t t refl) refl))
 names-last o (call.ExportUnblockw t gpa) = inr (opened o (call.ExportUnblockw t gpa) t gpa (λ w. refl))
 names-last o (call.ExportRestore t gpa) = inr (opened o (call.ExportRestore t gpa) t gpa (λ w. refl))
-names-last o (call.ExportMem t gpa k slot) = inr (record {
+names-last o (call.ExportMem t gpa k slot) = let gpas : List ℕ = gpas_from gpa (page_count None) in inr (record {
   tdr = t;
   front = td_tries t Shared ++ shared (OfTree t) ∷ shared (OfEpoch t) ∷ [];
-  named = λ w. alone (OfPage (entry_at w t 0 gpa).page) ∷ alone (OfPage (stream_page w t k)) ∷ [];
+  named = λ w. map (λ q. alone (OfPage (entry_at w t 0 q).page)) gpas ++ alone (OfPage (stream_page w t k)) ∷ [];
   are = λ w. refl;
-  stay = λ v w same. ap (λ (p : ℕ). alone (OfPage p) ∷ alone (OfPage (stream_page v t k)) ∷ []) (same.entries 0 (number_at 0 gpa)).page
-      ∙ ap (λ (ps : List ℕ). alone (OfPage (entry_at w t 0 gpa).page) ∷ alone (OfPage (slice_index_or ps k 0)) ∷ []) same.streams;
+  stay = λ v w same. ap (λ (hs : List Held). hs ++ alone (OfPage (stream_page v t k)) ∷ []) (pages-same v w t gpas same)
+      ∙ ap (λ (ps : List ℕ). map (λ q. alone (OfPage (entry_at w t 0 q).page)) gpas ++ alone (OfPage (slice_index_or ps k 0)) ∷ []) same.streams;
   page = rw (eq-eqb t t refl) refl;
   op = rw (eq-eqb t t refl) refl;
   tree = rw (eq-eqb t t refl) refl;
 })
-names-last o (call.ImportMem t slot p) = let gpa : ℕ = (input_in (o.bundles slot)).header.gpa in inr (record {
-  tdr = t;
-  front = td_tries t Shared ++ alone (OfTree t) ∷ [];
-  named = λ w. alone (OfPage (filled_page p (entry_at w t 0 gpa).state (entry_at w t 0 gpa).page)) ∷ [];
-  are = λ w. refl;
-  stay = λ v w same. let e = same.entries 0 (number_at 0 gpa) in
-      ap (λ (x : ℕ). alone (OfPage x) ∷ []) (filled-same p (entry_at v t 0 gpa).state (entry_at w t 0 gpa).state (entry_at v t 0 gpa).page (entry_at w t 0 gpa).page e.free e.page);
-  page = rw (eq-eqb t t refl) refl;
-  op = rw (eq-eqb t t refl) refl;
-  tree = rw (eq-eqb t t refl) refl;
-})
+names-last o (call.ImportMem t slot p) = let x : Input = input_in (o.bundles slot) in let pages : List Arrival = arrivals x.header.gpa p x.words
+    (page_count None) in inr (record {
+      tdr = t;
+      front = td_tries t Shared ++ alone (OfTree t) ∷ [];
+      named = λ w. map (λ a. alone (OfPage (page_filled w t a))) pages;
+      are = λ w. refl;
+      stay = λ v w same. fills-same v w t pages same;
+      page = rw (eq-eqb t t refl) refl;
+      op = rw (eq-eqb t t refl) refl;
+      tree = rw (eq-eqb t t refl) refl;
+    })
 names-last o (call.HostRead page word) = inl (λ v w. refl)
 names-last o _ = inl (λ v w. refl)
 
@@ -235,9 +256,24 @@ filled-stay : (w : World) (u gpa p : ℕ) (ws : ℕ → ℕ) (s : EntryState) (t
 filled-stay w u gpa p ws entry.Free t n = λ l k. rw n (as-it-is _)
 filled-stay w u gpa p ws _ t n = λ l k. as-it-is _
 
-filled-streams : (w : World) (u gpa p : ℕ) (ws : ℕ → ℕ) (s : EntryState) (t : ℕ) → (fill_page u gpa p ws s w).tds.streams t ≡ w.tds.streams t
-filled-streams w u gpa p ws entry.Free t = refl
-filled-streams w u gpa p ws _ t = refl
+names-still : (a b c : Entry) → NamesAs b a → NamesAs c b → NamesAs c a
+names-still a b c f g = record { page = g.page ∙ f.page; free = g.free ∙ f.free }
+
+taken-stay : (u : ℕ) (pages : List Arrival) (w : World) (t : ℕ) → (t == u) ≡ false → EntriesStay w (take_each u pages w) t
+taken-stay u [] w t n = λ l k. as-it-is _
+taken-stay u (a ∷ pages) w t n = λ l k. names-still _ _ _ (filled-stay w u a.gpa a.page a.words (entry_at w u 0 a.gpa).state t n l k)
+    (taken-stay u pages (take_in u a w) t n l k)
+
+-- pages whose words go out are named as before
+exported-stay : (u gpa k slot : ℕ) (count : Option ℕ) (w : World) (t : ℕ) → AllMayExport w u (gpas_from gpa (page_count count))
+    → EntriesStay w (export_each u k (gpas_from gpa (page_count count)) (made_first u gpa k slot count w)) t
+exported-stay u gpa k slot count w t may =
+    let gpas : List ℕ = gpas_from gpa (page_count count) in
+    each_exported u k (λ n v. EntriesStay w v t)
+    (λ n v q h ok l j. names-still _ _ _ (h l j)
+    (restated v u (number_at 0 q) (v.tds.mig_epochs u) entry.ExportedBlockedW (sym (can_export (v.tds.ops u) (entry_at v u 0 q).state ok).used) t l j))
+    gpas (made_first u gpa k slot count w) (gpas_apart gpa (page_count count))
+    (made_may w u slot (about_pages w u k gpa count) (words_of_pages w u gpas) gpas may) (λ l j. as-it-is _)
 
 -- a call that passes, and tries neither T of a TD nor P of its TDR page alone, leaves the pages that its entries name
 row-entries : (o : Opening) (me : ℕ) (c : Call) (w : World) (t : ℕ) → Passes ((row_of o me c).items w) → (holds_alone (tries_of o c w) (OfTree t) ≡ true → ⊥) → (holds_alone (tries_of o c w) (OfPage t) ≡ true → ⊥)
@@ -252,15 +288,14 @@ row-entries o me (call.MemPageRelocate u gpa p) w t ps tree page = let n = off t
 row-entries o me (call.MemRangeBlock u gpa level) w t ps tree page = let n = off t u (λ y. tree (rw y refl)) in λ l k. rw n (as-it-is _)
 row-entries o me (call.MemRangeUnblock u gpa level) w t ps tree page = let n = off t u (λ y. tree (rw y refl)) in λ l k. rw n (as-it-is _)
 row-entries o me (call.ExportBlockw u gpa) w t ps tree page = restated w u (number_at 0 gpa) (entry_at w u 0 gpa).mark (write_blocked (entry_at w u 0 gpa).state) (write-blocked-free (entry_at w u 0 gpa).state) t
-row-entries o me (call.ExportMem u gpa k slot) w t ps tree page =
-    restated w u (number_at 0 gpa) (w.tds.mig_epochs u) entry.ExportedBlockedW (sym (can_export (w.tds.ops u) (entry_at w u 0 gpa).state (export_passed o.machine w u gpa k slot ps).state).used) t
+row-entries o me (call.ExportMem u gpa k slot) w t ps tree page = exported-stay u gpa k slot None w t (export_passed o.machine w u gpa k slot None ps).pages
 row-entries o me (call.ExportUnblockw u gpa) w t ps tree page = let n = off t u (λ y. tree (rw y refl)) in λ l k. rw n (as-it-is _)
 row-entries o me (call.ExportRestore u gpa) w t ps tree page = let n = off t u (λ y. tree (rw y refl)) in λ l k. rw n (as-it-is _)
 row-entries o me (call.ExportTrack u slot zero) w t ps tree page = λ l k. as-it-is _
 row-entries o me (call.ExportTrack u slot (suc n)) w t ps tree page = λ l k. as-it-is _
 row-entries o me (call.ImportMem u slot p) w t ps tree page =
     let x : Input = input_in (o.bundles slot) in
-    filled-stay w u x.header.gpa p x.words (entry_at w u 0 x.header.gpa).state t (off t u (λ y. tree (rw y refl)))
+    taken-stay u (arrivals x.header.gpa p x.words (page_count None)) w t (off t u (λ y. tree (rw y refl)))
 row-entries o me (call.HostRead p i) w t ps tree page = λ l k. as-it-is _
 row-entries o me _ w t ps tree page = λ l k. as-it-is _
 
@@ -271,7 +306,10 @@ row-streams o me (call.MngCreate u h) w t op page = let n = off t u (λ y. page 
 row-streams o me (call.MigStreamCreate u p) w t op page = let n = off t u (λ y. op (rw y refl)) in rw n refl
 row-streams o me (call.ExportTrack u slot zero) w t op page = refl
 row-streams o me (call.ExportTrack u slot (suc n)) w t op page = refl
-row-streams o me (call.ImportMem u slot p) w t op page = let x : Input = input_in (o.bundles slot) in filled-streams w u x.header.gpa p x.words (entry_at w u 0 x.header.gpa).state t
+row-streams o me (call.ExportMem u gpa k slot) w t op page =
+    ap (λ (v : World). v.tds.streams t) (each_leaves u k (gpas_from gpa (page_count None)) (made_first u gpa k slot None w))
+row-streams o me (call.ImportMem u slot p) w t op page =
+    let x : Input = input_in (o.bundles slot) in ap (λ (v : World). v.tds.streams t) (takes_leave u (arrivals x.header.gpa p x.words (page_count None)) w)
 row-streams o me (call.HostRead p i) w t op page = refl
 row-streams o me _ w t op page = refl
 

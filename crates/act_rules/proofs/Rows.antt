@@ -23,7 +23,7 @@ use Rattle.flat_core.specs.World.{World, ClearHeader, put, free_entry}
 use Rattle.flat_core.specs.Processor.{OfPage, OfOp, OfTree, OfKeys}
 use Rattle.flat_core.specs.Opening.{Incoming}
 use Rattle.flat_core.specs.Lawful.{Lawful, ArePagesOf, key_owner, is_free}
-use Rattle.flat_core.specs.Row.{Item, Check, Passes}
+use Rattle.flat_core.specs.Row.{Item, Check, Try, Passes}
 use Rattle.flat_core.specs.Conditions.{same_kind, is_host, is_host_in, is_free_key}
 use Rattle.flat_core.specs.Effects.{set_word, take_node, take_page, set_entry, restate, block_page, unmap_page, end_memory, end_association, clear_page, give_back, end_memory_in, set_key, set_life, set_op, set_epoch, set_register, set_vp_state, begin_measurement, measure, end_measurement, begin_memory, set_page, map_page, write_back, written_back}
 use Rattle.flat_core.specs.TdRows.{create, add_tdcx}
@@ -35,14 +35,19 @@ use Rattle.flat_core.specs.MemRows.{removed_states, unblocked_state, move_page}
 use Rattle.flat_core.specs.ExportRows.{add_stream, write_blocked, count_dirt, count_restored, note_pause}
 use Rattle.flat_core.specs.Digests.{six_words}
 use Rattle.flat_core.specs.Sessions.{bundles_so_far, payload_words, About, about, make_bundle, begin_session, set_mig_epoch, count_bundle, count_export, note_td_export, note_vp_export}
-use Rattle.flat_core.specs.Inputs.{Input, input_in, tag_holds}
-use Rattle.flat_core.specs.ImportRows.{begin_import, import_immutable, page_to_fill, fill_page, import_page, is_start, op_then, import_token, give_rtmrs, import_td, give_vp_state, import_vp, note_commit, commit_import, abort_import}
-use Rattle.flat_core.specs.BundleRows.{start_epoch, track_export, token_kind, token_epoch, export_immutable, export_page, export_token, export_td, export_vp}
+use Rattle.flat_core.specs.PageLists.{page_count, count_argument, pages_argument, Arrival, arrivals}
+use Rattle.flat_core.specs.Arguments.{apart_argument}
+use Rattle.flat_core.specs.Inputs.{Input, input_in, input_row, tag_holds}
+use Rattle.flat_core.specs.ImportRows.{begin_import, import_immutable, page_to_fill, page_filled, pages_to_fill, fill_page, take_in, take_each, list_says, import_conditions, import_pages, is_start, op_then, import_token, give_rtmrs, import_td, give_vp_state, import_vp, note_commit, commit_import, abort_import}
+use Rattle.flat_core.specs.BundleRows.{start_epoch, track_export, token_kind, token_epoch, export_immutable, export_page, export_pages, export_token, export_td, export_vp}
+use Rattle.flat_core.proofs.PageLists.{AreAbove, AreApart, arrivals_apart, MayTake, AllMayTake, still_take, locked_first}
+use Rattle.flat_core.proofs.BundleKeeps.{pages_exported}
+use Rattle.flat_core.proofs.ImportKeeps.{TakePassed, take_passed}
 use Rattle.flat_core.proofs.Maps.{kind_named, node_named}
-use Rattle.flat_core.proofs.Ranges.{named_alive, page_removed, sept_removed, export_passed, can_export}
+use Rattle.flat_core.proofs.Ranges.{named_alive, page_removed, sept_removed, can_export}
 use Rattle.flat_core.proofs.Passed.{vp_of, sept_passed, remove_passed, relocate_passed, sept_remove_passed}
 use Rattle.flat_core.proofs.Keeps.{live_of}
-use Rattle.flat_core.proofs.Tests.{by_test, host_kind, tdr_kind}
+use Rattle.flat_core.proofs.Tests.{by_test, same_self, host_kind, tdr_kind}
 use Rattle.word_rules.specs.Guards.{Grip, Locked}
 use Rattle.word_rules.specs.Rules.{moves}
 use Rattle.word_rules.specs.Views.{named_by}
@@ -350,15 +355,14 @@ module _ (g : Grip) (w : World) where
       bundled t slot (record (about 0 1) { info = length (w.tds.vps t) }) (six_words (w.tds.mrtds t)) w2
       (counted w1 w2 refl (λ u. same-td w1 w2 u refl refl refl (λ b. refl) (λ n. refl)) (λ h. refl) refl ((effects-respect g w).op t op.LiveExport has alone))
 
-  -- EXPORT.MEM: an entry in use gets another such state
-  pub page-exported : (m : Machine) (t gpa k slot : ℕ) → is_free (entry_at w t 0 gpa).state ≡ false → Respects g w ((export_page m t gpa k slot).act w)
-  page-exported m t gpa k slot used =
+  -- EXPORT.MEM: each entry in use gets another such state
+  page-exported : (t k gpa : ℕ) → is_free (entry_at w t 0 gpa).state ≡ false → Respects g w (export_page t k gpa w)
+  page-exported t k gpa used =
       let e : Entry = entry_at w t 0 gpa in
       let w1 : World = restate t (number_at 0 gpa) entry.ExportedBlockedW (w.tds.mig_epochs t) w in
       let w2 : World = count_export t k e.state w1 in
       let a : Respects g w w1 = (effects-respect g w).entry_state t 0 (number_at 0 gpa) (record { state = entry.ExportedBlockedW; page = e.page; mark = w.tds.mig_epochs t }) (rw used refl) in
-      bundled t slot (record (about 3 (w.tds.mig_epochs t)) { stream = k; gpa = gpa }) (payload_words (w.words e.page) 512) w2
-      (counted w1 w2 refl (λ u. same-td w1 w2 u refl refl refl (λ b. refl) (λ n. refl)) (λ h. refl) refl a)
+      counted w1 w2 refl (λ u. same-td w1 w2 u refl refl refl (λ b. refl) (λ n. refl)) (λ h. refl) refl a
 
   -- EXPORT.TRACK
   epoch-ended : (t e : ℕ) → Respects g w (set_mig_epoch t e w)
@@ -405,25 +409,25 @@ module _ (g : Grip) (w : World) where
       taken-in t 0 w3 (counted w2 w3 refl (λ u. same-td w2 w3 u refl refl refl (λ c. refl) (λ n. refl)) (λ h. refl) refl a)
 
   -- IMPORT.MEM: a host page becomes the one that the entry names, or words of a page are stored
-  filled : (t gpa p : ℕ) (ws : ℕ → ℕ) (rest : List (Item Reply)) (s : EntryState) → Passes (page_to_fill w t gpa p s ++ rest) → HoldsTries g (page_to_fill w t gpa p s ++ rest) → HoldsTd g t → g.sole (Locked (OfTree t)) ≡ true
+  filled : (t gpa p : ℕ) (ws : ℕ → ℕ) (s : EntryState) → (s ≡ entry.Free → is_host w p ≡ true) → (s ≡ entry.Free → g.sole (Locked (OfPage p)) ≡ true)
+      → HoldsTd g t → g.sole (Locked (OfTree t)) ≡ true
       → Respects g w (fill_page t gpa p ws s w)
-  filled t gpa p ws rest entry.Free ps h td tree =
+  filled t gpa p ws entry.Free host own td tree =
       let w1 : World = map_page p kind.Reg entry.Mapped t 0 (number_at 0 gpa) w in
       let w2 : World = set_page p ws w1 in
-      counted w1 w2 refl (λ u. same-td w1 w2 u refl refl refl (λ b. refl) (λ n. refl)) (λ k. refl) refl (mapped p kind.Reg entry.Mapped t 0 (number_at 0 gpa) ps.0 h.0.1 td tree)
-  filled t gpa p ws rest _ ps h td tree = let w1 : World = set_page (entry_at w t 0 gpa).page ws w in noted w1 refl (λ u. same-td w w1 u refl refl refl (λ b. refl) (λ n. refl)) (λ k. refl) refl
+      counted w1 w2 refl (λ u. same-td w1 w2 u refl refl refl (λ b. refl) (λ n. refl)) (λ k. refl) refl
+      (mapped p kind.Reg entry.Mapped t 0 (number_at 0 gpa) (host refl) (own refl) td tree)
+  filled t gpa p ws _ host own td tree = let w1 : World = set_page (entry_at w t 0 gpa).page ws w in noted w1 refl
+      (λ u. same-td w w1 u refl refl refl (λ b. refl) (λ n. refl)) (λ k. refl) refl
 
-  pub page-imported : (m : Machine) (b : Option Incoming) (t slot p : ℕ) → let x : Input = input_in b in let s : EntryState = (entry_at w t 0 x.header.gpa).state in
-      Passes (page_to_fill w t x.header.gpa p s ++ tag_holds x ∷ []) → HoldsTries g (page_to_fill w t x.header.gpa p s ++ tag_holds x ∷ []) → HoldsTd g t → g.sole (Locked (OfTree t)) ≡ true
-      → Respects g w ((import_page m b t slot p).act w)
-  page-imported m b t slot p ps h td tree =
-      let x : Input = input_in b in
-      let gpa : ℕ = x.header.gpa in
-      let s : EntryState = (entry_at w t 0 gpa).state in
-      let w1 : World = fill_page t gpa p x.words s w in
-      let w2 : World = begin_memory t (page_of_gpa gpa) x.words w1 in
-      taken-in t x.header.stream w2
-      (counted w1 w2 refl (λ u. same-td w1 w2 u refl refl refl (λ c. refl) (λ n. refl)) (λ k. refl) refl (filled t gpa p x.words (tag_holds x ∷ []) s ps h td tree))
+  page-taken : (t : ℕ) (locked : List ℕ) (a : Arrival) → MayTake w t locked a
+      → ((entry_at w t 0 a.gpa).state ≡ entry.Free → g.sole (Locked (OfPage a.page)) ≡ true) → HoldsTd g t → g.sole (Locked (OfTree t)) ≡ true
+      → Respects g w (take_in t a w)
+  page-taken t locked a may own td tree =
+      let w1 : World = fill_page t a.gpa a.page a.words (entry_at w t 0 a.gpa).state w in
+      let w2 : World = take_in t a w in
+      counted w1 w2 refl (λ u. same-td w1 w2 u refl refl refl (λ c. refl) (λ n. refl)) (λ k. refl) refl
+      (filled t a.gpa a.page a.words (entry_at w t 0 a.gpa).state may.host own td tree)
 
   -- IMPORT.TRACK
   pub token-imported : (m : Machine) (b : Option Incoming) (t slot : ℕ) → g.has (Locked (OfPage t)) ≡ true → g.sole (Locked (OfOp t)) ≡ true → Respects g w ((import_token m b t slot).act w)
@@ -515,6 +519,79 @@ page-moved-on g w t gpa page k o other host td tree own new =
     let b : Respects g w1 w2 = mapped g w1 page kind.Reg (unblocked_state (entry_at w t 0 gpa).state) t 0 (number_at 0 gpa) (rw other host) new td tree in
     respects-compose.both g w w2 w3 (respects-compose.both g w w1 w2 a b) (leaves g w2 w3 (all-same w2 w3 refl (λ u. record { op = refl; controls = refl; epoch = refl; empty = λ z. refl; named = λ z. refl })) (λ z. refl) refl)
 
+-- IMPORT.MEM, page after page: the lock of each page that is taken for a FREE entry is held alone
+tries-behind : (g : Grip) (xs ys : List (Item Reply)) → HoldsTries g (xs ++ ys) → HoldsTries g ys
+tries-behind g [] ys h = h
+tries-behind g (Check b r ∷ xs) ys h = tries-behind g xs ys h
+tries-behind g (Try l m ∷ xs) ys h = tries-behind g xs ys h.1
+
+abbrev HoldsTaken : Grip → World → (t : ℕ) → List Arrival → Type 0
+HoldsTaken g w t [] = Unit {0}
+HoldsTaken g w t (a ∷ pages) = ((entry_at w t 0 a.gpa).state ≡ entry.Free → g.sole (Locked (OfPage a.page)) ≡ true) × HoldsTaken g w t pages
+
+holds-free : (g : Grip) (w : World) (t gpa page : ℕ) (locked : List ℕ) (rest : List (Item Reply))
+    → HoldsTries g (page_to_fill w t locked gpa page entry.Free ++ rest) → g.sole (Locked (OfPage page)) ≡ true
+holds-free g w t gpa page [] rest h = h.0.1
+holds-free g w t gpa page (p ∷ locked) rest h = h.0.1
+
+holds-fills : (g : Grip) (w : World) (t : ℕ) (pages : List Arrival) (locked : List ℕ) (rest : List (Item Reply))
+    → HoldsTries g (pages_to_fill w t locked pages rest) → HoldsTaken g w t pages
+holds-fills g w t [] locked rest h = tt
+holds-fills g w t (a ∷ pages) locked rest h =
+    let s : EntryState = (entry_at w t 0 a.gpa).state in
+    let more : List (Item Reply) = pages_to_fill w t (page_filled w t a ∷ locked) pages rest in (
+      λ e. holds-free g w t a.gpa a.page locked more (subst (λ (z : EntryState). HoldsTries g (page_to_fill w t locked a.gpa a.page z ++ more)) e h),
+      holds-fills g w t pages (page_filled w t a ∷ locked) rest (tries-behind g (page_to_fill w t locked a.gpa a.page s) more h),
+    )
+
+-- the entries of the pages behind one are as they were
+filled-beside : (w : World) (t gpa page : ℕ) (ws : ℕ → ℕ) (s : EntryState) (n : ℕ) → (n == number_at 0 gpa) ≡ false
+    → (fill_page t gpa page ws s w).tds.entries t 0 n ≡ w.tds.entries t 0 n
+filled-beside w t gpa page ws entry.Free n apart = rw (same_self t, apart) refl
+filled-beside w t gpa page ws _ n apart = refl
+
+holds-still : (g : Grip) (w : World) (t : ℕ) (a : Arrival) (pages : List Arrival) → AreAbove (number_at 0 a.gpa) (map (λ x. x.gpa) pages)
+    → HoldsTaken g w t pages → HoldsTaken g (take_in t a w) t pages
+holds-still g w t a [] above h = tt
+holds-still g w t a (b ∷ pages) above h =
+    let apart : (number_at 0 b.gpa == number_at 0 a.gpa) ≡ false = ne_eqb (number_at 0 b.gpa) (number_at 0 a.gpa)
+    (λ e. (let less = above.0 in omega (arith, less, e))) in
+    let same = filled-beside w t a.gpa a.page a.words (entry_at w t 0 a.gpa).state (number_at 0 b.gpa) apart in
+    (λ e. h.0 (ap (λ (x : Entry). x.state) (sym same) ∙ e), holds-still g w t a pages above.1 h.1)
+
+pages-taken : (g : Grip) (t : ℕ) → HoldsTd g t → g.sole (Locked (OfTree t)) ≡ true → (pages : List Arrival) (w : World) (locked : List ℕ)
+    → AreApart (map (λ a. a.gpa) pages) → AllMayTake w t locked pages → HoldsTaken g w t pages
+    → Respects g w (take_each t pages w)
+pages-taken g t td tree [] w locked apart may h = stays g w
+pages-taken g t td tree (a ∷ pages) w locked apart may h =
+    let w1 : World = take_in t a w in
+    respects-compose.both g w w1 (take_each t pages w1) (page-taken g w t locked a may.0 h.0 td tree)
+    (pages-taken g t td tree pages w1 (page_filled w t a ∷ locked) apart.1
+    (still_take w t a (page_filled w t a ∷ locked) pages (locked_first (page_filled w t a) locked) apart.0 may.1) (holds-still g w t a pages apart.0 h.1))
+
+-- so their rows, with any COUNT
+pages-sent : (g : Grip) (w : World) (m : Machine) (t gpa k slot : ℕ) (count : Option ℕ) → Lawful m w → Passes ((export_pages m t gpa k slot count).items w)
+    → Respects g w ((export_pages m t gpa k slot count).act w)
+pages-sent g w m t gpa k slot count la ps =
+    (pages_exported m w t gpa k slot count la ps (λ n v. Respects g w v) (λ a words n e. bundled g w t slot a words w (stays g w))
+    (λ n v q may before ok. respects-compose.both g w v (export_page t k q v) before
+    (page-exported g v t k q (can_export (v.tds.ops t) (entry_at v t 0 q).state ok).used))).1
+
+pages-imported : (g : Grip) (w : World) (m : Machine) (b : Option Incoming) (t slot page : ℕ) (count : Option ℕ)
+    → let row = import_pages m b t slot page count in Passes (row.items w) → HoldsTries g (row.items w) → Respects g w (row.act w)
+pages-imported g w m b t slot page count ps h =
+    let x : Input = input_in b in
+    let pages : List Arrival = arrivals x.header.gpa page x.words (page_count count) in
+    let body : List (Item Reply) = import_conditions w t x pages in
+    let said : List (Item Reply) = input_row x slot (3 ∷ []) ++ (list_says x.header count ++ body) in
+    let k : HoldsTries g body = tries-behind g (list_says x.header count) body
+    (tries-behind g (pages_argument m 4 page t count) said
+    (tries-behind g (count_argument 4 count) (apart_argument 3 page t ∷ (pages_argument m 4 page t count ++ said)) h)) in
+    let p : TakePassed m x w t page count = take_passed m b w t slot page count ps in
+    taken-in g w t x.header.stream (take_each t pages w)
+    (pages-taken g t (record { tdr = k.0; op = k.1.0 }) k.1.1.0.1 pages w [] (arrivals_apart x.header.gpa page x.words (page_count count)) p.pages
+    (holds-fills g w t pages [] (tag_holds x ∷ []) k.1.1.1))
+
 pub rows-respect : RowsRespect
 rows-respect o me (call.HostRead page word) g w la ps h = stays g w
 rows-respect o me (call.HostWrite page word value) g w la ps h = written g w page word value
@@ -574,17 +651,13 @@ rows-respect o me (call.ExportPause tdr) g w la ps h = paused g w tdr h.0 h.1.0.
 rows-respect o me (call.ExportAbort tdr) g w la ps h = (effects-respect g w).op tdr op.Runnable h.0 h.1.0.1
 rows-respect o me (call.ExportRestore tdr gpa) g w la ps h = restored g w tdr (number_at 0 gpa) (entry_at w tdr 0 gpa).state (search) (search)
 rows-respect o me (call.ExportStateImmutable tdr slot) g w la ps h = immutable-exported g w o.machine tdr slot h.0 h.1.0.1
-rows-respect o me (call.ExportMem tdr gpa stream slot) g w la ps h =
-    page-exported g w o.machine tdr gpa stream slot (can_export (w.tds.ops tdr) (entry_at w tdr 0 gpa).state (export_passed o.machine w tdr gpa stream slot ps).state).used
+rows-respect o me (call.ExportMem tdr gpa stream slot) g w la ps h = pages-sent g w o.machine tdr gpa stream slot None la ps
 rows-respect o me (call.ExportTrack tdr slot start) g w la ps h = token-exported g w o.machine tdr slot start h.0 h.1.0.1
 rows-respect o me (call.ExportStateTd tdr slot) g w la ps h = td-exported g w o.machine tdr slot
 rows-respect o me (call.ExportStateVp tdr vp slot) g w la ps h = vp-exported g w o.machine tdr vp slot
 rows-respect o me (call.ExportAbortByToken tdr slot) g w la ps h = (effects-respect g w).op tdr op.Runnable h.0 h.1.0.1
 rows-respect o me (call.ImportStateImmutable tdr slot) g w la ps h = immutable-imported g w o.machine (o.bundles slot) tdr slot h.0 h.1.0.1
-rows-respect o me (call.ImportMem tdr slot page) g w la ps h =
-    let x : Input = input_in (o.bundles slot) in
-    let gpa : ℕ = x.header.gpa in
-    page-imported g w o.machine (o.bundles slot) tdr slot page (search) (search) (search) (search)
+rows-respect o me (call.ImportMem tdr slot page) g w la ps h = pages-imported g w o.machine (o.bundles slot) tdr slot page None ps h
 rows-respect o me (call.ImportTrack tdr slot) g w la ps h = token-imported g w o.machine (o.bundles slot) tdr slot h.0 h.1.0.1
 rows-respect o me (call.ImportStateTd tdr slot) g w la ps h = td-imported g w o.machine (o.bundles slot) tdr slot h.0 h.1.0.1
 rows-respect o me (call.ImportStateVp tdr vp slot) g w la ps h = vp-imported g w o.machine (o.bundles slot) tdr vp slot
