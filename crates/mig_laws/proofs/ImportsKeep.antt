@@ -21,7 +21,7 @@ use Rattle.flat_core.specs.Tree.{page_of_gpa, number_at, entry_at}
 use Rattle.flat_core.specs.Effects.{set_op, begin_memory}
 use Rattle.flat_core.specs.Sessions.{stream_page, stream_counter, bundles_so_far, count_bundle, set_mig_epoch, payload_words}
 use Rattle.flat_core.specs.Inputs.{Input, input_in, tag_holds}
-use Rattle.flat_core.specs.ImportRows.{first_ops, td_state_ops, vp_state_ops, commit_ops, filling_ops, begin_import, import_immutable, page_to_fill, fill_page, import_page, is_start, import_token_ops, epoch_due, op_then, import_token, give_rtmrs, import_td, give_vp_state, import_vp, note_commit, commit_import}
+use Rattle.flat_core.specs.ImportRows.{first_ops, td_state_ops, vp_state_ops, commit_ops, filling_ops, begin_import, import_immutable, page_to_fill, fill_page, import_pages, is_start, import_token_ops, epoch_due, op_then, import_token, give_rtmrs, import_td, give_vp_state, import_vp, note_commit, commit_import}
 use Rattle.flat_core.specs.ExportRows.{image_of}
 use Rattle.flat_core.specs.Lawful.{IsAlive, Lawful, most_vps}
 use Rattle.flat_core.proofs.Tests.{by_test, same_self}
@@ -396,7 +396,7 @@ page_rests w t k gpa page ws entry.Free =
     (λ x a. let was = taken_back w page kind.Reg t 0 (number_at 0 gpa) (λ e. cc) v.tds refl x (record { kind = a.kind; life = a.life }) in record { kind = was.kind; life = was.life })
 page_rests w t k gpa page ws _ = at_rest (count_bundle t k (begin_memory t (page_of_gpa gpa) ws w)) _ refl (λ x a. record { kind = a.kind; life = a.life })
 
-fill_tag : (w : World) (t gpa page : ℕ) (x : Input) (s : EntryState) → Passes (page_to_fill w t gpa page s ++ tag_holds x ∷ []) → x.tag_right ≡ true
+fill_tag : (w : World) (t gpa page : ℕ) (x : Input) (s : EntryState) → Passes (page_to_fill w t [] gpa page s ++ tag_holds x ∷ []) → x.tag_right ≡ true
 fill_tag w t gpa page x entry.Free ps = search
 fill_tag w t gpa page x _ ps = search
 
@@ -437,7 +437,7 @@ module _ (source : World) (o : Opening) (src : IsSource source) (unforged : Unfo
       let due : x.header.counter ≡ stream_counter w t 0 = is_due 0 x.header.counter (search) ∙ sym none in
       immutable_holds source src o.machine w l h t alive 0 few x tk six (on_first x tk (ap (λ (z : ℕ). z == 3) zero)) due zero (eqb-true x.header.epoch 1 (search)) new (record { back = λ y z a. record { kind = a.kind; life = a.life }; same = λ y z. counted l t 0 _ alive few refl refl y z (rw z refl) })
 
-  pub keeps_page : (t slot page : ℕ) → KeepsDestination source o (import_page o.machine (o.bundles slot) t slot page)
+  pub keeps_page : (t slot page : ℕ) → KeepsDestination source o (import_pages o.machine (o.bundles slot) t slot page None)
   keeps_page t slot page w l h ps =
       let x : Input = input_in (o.bundles slot) in
       let gpa : ℕ = x.header.gpa in

@@ -157,9 +157,9 @@ exportable_holds _ entry.Pending h = cc
 exportable_holds _ entry.PendingBlocked h = cc
 exportable_holds _ _ h = refl
 
-tracked_then : (s : OpState) (w : World) (t p : ℕ) → Passes (tracked_in s w t p) → s ≡ op.LiveExport → is_tracked w t p ≡ true
-tracked_then op.LiveExport w t p ps e = ps.0
-tracked_then _ w t p ps e = cc
+tracked_then : (s : OpState) (w : World) (t gpa : ℕ) → Passes (tracked_in s w t (gpa ∷ [])) → s ≡ op.LiveExport → is_tracked w t (entry_at w t 0 gpa).page ≡ true
+tracked_then op.LiveExport w t gpa ps e = ps.0
+tracked_then _ w t gpa ps e = cc
 
 module _ (t gpa k slot : ℕ) (w : World) (i : IvsHold w) (exporting : IsExporting w t) where
   abbrev e : Entry
@@ -258,7 +258,7 @@ module _ (o : Opening) (me : ℕ) (w : World) (l : Lawful o.machine w) (known : 
         ivs = row-ivs o me w l h.ivs h.aborts (call.ExportMem t gpa k slot) ps;
         aborts = row-aborts o me w l h.aborts (call.ExportMem t gpa k slot) ps;
         sent = page_sent t gpa k slot w h.ivs exporting (known t (page_of_gpa gpa) alive ∙ has) h.sent;
-        tracked = page_tracked t gpa k slot w h.ivs exporting (tracked_then (w.tds.ops t) w t e.page (search)) h.tracked;
+        tracked = page_tracked t gpa k slot w h.ivs exporting (tracked_then (w.tds.ops t) w t gpa (search)) h.tracked;
       }
 
   -- a bundle without a page, where the world before it differs in what isn't asked

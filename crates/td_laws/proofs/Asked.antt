@@ -117,11 +117,11 @@ module _ (w : World) where
   named : (t gpa level : ℕ) (allowed : List EntryState) (rest : List (Item Reply)) → are_other rest ≡ true → AskNeither (walk w t gpa level ++ state_in w t gpa level allowed ∷ named_page w t gpa level Exclusive ∷ rest)
   named t gpa level allowed rest e = record { so = past (is_passed w t gpa) (levels_above level) (state_in w t gpa level allowed ∷ named_page w t gpa level Exclusive ∷ rest) e }
 
-  tracks : (s : OpState) (t page : ℕ) → AskNeither (tracked_in s w t page)
-  tracks op.LiveExport t page = record { so = refl }
-  tracks _ t page = record { so = refl }
+  tracks : (s : OpState) (t : ℕ) (gpas : List ℕ) → AskNeither (tracked_in s w t gpas)
+  tracks op.LiveExport t gpas = record { so = refl }
+  tracks _ t gpas = record { so = refl }
 
-  fills : (x : Input) (t gpa page : ℕ) (s : EntryState) → AskNeither (page_to_fill w t gpa page s ++ tag_holds x ∷ [])
+  fills : (x : Input) (t gpa page : ℕ) (s : EntryState) → AskNeither (page_to_fill w t [] gpa page s ++ tag_holds x ∷ [])
   fills x t gpa page entry.Free = record { so = refl }
   fills x t gpa page _ = record { so = refl }
 
@@ -152,7 +152,7 @@ module _ (o : Opening) (me : ℕ) (w : World) where
   asked (call.MemSeptRemove t gpa level) = both _ _ _ (named w t gpa level (entry.NlBlocked ∷ []) (empty_below w t gpa level ∷ tracked_page w t (entry_at w t level gpa).page ∷ []) refl)
   asked (call.MemRangeBlock t gpa level) = both _ _ _ (named w t gpa level open_states [] refl)
   asked (call.MemRangeUnblock t gpa level) = both _ _ _ (named w t gpa level blocked_states (tracked_page w t (entry_at w t level gpa).page ∷ []) refl)
-  asked (call.ExportMem t gpa stream slot) = both _ _ _ (tracks w (w.tds.ops t) t (entry_at w t 0 gpa).page)
+  asked (call.ExportMem t gpa stream slot) = both _ _ _ (tracks w (w.tds.ops t) t (gpa ∷ []))
   asked (call.ExportTrack t slot zero) = (refl, refl)
   asked (call.ExportTrack t slot (suc n)) = (refl, refl)
   asked (call.ImportMem t slot page) = (let x : Input = input_in (o.bundles slot) in both _ _ _ (fills w x t x.header.gpa page (entry_at w t 0 x.header.gpa).state))
