@@ -34,8 +34,9 @@ use Rattle.flat_core.proofs.Keeps.{row-keeps, first-lawful}
 use Rattle.flat_core.proofs.Induction.{counts_stay, play_append}
 use Rattle.flat_core.proofs.Ends.{drop_next}
 use Rattle.flat_alone.specs.Whole.{first_fault, reply_unless, world_unless, row_reply, row_world, replies_of, world_of, lines_at_once, world_at_once, EnterNone, CallsEnterNone, EachCallAtOnce, EndsInTheirWorld}
-use Rattle.flat_alone.proofs.Free.{shared_for, FreeTries, other_page, free_reclaim, free_read, free_walk, free_checks, apart_false, apart_named, free_named, has_use, free_opened, apart_stream, free_tracked}
-use Rattle.flat_alone.proofs.ImportFree.{import_immutable-free, import_page-free, import_token-free, import_td-free, import_vp-free, commit_import-free, end_import-free, abort_import-free, abort_by_token-free}
+use Rattle.flat_alone.proofs.Free.{shared_for, FreeTries, other_page, free_reclaim, free_read, free_walk, free_checks, apart_false, apart_named, free_named, has_use, free_opened}
+use Rattle.flat_alone.proofs.PagesFree.{export_pages-free, import_pages-free}
+use Rattle.flat_alone.proofs.ImportFree.{import_immutable-free, import_token-free, import_td-free, import_vp-free, commit_import-free, end_import-free, abort_import-free, abort_by_token-free}
 
 -- it holds no lock, and is being refused none
 pub record Quiet (lp : Lp) : Type 0 where
@@ -184,28 +185,7 @@ free_row o p (call.ExportPause tdr) w la = λ a. (refl, refl, λ b d e. (refl, r
 free_row o p (call.ExportAbort tdr) w la = λ a. (refl, refl, λ b d e. (refl, refl, λ f. (refl, refl, tt)))
 free_row o p (call.ExportRestore tdr gpa) w la = λ a b d. free_opened o.machine w la tdr gpa restoring_ops restored_states refl
 free_row o p (call.ExportStateImmutable tdr slot) w la = λ a. (refl, refl, λ b d e. (refl, refl, λ f. (refl, refl, λ g h i. tt)))
-free_row o p (call.ExportMem tdr gpa stream slot) w la = λ a b d e. (
-  refl,
-  refl,
-  λ root living two. (
-    refl,
-    refl,
-    λ runs some. (
-      refl,
-      refl,
-      (
-        refl,
-        refl,
-        λ first second third used.
-            let n = apart_named o.machine w la tdr 0 (number_at 0 gpa) root living (has_use _ used) in
-            let s = apart_stream o.machine w la tdr stream 0 (number_at 0 gpa) root living some (has_use _ used) in
-            let x = s.0 in
-            let y = s.1 in
-            (refl, rw n refl, λ state epoch. (rw y refl, rw x refl, λ room. free_tracked _ (w.tds.ops tdr) w tdr (entry_at w tdr 0 gpa).page)),
-      ),
-    ),
-  ),
-)
+free_row o p (call.ExportMem tdr gpa stream slot) w la = export_pages-free o.machine tdr gpa stream slot None w la
 free_row o p (call.ExportTrack tdr slot zero) w la = λ a b. (refl, refl, λ d e f. (refl, refl, λ g. (refl, refl, λ h i. tt)))
 free_row o p (call.ExportTrack tdr slot (suc n)) w la = λ a b. (refl, refl, λ d e f. (refl, refl, λ g. (refl, refl, λ h i j. tt)))
 free_row o p (call.ExportStateTd tdr slot) w la = λ a. (refl, refl, λ b d e. (refl, refl, λ f g h. tt))
@@ -213,7 +193,7 @@ free_row o p (call.ExportStateVp tdr vp slot) w la =
     λ a b apart. (refl, refl, λ d e f. (refl, refl, λ g. let n : (tdr == vp) ≡ false = other_page vp tdr apart in (refl, rw n refl, λ h i j. tt)))
 free_row o p (call.ExportAbortByToken tdr slot) w la = abort_by_token-free o.machine (o.bundles slot) tdr slot w
 free_row o p (call.ImportStateImmutable tdr slot) w la = import_immutable-free o.machine (o.bundles slot) tdr slot w
-free_row o p (call.ImportMem tdr slot page) w la = import_page-free o.machine (o.bundles slot) tdr slot page w la
+free_row o p (call.ImportMem tdr slot page) w la = import_pages-free o.machine (o.bundles slot) tdr slot page None w la
 free_row o p (call.ImportTrack tdr slot) w la = import_token-free o.machine (o.bundles slot) tdr slot w
 free_row o p (call.ImportStateTd tdr slot) w la = import_td-free o.machine (o.bundles slot) tdr slot w
 free_row o p (call.ImportStateVp tdr vp slot) w la = import_vp-free o.machine (o.bundles slot) tdr vp slot w

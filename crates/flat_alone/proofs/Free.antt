@@ -140,6 +140,6 @@ apart_stream m w la tdr k level number root living some used =
       ne_eqb (w.tds.entries tdr level number).page (stream_page w tdr k) (λ e. unlisted level kind.Migsc refl (sym node.page.kind ∙ (ap w.pages.kinds e ∙ its.kind))),
     )
 
-pub free_tracked : (hs : List Held) (s : OpState) (w : World) (tdr page : ℕ) → FreeTries hs (tracked_in s w tdr page)
-free_tracked hs op.LiveExport w tdr page = λ over. tt
-free_tracked hs _ w tdr page = tt
+pub free_tracked : (hs : List Held) (s : OpState) (w : World) (tdr : ℕ) (gpas : List ℕ) → FreeTries hs (tracked_in s w tdr gpas)
+free_tracked hs op.LiveExport w tdr gpas = λ over. tt
+free_tracked hs _ w tdr gpas = tt

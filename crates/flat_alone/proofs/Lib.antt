@@ -1,3 +1,4 @@
 pub mod Free
 pub mod ImportFree
+pub mod PagesFree
 pub mod Alone

@@ -1,9 +1,9 @@
 -- What guests know of their private pages after each event.
-use Rattle.std.proofs.Common.{◌≡◌, refl, sym, ◌∙◌, ap, subst, ℕ, zero, suc, ◌+◌, List, [], ◌∷◌, length, Option, Some, None, option_map, Bool, true, false, ◌==◌, ◌&&◌, if◌then◌else◌}
-use Rattle.std.proofs.lemmas.Bool.{eqb-true}
+use Rattle.std.proofs.Common.{◌≡◌, refl, sym, ◌∙◌, ap, subst, ℕ, zero, suc, ◌+◌, ◌-◌, ◌*◌, ◌<◌, ◌≤◌, List, [], ◌∷◌, length, Option, Some, None, option_map, Bool, true, false, ◌==◌, ◌&&◌, if◌then◌else◌, arith}
+use Rattle.std.specs.Prelude.{nat_le}
+use Rattle.std.proofs.lemmas.Bool.{eqb-true, eqb-false, and_parts, leb-true, ltb-true, le-leb, lt-ltb, le-ltb}
 use Rattle.td_words.specs.declared.names.Access.{Access}
 use Rattle.td_words.specs.declared.names.Access.TheVariants.{Read, Write}
-use Rattle.td_words.specs.declared.names.EntryState.{EntryState}
 use Rattle.td_words.specs.declared.names.PageKind.TheVariants as kind
 use Rattle.td_words.specs.declared.calls.Call.{Call}
 use Rattle.td_words.specs.declared.calls.Call.TheVariants as call
@@ -20,17 +20,79 @@ use Rattle.flat_core.specs.Conditions.{same_kind}
 use Rattle.flat_core.specs.Tree.{page_of_gpa, word_of_gpa, entry_at}
 use Rattle.flat_core.specs.Effects.{put_in, memory_unless, stored_in, pass_operation, tell_words}
 use Rattle.flat_core.specs.Inputs.{Input, input_in}
-use Rattle.flat_core.specs.ImportRows.{fill_page}
+use Rattle.flat_core.specs.PageLists.{page_count, gpas_from, Arrival, arrivals}
+use Rattle.flat_core.specs.ImportRows.{take_in, take_each}
 use Rattle.flat_core.specs.Guest.{Operation, ByRow, Private, operation_of, accept_page, is_pending_at, is_private, shared_load, shared_store, reach}
 use Rattle.flat_core.specs.Event.{Event, OfCall, OfOperation, lines_left, next_event, operation_due, nothing_more, world_after, after_event}
 use Rattle.flat_core.proofs.Tests.{by_test}
+use Rattle.flat_core.proofs.PageLists.{made_first, each_leaves}
 use Rattle.flat_core.proofs.ImportFills.{fill_memories}
 use Rattle.flat_core.proofs.Due.{Due, calls, frees, leaves, stops, fills, operates, walks, reaches, undoes, gives_back, due_event_is}
-use Rattle.flat_guests.specs.Memory.{memory_at, memory_after_call, memory_after_operation, memory_after_access, memory_after_event, EventsRemember}
+use Rattle.flat_guests.specs.Memory.{memory_at, memory_after_call, memory_after_operation, memory_after_access, memory_after_event, is_in_run, ListsRemember, EventsRemember}
 
 stored : (m : Option (ℕ → ℕ)) (i v : ℕ) → stored_in m i v ≡ option_map (λ words. put words i v) m
 stored None i v = refl
 stored (Some ws) i v = refl
+
+-- a page that comes in, where it is taken or is there already; and all of a bundle, each with its 512 words
+comes_in : (w : World) (tdr : ℕ) (a : Arrival) (t n : ℕ)
+    → memory_at (take_in tdr a w) t n ≡ (if t == tdr && n == page_of_gpa a.gpa then Some a.words else memory_at w t n)
+comes_in w tdr a t n = ap (λ (f : ℕ → ℕ → Option (ℕ → ℕ)). put_in f tdr (page_of_gpa a.gpa) (Some a.words) t n)
+    (fill_memories tdr a.gpa a.page a.words (entry_at w tdr 0 a.gpa).state w)
+
+inside : (first count n : ℕ) → first ≤ n → n < first + count → is_in_run first count n ≡ true
+inside first count n low high = rw (le-leb first n low, lt-ltb n (first + count) high) refl
+
+-- the first GPA page of a run, and those behind it
+abbrev Joins : (first behind k n : ℕ) → (words : ℕ → ℕ) → (same : Bool) → Option (ℕ → ℕ) → Type 0
+Joins first behind k n words same old =
+    (if same && is_in_run behind k n then Some (λ i. words (512 + (512 * (n - behind) + i))) else if same && n == first then Some words else old)
+    ≡ (if same && is_in_run first (suc k) n then Some (λ i. words (512 * (n - first) + i)) else old)
+
+moved : (n first behind : ℕ) → behind ≡ first + 1 → first + 1 ≤ n → (i : ℕ) → 512 + (512 * (n - behind) + i) ≡ 512 * (n - first) + i
+moved n first behind is low i = omega (arith, is, low)
+
+at_first : (n first : ℕ) → n ≡ first → (i : ℕ) → i ≡ 512 * (n - first) + i
+at_first n first is i = omega (arith, is)
+
+outside : (first k n behind : ℕ) → behind ≡ first + 1 → is_in_run behind k n ≡ false → (n == first) ≡ false → is_in_run first (suc k) n ≡ false
+outside first k n behind is out off = by_test (is_in_run first (suc k) n)
+    (λ y. absurd (let both = and_parts (nat_le first n) _ y in
+    let low = leb-true _ _ both.0 in
+    let high = ltb-true _ _ both.1 in
+    let apart : n ≡ first → ⊥ = eqb-false n first off in
+    let no : true ≡ false = sym (inside behind k n (omega (arith, low, apart, is)) (omega (arith, high, is))) ∙ out in cc))
+    (λ y. y)
+
+joins : (first behind k n : ℕ) (words : ℕ → ℕ) → behind ≡ first + 1 → (same : Bool) (old : Option (ℕ → ℕ)) → Joins first behind k n words same old
+joins first behind k n words is false old = refl
+joins first behind k n words is true old = by_test (is_in_run behind k n)
+    (λ z. let both = and_parts (nat_le behind n) _ z in
+    let low = leb-true _ _ both.0 in
+    let high = ltb-true _ _ both.1 in
+    let in_all : is_in_run first (suc k) n ≡ true = inside first (suc k) n (omega (arith, low, is)) (omega (arith, high, is)) in
+    rw (z, in_all) (λ j. Some (λ i. words (moved n first behind is (omega (arith, low, is)) i j))))
+    (λ z. by_test (n == first)
+    (λ u. let here : n ≡ first = eqb-true n first u in
+    let in_all : is_in_run first (suc k) n ≡ true = inside first (suc k) n (omega (arith, here)) (omega (arith, here)) in
+    rw (z, u, in_all) (λ j. Some (λ i. words (at_first n first here i j))))
+    (λ u. let out : is_in_run first (suc k) n ≡ false = outside first k n behind is z u in rw (z, u, out) refl))
+
+none_in : (first n : ℕ) → is_in_run first 0 n ≡ false
+none_in first n = by_test (nat_le first n) (λ y. (let low = leb-true _ _ y in rw (y, le-ltb n (first + 0) (omega (arith, low))) refl)) (λ y. rw y refl)
+
+all_come_in : (tdr t n count : ℕ) (w : World) (gpa page : ℕ) (words : ℕ → ℕ)
+    → memory_at (take_each tdr (arrivals gpa page words count) w) t n ≡ (if t == tdr && is_in_run (page_of_gpa gpa) count n then Some (λ i. words (512 * (n - page_of_gpa gpa) + i)) else memory_at w t n)
+all_come_in tdr t n zero w gpa page words = let none = none_in (page_of_gpa gpa) n in by_test (t == tdr) (λ y. rw (y, none) refl) (λ y. rw y refl)
+all_come_in tdr t n (suc k) w gpa page words =
+    let a : Arrival = record { gpa = gpa; page = page; words = words } in
+    let behind : ℕ = page_of_gpa (gpa + 4096) in
+    all_come_in tdr t n k (take_in tdr a w) (gpa + 4096) (page + 1) (λ i. words (512 + i))
+    ∙ (ap (λ (m : Option (ℕ → ℕ)). if t == tdr && is_in_run behind k n then Some (λ i. words (512 + (512 * (n - behind) + i))) else m) (comes_in w tdr a t n)
+    ∙ joins (page_of_gpa gpa) behind k n words (omega arith) (t == tdr) (memory_at w t n))
+
+pub lists_remember : ListsRemember
+lists_remember tdr gpa page count words w t n = all_come_in tdr t n count w gpa page words
 
 -- what each act makes of them
 module _ (o : Opening) (w : World) (t n : ℕ) where
@@ -52,11 +114,6 @@ module _ (o : Opening) (w : World) (t n : ℕ) where
   begins tdr true = refl
   begins tdr false = refl
 
-  -- a page that comes in, where it is taken or is there already
-  comes_in : (tdr gpa page : ℕ) (ws : ℕ → ℕ) (s : EntryState)
-      → put_in (fill_page tdr gpa page ws s w).hidden.memories tdr (page_of_gpa gpa) (Some ws) t n ≡ (if t == tdr && n == page_of_gpa gpa then Some ws else memory_at w t n)
-  comes_in tdr gpa page ws s = ap (λ (f : ℕ → ℕ → Option (ℕ → ℕ)). put_in f tdr (page_of_gpa gpa) (Some ws) t n) (fill_memories tdr gpa page ws s w)
-
   call_remembers : (me : ℕ) (c : Call) → Becomes (memory_after_call o c w t n) ((row_of o me c).act w)
   call_remembers me (call.MngCreate tdr hkid) = begins tdr (t == tdr)
   call_remembers me (call.PhymemPageReclaim tdr page) = ends tdr (w.pages.numbers page) (same_kind (w.pages.kinds page) kind.Reg)
@@ -64,7 +121,10 @@ module _ (o : Opening) (w : World) (t n : ℕ) where
   call_remembers me (call.MemPageRemove tdr gpa) = refl
   call_remembers me (call.ExportTrack tdr slot zero) = refl
   call_remembers me (call.ExportTrack tdr slot (suc n)) = refl
-  call_remembers me (call.ImportMem tdr slot page) = let x : Input = input_in (o.bundles slot) in comes_in tdr x.header.gpa page x.words (entry_at w tdr 0 x.header.gpa).state
+  call_remembers me (call.ExportMem tdr gpa k slot) =
+      ap (λ (v : World). memory_at v t n) (each_leaves tdr k (gpas_from gpa (page_count None)) (made_first tdr gpa k slot None w))
+  call_remembers me (call.ImportMem tdr slot page) =
+      let x : Input = input_in (o.bundles slot) in comes_in w tdr (record { gpa = x.header.gpa; page = page; words = x.words }) t n
   call_remembers me (call.HostRead page word) = refl
   call_remembers me _ = refl
 

@@ -1,5 +1,5 @@
 -- Guest memory, in a reader's terms: which event gives which private page of which TD which words.
-use Rattle.std.specs.Prelude.{◌≡◌, ℕ, List, ◌∷◌, Option, Some, None, option_map, ◌==◌, ◌&&◌, if◌then◌else◌}
+use Rattle.std.specs.Prelude.{◌≡◌, ℕ, ◌+◌, ◌-◌, ◌*◌, List, ◌∷◌, Option, Some, None, option_map, Bool, ◌==◌, ◌&&◌, nat_le, nat_lt, if◌then◌else◌}
 use Rattle.td_words.specs.declared.names.PageKind.TheVariants as kind
 use Rattle.td_words.specs.declared.calls.Call.{Call}
 use Rattle.td_words.specs.declared.calls.Call.TheVariants as call
@@ -9,6 +9,8 @@ use Rattle.flat_core.specs.World.{World, put}
 use Rattle.flat_core.specs.Processor.{Guest}
 use Rattle.flat_core.specs.Opening.{Opening}
 use Rattle.flat_core.specs.Inputs.{input_in}
+use Rattle.flat_core.specs.PageLists.{arrivals}
+use Rattle.flat_core.specs.ImportRows.{take_each}
 use Rattle.flat_core.specs.Row.{Succeeds}
 use Rattle.flat_core.specs.Conditions.{same_kind}
 use Rattle.flat_core.specs.Tree.{page_of_gpa, word_of_gpa}
@@ -31,6 +33,14 @@ memory_after_call o (call.ImportMem tdr slot page) w t n =
     let x = input_in (o.bundles slot) in if t == tdr && n == page_of_gpa x.header.gpa then Some x.words else memory_at w t n
 memory_after_call o _ w t n = memory_at w t n
 
+-- after the pages of a list have come in: each of so many GPA pages from one on has its 512 words of the bundle
+abbrev pub is_in_run : (first count n : ℕ) → Bool
+is_in_run first count n = nat_le first n && nat_lt n (first + count)
+
+abbrev pub memory_after_pages : (tdr first count : ℕ) → (ℕ → ℕ) → World → (t gpa_page : ℕ) → Option (ℕ → ℕ)
+memory_after_pages tdr first count words w t n =
+    if t == tdr && is_in_run first count n then Some (λ i. words (512 * (n - first) + i)) else memory_at w t n
+
 -- after a guest's operation has: a page that was PENDING is accepted with zeros
 abbrev pub memory_after_operation : Option GuestOp → Guest → World → (tdr gpa_page : ℕ) → Option (ℕ → ℕ)
 memory_after_operation (Some (op.Accept gpa)) g w t n =
@@ -51,6 +61,10 @@ memory_after_event o (c ∷ cs) guest (Some (OfCall row Succeeds)) w = memory_af
 memory_after_event o cs (Some g) (Some (OfOperation row Succeeds)) w = memory_after_operation (operation_due o w g) g w
 memory_after_event o cs (Some g) (Some (Reaches tdr vp access register gpa page)) w = memory_after_access (operation_due o w g) g w
 memory_after_event _ _ _ _ w = memory_at w
+
+abbrev pub ListsRemember : Type 0
+ListsRemember = (tdr gpa page count : ℕ) (words : ℕ → ℕ) (w : World) (t n : ℕ)
+    → memory_at (take_each tdr (arrivals gpa page words count) w) t n ≡ memory_after_pages tdr (page_of_gpa gpa) count words w t n
 
 abbrev pub EventsRemember : Type 0
 EventsRemember = (o : Opening) (s : State) (p t n : ℕ)

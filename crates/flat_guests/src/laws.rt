@@ -1,6 +1,6 @@
 //! Laws of guest memory and of told words, as contracts of functions that do nothing.
 
-ghost use Rattle.flat_guests.specs.Memory.{EventsRemember};
+ghost use Rattle.flat_guests.specs.Memory.{EventsRemember, ListsRemember};
 ghost use Rattle.flat_guests.specs.Told.{EventsTellTheirs};
 
 /// What a TD's guest knows of its private pages after each event: MNG.CREATE begins with nothing
@@ -9,6 +9,11 @@ ghost use Rattle.flat_guests.specs.Told.{EventsTellTheirs};
 /// end what is known of the page, and nothing else changes it.
 pub fn memory_events()
     ensures { EventsRemember }
+{}
+
+/// What it knows once the pages of a list have come in: of each its 512 words of the bundle.
+pub fn list_memories()
+    ensures { ListsRemember }
 {}
 
 /// The act of a shared `store` and that of `vmcall` each tell the host one word, the register's or

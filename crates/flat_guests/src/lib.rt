@@ -6,4 +6,4 @@
 
 mod laws;
 
-pub use laws::{memory_events, told_events};
+pub use laws::{list_memories, memory_events, told_events};

@@ -1,27 +1,25 @@
 -- After the act of each row a TD whose locks stood goes on to stand, but where the row holds P of its TDR page alone.
-use Rattle.std.proofs.Common.{◌≡◌, ◌⊎◌, refl, sym, ◌∙◌, subst, ap, inl, inr, ℕ, zero, suc, List, [], ◌∷◌, ◌++◌, Bool, true, false, not, ◌==◌}
+use Rattle.std.proofs.Common.{◌≡◌, ◌⊎◌, refl, sym, ◌∙◌, subst, ap, inl, inr, ℕ, zero, suc, length, Bool, true, false, not, ◌==◌}
+use Rattle.std.specs.Prelude.{None}
 use Rattle.std.proofs.lemmas.Bool.{eqb-true, eqb-false, ne_eqb, and_parts}
 use Rattle.td_words.specs.declared.names.Mode.TheVariants.{Exclusive}
 use Rattle.td_words.specs.declared.names.PageKind.TheVariants as kind
 use Rattle.td_words.specs.declared.names.LifeState.{LifeState}
-use Rattle.td_words.specs.declared.names.EntryState.{EntryState}
-use Rattle.td_words.specs.declared.names.EntryState.TheVariants as entry
 use Rattle.td_words.specs.declared.calls.Call.{Call}
 use Rattle.td_words.specs.declared.calls.Call.TheVariants as call
-use Rattle.td_words.specs.declared.replies.Reply.{Reply}
 use Rattle.flat_core.specs.World.{World}
 use Rattle.flat_core.specs.Opening.{Opening}
-use Rattle.flat_core.specs.Row.{Item, Passes}
+use Rattle.flat_core.specs.Row.{Passes}
 use Rattle.flat_core.specs.Conditions.{is_host}
 use Rattle.flat_core.specs.KeyRows.{reclaim_conditions}
-use Rattle.flat_core.specs.Tree.{entry_at}
-use Rattle.flat_core.specs.Inputs.{Input, input_in, tag_holds}
-use Rattle.flat_core.specs.ImportRows.{page_to_fill, fill_page}
+use Rattle.flat_core.specs.Inputs.{Input, input_in}
+use Rattle.flat_core.specs.PageLists.{page_count, gpas_from, arrivals}
 use Rattle.flat_core.specs.Lawful.{Lawful, IsAlive}
 use Rattle.flat_core.specs.Table.{row_of}
 use Rattle.flat_core.proofs.Maps.{unlisted, node_named}
 use Rattle.flat_core.proofs.Parts.{IsLive}
-use Rattle.flat_core.proofs.Shapes.{Aspect, aspect_of, changes_root, Takes, Shape, notes, fills, takes, reclaims, unmaps, begins, changes_life, changes_op, changes_vp, enters, flushes, changes_entry, advances, ActShape, one, moves, unmaps_kept}
+use Rattle.flat_core.proofs.PageLists.{made_first, each_leaves, takes_leave}
+use Rattle.flat_core.proofs.Shapes.{Aspect, aspect_of, changes_root, Takes, Shape, notes, fills, takes, reclaims, unmaps, begins, changes_life, changes_op, changes_vp, enters, flushes, changes_entry, advances, ActShape, one, moves, page_by_page, by_shapes, unmaps_kept}
 use Rattle.flat_core.proofs.ShapeOf.{shape_of}
 use Rattle.flat_core.proofs.Tests.{by_test, host_kind}
 use Rattle.lock_words.specs.LockWords.{TdStands}
@@ -42,11 +40,6 @@ apart-owned o w t u p la st n owned = ne_eqb t p (λ e. eqb-false t u n (sym (la
 
 same-page : (t tdr : ℕ) → (t == tdr) ≡ true → held_as tdr Exclusive ≡ held_as t Exclusive
 same-page t tdr y = ap (λ (x : ℕ). held_as x Exclusive) (sym (eqb-true t tdr y))
-
--- a page whose words come in was the host's, or is the one that the entry names
-filled-on : (w : World) (t u gpa p : ℕ) (ws : ℕ → ℕ) (rest : List (Item Reply)) → TdStands w t → (s : EntryState) → Passes (page_to_fill w u gpa p s ++ rest) → TdStands (fill_page u gpa p ws s w) t
-filled-on w t u gpa p ws rest st entry.Free ps = let n : (t == p) ≡ false = apart-host w t p st.alive ps.0 in same-td w _ t st (rw n refl) refl refl
-filled-on w t u gpa p ws rest st _ ps = same-td w _ t st refl refl refl
 
 -- a TD that is alive goes on to be, where no TDR page changes
 module _ (o : Opening) (me : ℕ) (c : Call) (w w' : World) (la : Lawful o.machine w) (t : ℕ) (a : IsAlive w.pages w.tds t) (off : changes_root c ≡ false) where
@@ -77,9 +70,12 @@ module _ (o : Opening) (me : ℕ) (c : Call) (w w' : World) (la : Lawful o.machi
   goes-on (changes_entry x) = by-aspect _ x.rest refl refl
   goes-on (advances x) = by-world _ x.is refl refl
 
-act-goes-on : (o : Opening) (me : ℕ) (c : Call) (w w' : World) → Lawful o.machine w → (t : ℕ) → IsAlive w.pages w.tds t → changes_root c ≡ false → ActShape me c w w' → IsAlive w'.pages w'.tds t
+act-goes-on : (o : Opening) (me : ℕ) (c : Call) (w w' : World) → Lawful o.machine w → (t : ℕ) → IsAlive w.pages w.tds t → changes_root c ≡ false
+    → ActShape o.machine me c w w' → IsAlive w'.pages w'.tds t
 act-goes-on o me c w w' la t a off (one x) = goes-on o me c w w' la t a off x
 act-goes-on o me c w w' la t a off (moves v x y held) = takes-go-on o me c v w' (unmaps_kept o.machine c w v la x) t (goes-on o me c w v la t a off (unmaps x)) off y
+act-goes-on o me c w w' la t a off (page_by_page none x) = by_shapes w w' w (λ v. IsAlive v.pages v.tds t)
+    (λ v u l y of b. goes-on o me c v u (l la) t b off y) (λ l. l) x a
 
 pub acts-go-on : (o : Opening) (me : ℕ) (c : Call) (w : World) (t : ℕ) → let row = row_of o me c in
     Lawful o.machine w → Passes (row.items w) → TdStands w t → TdStands (row.act w) t ⊎ (first_try (row.items w) ≡ held_as t Exclusive)
@@ -107,9 +103,19 @@ acts-go-on o me (call.PhymemPageReclaim tdr page) w t la ps st = by_test (t == t
     given n false e x = apart-owned o w t tdr page la st n (eqb-true _ tdr (and_parts (not (is_host w page)) (w.pages.owners page == tdr) x.0).1)
 acts-go-on o me (call.ImportMem tdr slot page) w t la ps st =
     let x : Input = input_in (o.bundles slot) in
-    let gpa : ℕ = x.header.gpa in
-    let s : EntryState = (entry_at w tdr 0 gpa).state in
-    inl (same-td (fill_page tdr gpa page x.words s w) _ t (filled-on w t tdr gpa page x.words (tag_holds x ∷ []) st s (search)) refl refl refl)
+    let same = takes_leave tdr (arrivals x.header.gpa page x.words (page_count None)) w in
+    inl (record {
+      alive = act-goes-on o me _ w _ la t st.alive refl (shape_of o me (call.ImportMem tdr slot page) w ps);
+      has_tdcs = ap
+          (λ (v : World). length (v.tds.controls t) == 0) same ∙ st.has_tdcs;
+    })
+acts-go-on o me (call.ExportMem tdr gpa k slot) w t la ps st =
+    let same = each_leaves tdr k (gpas_from gpa (page_count None)) (made_first tdr gpa k slot None w) in
+    inl (record {
+      alive = act-goes-on o me _ w _ la t st.alive refl (shape_of o me (call.ExportMem tdr gpa k slot) w ps);
+      has_tdcs = ap
+          (λ (v : World). length (v.tds.controls t) == 0) same ∙ st.has_tdcs;
+    })
 acts-go-on o me (call.ExportTrack tdr slot zero) w t la ps st = inl (record { alive = act-goes-on o me _ w _ la t st.alive refl (shape_of o me (call.ExportTrack tdr slot zero) w ps); has_tdcs = st.has_tdcs })
 acts-go-on o me (call.ExportTrack tdr slot (suc n)) w t la ps st = inl (record { alive = act-goes-on o me _ w _ la t st.alive refl (shape_of o me (call.ExportTrack tdr slot (suc n)) w ps); has_tdcs = st.has_tdcs })
 acts-go-on o me c w t la ps st = inl (record { alive = act-goes-on o me c w _ la t st.alive refl (shape_of o me c w ps); has_tdcs = st.has_tdcs })

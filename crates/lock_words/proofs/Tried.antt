@@ -1,7 +1,7 @@
 -- Of each row: a lock of a TD is tried while P of its TDR page is held, which was tried first and shared; and where it is
 -- tried it stands.
 use Rattle.std.proofs.Common.{◌≡◌, refl, sym, ◌∙◌, ap, subst, ℕ, zero, suc, Bool, true, false, ◌==◌, List, [], ◌∷◌, ◌++◌, map, Option, Some, None}
-use Rattle.std.specs.Prelude.{filter, nat_lt}
+use Rattle.std.specs.Prelude.{filter, nat_lt, flat_map}
 use Rattle.td_words.specs.declared.names.Mode.{Mode}
 use Rattle.td_words.specs.declared.names.Mode.TheVariants.{Shared, Exclusive}
 use Rattle.td_words.specs.declared.names.PageKind.TheVariants as kind
@@ -12,14 +12,15 @@ use Rattle.td_words.specs.declared.names.EntryState.TheVariants as entry
 use Rattle.td_words.specs.declared.names.VcpuState.TheVariants as vcpu
 use Rattle.td_words.specs.declared.names.ReadField.TheVariants as field
 use Rattle.td_words.specs.declared.names.HeaderField.TheVariants as header
+use Rattle.td_words.specs.declared.machines.Machine.{Machine}
 use Rattle.td_words.specs.declared.calls.Call.{Call}
 use Rattle.td_words.specs.declared.calls.Call.TheVariants as call
 use Rattle.td_words.specs.declared.replies.Reply.{Reply}
 use Rattle.td_words.specs.declared.replies.Reply.TheVariants.{Refused}
 use Rattle.td_words.specs.declared.refusals.Status.TheVariants.{EptWalkFailed, TokenTotal}
 use Rattle.flat_core.specs.World.{World, ClearHeader}
-use Rattle.flat_core.specs.Processor.{LockId, Held}
-use Rattle.flat_core.specs.Opening.{Opening}
+use Rattle.flat_core.specs.Processor.{LockId, OfPage, Held}
+use Rattle.flat_core.specs.Opening.{Opening, Incoming}
 use Rattle.flat_core.specs.Row.{Item, Check, Try, Attempts, Succeeds, next, Passes, needs}
 use Rattle.flat_core.specs.Conditions.{all_ops, begun_ops, growing_ops, later_ops, running_ops, not_elsewhere, td_row, page_exclusive, tree_shared, tree_exclusive, epoch_shared, epoch_exclusive, keys_exclusive, host_page, td_page, vps_ready, vp_room, vp_in, augmented_ops, blocking_ops}
 use Rattle.flat_core.specs.Tracking.{tracked_page, epoch_room, previous_epoch_left}
@@ -27,9 +28,11 @@ use Rattle.flat_core.specs.KeyRows.{reclaim_conditions}
 use Rattle.flat_core.specs.MemRows.{named_row, open_states, blocked_states, removed_states, another_page}
 use Rattle.flat_core.specs.ExportRows.{stream_ops, live_ops, abortable_ops, restoring_ops, stream_room, writable_states, write_blocked_states, restored_states, opened_row}
 use Rattle.flat_core.specs.Sessions.{stream_page, stream_counter, bundles_so_far, other_epoch, has_stream, counter_room, session_room, all_restored, td_state_left, vp_state_left}
-use Rattle.flat_core.specs.BundleRows.{session_ops, paused_ops, exportable, tracked_in, token_ops, token_conditions}
-use Rattle.flat_core.specs.Inputs.{Input, input_in, header_says, stream_there, session_same, epoch_same, counter_due, tag_holds}
-use Rattle.flat_core.specs.ImportRows.{first_ops, filling_ops, td_state_ops, vp_state_ops, commit_ops, late_ops, given_up_ops, sent_ops, importable, page_to_fill, is_start, import_token_ops, epoch_due}
+use Rattle.flat_core.specs.PageLists.{page_count, count_argument, gpas_argument, pages_argument, gpas_from, Arrival, arrivals}
+use Rattle.flat_core.specs.BundleRows.{session_ops, paused_ops, exportable, page_to_export, tracked_in, export_conditions, export_pages, token_ops, token_conditions}
+use Rattle.flat_core.specs.Arguments.{apart_argument, aligned_argument}
+use Rattle.flat_core.specs.Inputs.{Input, input_in, input_row, header_says, stream_there, session_same, epoch_same, counter_due, tag_holds}
+use Rattle.flat_core.specs.ImportRows.{first_ops, filling_ops, td_state_ops, vp_state_ops, commit_ops, late_ops, given_up_ops, sent_ops, importable, page_to_fill, page_filled, pages_to_fill, list_says, import_conditions, import_pages, is_start, import_token_ops, epoch_due}
 use Rattle.flat_core.specs.Tree.{entry_at, same_state, walk, state_in, has_page, empty_below, named_page}
 use Rattle.flat_core.specs.Table.{row_of}
 use Rattle.flat_core.specs.Tries.{tries, tries_of}
@@ -84,6 +87,93 @@ opened-fits : (w : World) (t gpa : ℕ) (ops : List OpState) (allowed : List Ent
 opened-fits w t gpa ops allowed =
     let items : List (Item Reply) = state_in w t gpa 0 allowed ∷ named_page w t gpa 0 Exclusive ∷ [] in
     head-fits w t Shared ops (tree_exclusive t ∷ (walk w t gpa 0 ++ items)) (λ st. ((refl, st), walk-fits w t gpa 0 items (λ x. ((tt, tt), tt))))
+
+-- what is tried once a lock is held
+append-fit : (w : World) (h : Held) (xs ys : List (Item Reply)) → TriesFit w (Some h) xs → TriesFit w (Some h) ys → TriesFit w (Some h) (xs ++ ys)
+append-fit w h [] ys xf yf = yf
+append-fit w h (Check b r ∷ xs) ys xf yf = λ e. append-fit w h xs ys (xf e) yf
+append-fit w h (Try l m ∷ xs) ys xf yf = (xf.0, append-fit w h xs ys xf.1 yf)
+
+-- lists of pages: what COUNT asks is conditions alone, and each page's lock is tried with P of the TDR page held
+module _ (w : World) (first : Option Held) (items : List (Item Reply)) (h : TriesFit w first items) where
+  count-fits : (place : ℕ) (count : Option ℕ) → TriesFit w first (count_argument place count ++ items)
+  count-fits place None = h
+  count-fits place (Some n) = λ a. h
+
+  gpas-fit : (place gpa : ℕ) (count : Option ℕ) → TriesFit w first (gpas_argument place gpa count ++ items)
+  gpas-fit place gpa None = h
+  gpas-fit place gpa (Some n) = λ a. h
+
+  run-fits : (m : Machine) (place page tdr : ℕ) (count : Option ℕ) → TriesFit w first (pages_argument m place page tdr count ++ items)
+  run-fits m place page tdr None = h
+  run-fits m place page tdr (Some n) = λ a b. h
+
+  says-fit : (x : ClearHeader) (count : Option ℕ) → TriesFit w first (list_says x count ++ items)
+  says-fit x None = h
+  says-fit x (Some n) = λ a b. h
+
+page-fits : (w : World) (t gpa : ℕ) → TriesFit w (held_as t Shared) (page_to_export w t gpa)
+page-fits w t gpa =
+    walk-fits w t gpa 0 (has_page w t gpa 0 ∷ named_page w t gpa 0 Exclusive ∷ state_in w t gpa 0 (exportable (w.tds.ops t)) ∷ other_epoch w t gpa ∷ [])
+    (λ a. ((tt, tt), λ b c. tt))
+
+pages-fit : (w : World) (t : ℕ) (gpas : List ℕ) → TriesFit w (held_as t Shared) (flat_map (page_to_export w t) gpas)
+pages-fit w t [] = tt
+pages-fit w t (gpa ∷ gpas) = append-fit w (record { lock = OfPage t; mode = Shared }) (page_to_export w t gpa) (flat_map (page_to_export w t) gpas)
+    (page-fits w t gpa) (pages-fit w t gpas)
+
+fill-fits : (w : World) (t gpa page : ℕ) (locked : List ℕ) (s : EntryState) → TriesFit w (held_as t Shared) (page_to_fill w t locked gpa page s)
+fill-fits w t gpa page [] entry.Free = ((tt, tt), λ y. tt)
+fill-fits w t gpa page (p ∷ locked) entry.Free = λ x. ((tt, tt), λ y. tt)
+fill-fits w t gpa page locked _ = ((tt, tt), tt)
+
+fills-fit : (w : World) (t : ℕ) (locked : List ℕ) (pages : List Arrival) (rest : List (Item Reply)) → TriesFit w (held_as t Shared) rest
+    → TriesFit w (held_as t Shared) (pages_to_fill w t locked pages rest)
+fills-fit w t locked [] rest h = h
+fills-fit w t locked (a ∷ pages) rest h =
+    let s : EntryState = (entry_at w t 0 a.gpa).state in
+    let more : List (Item Reply) = pages_to_fill w t (page_filled w t a ∷ locked) pages rest in
+    walk-fits w t a.gpa 0 (state_in w t a.gpa 0 importable ∷ (page_to_fill w t locked a.gpa a.page s ++ more))
+    (λ x. append-fit w (record { lock = OfPage t; mode = Shared }) (page_to_fill w t locked a.gpa a.page s) more (fill-fits w t a.gpa a.page locked s)
+    (fills-fit w t (page_filled w t a ∷ locked) pages rest h))
+
+export-fits : (m : Machine) (tdr gpa k slot : ℕ) (count : Option ℕ) (w : World) → TriesFit w None ((export_pages m tdr gpa k slot count).items w)
+export-fits m tdr gpa k slot count w =
+    let gpas : List ℕ = gpas_from gpa (page_count count) in
+    let last : List (Item Reply) = page_exclusive (stream_page w tdr k) ∷ counter_room w tdr k ∷ tracked_in (w.tds.ops tdr) w tdr gpas in
+    let pages : List (Item Reply) = flat_map (page_to_export w tdr) gpas in
+    let items : List (Item Reply) = export_conditions w tdr k gpas in
+    let fits : TriesFit w None items =
+    head-fits w tdr Shared abortable_ops (has_stream w tdr k ∷ tree_shared tdr ∷ epoch_shared tdr ∷ (pages ++ last))
+    (λ st x. (
+      (refl, st),
+      (
+        (refl, st),
+        append-fit w (record { lock = OfPage tdr; mode = Shared }) pages last (pages-fit w tdr gpas)
+            ((tt, tt), λ room. tested gpas (w.tds.ops tdr)),
+      ),
+    )) in
+    λ a b c. count-fits w None (aligned_argument 2 0 gpa ∷ (gpas_argument 5 gpa count ++ items)) (λ d. gpas-fit w None items fits 5 gpa count) 5 count
+  where
+    tested : (gpas : List ℕ) (s : OpState) → TriesFit w (held_as tdr Shared) (tracked_in s w tdr gpas)
+    tested gpas op.LiveExport = λ x. tt
+    tested gpas _ = tt
+
+import-fits : (m : Machine) (b : Option Incoming) (tdr slot page : ℕ) (count : Option ℕ) (w : World)
+    → TriesFit w None ((import_pages m b tdr slot page count).items w)
+import-fits m b tdr slot page count w =
+    let x : Input = input_in b in
+    let h : ClearHeader = x.header in
+    let pages : List Arrival = arrivals h.gpa page x.words (page_count count) in
+    let fills : List (Item Reply) = pages_to_fill w tdr [] pages (tag_holds x ∷ []) in
+    let items : List (Item Reply) = import_conditions w tdr x pages in
+    let said : List (Item Reply) = input_row x slot (3 ∷ []) ++ (list_says h count ++ items) in
+    let fits : TriesFit w None items =
+    head-fits w tdr Shared filling_ops
+    (tree_exclusive tdr ∷ stream_there w tdr h ∷ session_same w tdr h ∷ epoch_same w tdr h ∷ counter_due (stream_counter w tdr h.stream) h ∷ fills)
+    (λ st. ((refl, st), λ g i j k. fills-fit w tdr [] pages (tag_holds x ∷ []) (λ y. tt))) in
+    λ a c. count-fits w None (apart_argument 3 page tdr ∷ (pages_argument m 4 page tdr count ++ said))
+    (λ d. run-fits w None said (λ e f g. says-fit w None items fits h count) m 4 page tdr count) 4 count
 
 pub rows-fit : (o : Opening) (me : ℕ) (c : Call) (w : World) → TriesFit w None ((row_of o me c).items w)
 rows-fit o me (call.HostRead page word) w = λ a b. ((tt, tt), tt)
@@ -147,16 +237,7 @@ rows-fit o me (call.ExportPause tdr) w = λ a. head-fits w tdr Exclusive live_op
 rows-fit o me (call.ExportAbort tdr) w = λ a. head-fits w tdr Exclusive abortable_ops (tree_exclusive tdr ∷ []) (λ st. ((refl, st), tt))
 rows-fit o me (call.ExportRestore tdr gpa) w = λ a b c. opened-fits w tdr gpa restoring_ops restored_states
 rows-fit o me (call.ExportStateImmutable tdr slot) w = λ a. head-fits w tdr Exclusive session_ops (keys_exclusive ∷ has_stream w tdr 0 ∷ all_restored w tdr ∷ session_room w ∷ []) (λ st. ((tt, tt), λ x y z. tt))
-rows-fit o me (call.ExportMem tdr gpa stream slot) w =
-    let test : List (Item Reply) = tracked_in (w.tds.ops tdr) w tdr (entry_at w tdr 0 gpa).page in
-    let page_items : List (Item Reply) = state_in w tdr gpa 0 (exportable (w.tds.ops tdr)) ∷ other_epoch w tdr gpa ∷ page_exclusive (stream_page w tdr stream) ∷ counter_room w tdr stream ∷ test in
-    let entry_items : List (Item Reply) = has_page w tdr gpa 0 ∷ named_page w tdr gpa 0 Exclusive ∷ page_items in
-    λ a b c d. head-fits w tdr Shared abortable_ops (has_stream w tdr stream ∷ tree_shared tdr ∷ epoch_shared tdr ∷ (walk w tdr gpa 0 ++ entry_items))
-    (λ st x. ((refl, st), ((refl, st), walk-fits w tdr gpa 0 entry_items (λ y. ((tt, tt), λ z e. ((tt, tt), λ room. tested (w.tds.ops tdr)))))))
-  where
-    tested : (s : OpState) → TriesFit w (held_as tdr Shared) (tracked_in s w tdr (entry_at w tdr 0 gpa).page)
-    tested op.LiveExport = λ x. tt
-    tested _ = tt
+rows-fit o me (call.ExportMem tdr gpa stream slot) w = export-fits o.machine tdr gpa stream slot None w
 rows-fit o me (call.ExportTrack tdr slot start) w = λ a b. head-fits w tdr Exclusive (token_ops start) (tree_exclusive tdr ∷ counter_room w tdr 0 ∷ token_conditions w tdr start) (λ st. ((refl, st), λ x. conditions start))
   where
     conditions : (n : ℕ) → TriesFit w (held_as tdr Shared) (token_conditions w tdr n)
@@ -173,18 +254,7 @@ rows-fit o me (call.ImportStateImmutable tdr slot) w =
     λ a b c d. head-fits w tdr Exclusive first_ops (keys_exclusive ∷ has_stream w tdr 0 ∷ header_says (nat_lt w.key_table.last_imported x.header.session) header.Session
     ∷ header_says (x.header.epoch == 1) header.Epoch ∷ counter_due 0 x.header ∷ tag_holds x ∷ [])
     (λ st. ((tt, tt), λ e f g h i. tt))
-rows-fit o me (call.ImportMem tdr slot page) w =
-    let x : Input = input_in (o.bundles slot) in
-    let h : ClearHeader = x.header in
-    let page_items : List (Item Reply) = page_to_fill w tdr h.gpa page (entry_at w tdr 0 h.gpa).state ++ tag_holds x ∷ [] in
-    let entry_items : List (Item Reply) = state_in w tdr h.gpa 0 importable ∷ page_items in
-    λ a b c d e f. head-fits w tdr Shared filling_ops (tree_exclusive tdr ∷ stream_there w tdr h ∷ session_same w tdr h ∷ epoch_same w tdr h
-    ∷ counter_due (stream_counter w tdr h.stream) h ∷ (walk w tdr h.gpa 0 ++ entry_items))
-    (λ st. ((refl, st), λ g i j k. walk-fits w tdr h.gpa 0 entry_items (λ y. filled x (entry_at w tdr 0 h.gpa).state)))
-  where
-    filled : (x : Input) (s : EntryState) → TriesFit w (held_as tdr Shared) (page_to_fill w tdr x.header.gpa page s ++ tag_holds x ∷ [])
-    filled x entry.Free = ((tt, tt), λ y z. tt)
-    filled x _ = ((tt, tt), λ y. tt)
+rows-fit o me (call.ImportMem tdr slot page) w = import-fits o.machine (o.bundles slot) tdr slot page None w
 rows-fit o me (call.ImportTrack tdr slot) w =
     let x : Input = input_in (o.bundles slot) in
     let h : ClearHeader = x.header in
