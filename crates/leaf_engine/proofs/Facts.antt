@@ -2,8 +2,6 @@
 use Rattle.std.proofs.Common.{◌≡◌, ◌⊎◌, inl, inr, ℕ, zero, suc, ◌+◌, ◌<◌, Bool, true, false, ◌==◌, ◌||◌, not, List, [], ◌∷◌, length, Option, Some, None, option_map, refl, ap, sym, ◌∙◌, subst, arith}
 use Rattle.std.specs.List.{list_any}
 use Rattle.std.proofs.lemmas.Bool.{eq-eqb, eqb-true}
-use Rattle.td_words.specs.declared.names.EntryState.{EntryState}
-use Rattle.td_words.specs.declared.names.EntryState.TheVariants as entry
 use Rattle.td_words.specs.declared.names.OpState.{OpState}
 use Rattle.td_words.specs.declared.names.OpState.TheVariants as op
 use Rattle.td_words.specs.declared.names.LifeState.{LifeState}
@@ -23,9 +21,8 @@ use Rattle.flat_core.specs.Processor.{OfPage, OfOp, Held, Phase, Trying, Undoing
 use Rattle.flat_core.specs.Opening.{Opening, Incoming}
 use Rattle.flat_core.specs.Row.{Row, OperationRow, Move, Attempts, Undoes, Refuses, Succeeds, Releases, Rests, next, next_in}
 use Rattle.flat_core.specs.Conditions.{running_ops, is_elsewhere}
-use Rattle.flat_core.specs.Tree.{entry_at}
 use Rattle.flat_core.specs.Inputs.{Input, input_in}
-use Rattle.flat_core.specs.ImportRows.{fill_page}
+use Rattle.flat_core.specs.PageLists.{page_count, gpas_from, arrivals}
 use Rattle.flat_core.specs.Table.{row_of}
 use Rattle.flat_core.specs.Effects.{tell_words, pass_operation}
 use Rattle.flat_core.specs.Guest.{ByRow, operation_of, reach, answered, is_pending_at, walk_level, walk_step, walked_on, walked_entry, goes_on}
@@ -35,6 +32,7 @@ use Rattle.flat_core.specs.Event.{State, Event, OfCall, OfOperation, Walks, Reac
 use Rattle.flat_core.specs.AccessLaw.{IsGuarded, AccessIsKept}
 use Rattle.flat_core.specs.Laws.{with_bundles}
 use Rattle.flat_core.proofs.Tests.{by_test, put_here}
+use Rattle.flat_core.proofs.PageLists.{made_first, each_leaves, takes_leave}
 use Rattle.flat_core.proofs.Induction.{in_runs}
 use Rattle.flat_core.proofs.Operations.{operation_row, accepted}
 use Rattle.flat_core.proofs.Due.{Due, calls, frees, leaves, stops, fills, operates, walks, reaches, undoes, gives_back, due_event_is}
@@ -146,11 +144,6 @@ reach-counts t v Write r gpa page w = refl
 abbrev EntersIt : Option Entering → ℕ → Type 0
 EntersIt x v = (e : Entering) × (x ≡ Some e) × (e.vp ≡ v)
 
--- nor does a page whose words come in
-filled-counts : (t gpa p : ℕ) (ws : ℕ → ℕ) (s : EntryState) (w : World) (v : ℕ) → (fill_page t gpa p ws s w).vps.entered v ≡ w.vps.entered v
-filled-counts t gpa p ws entry.Free w v = refl
-filled-counts t gpa p ws _ w v = refl
-
 act-counts : (o : Opening) (me : ℕ) (c : Call) (w : World) (v n : ℕ) → ((row_of o me c).act w).vps.entered v ≡ Some n → (w.vps.entered v ≡ Some n) ⊎ EntersIt (row_of o me c).enters v
 act-counts o me (call.VpEnter tdr vp most) w v n is = by_test (v == vp)
     (λ y. inr (record { tdr = tdr; vp = vp; most = most }, refl, sym (eqb-true v vp y)))
@@ -160,7 +153,11 @@ act-counts o me (call.VpCreate tdr page) w v n is = by_test (v == page)
     (λ y. inl (let e : w.vps.entered v ≡ Some n = rw y at is in e))
 act-counts o me (call.ExportTrack tdr slot zero) w v n is = inl is
 act-counts o me (call.ExportTrack tdr slot (suc start)) w v n is = inl is
-act-counts o me (call.ImportMem tdr slot page) w v n is = let x : Input = input_in (o.bundles slot) in inl (sym (filled-counts tdr x.header.gpa page x.words (entry_at w tdr 0 x.header.gpa).state w v) ∙ is)
+act-counts o me (call.ExportMem tdr gpa stream slot) w v n is =
+    inl (sym (ap (λ (x : World). x.vps.entered v) (each_leaves tdr stream (gpas_from gpa (page_count None)) (made_first tdr gpa stream slot None w))) ∙ is)
+act-counts o me (call.ImportMem tdr slot page) w v n is =
+    let x : Input = input_in (o.bundles slot) in
+    inl (sym (ap (λ (z : World). z.vps.entered v) (takes_leave tdr (arrivals x.header.gpa page x.words (page_count None)) w)) ∙ is)
 act-counts o me (call.HostRead page word) w v n is = inl is
 act-counts o me _ w v n is = inl is
 
