@@ -2,8 +2,6 @@
 use Rattle.std.proofs.Common.{◌≡◌, ◌≢◌, ℕ, zero, suc, ◌+◌, ◌<◌, Bool, true, false, ◌==◌, List, [], ◌∷◌, length, Option, Some, None, refl, ap, sym, ◌∙◌, arith}
 use Rattle.std.proofs.lemmas.Bool.{eqb-true, ltb-true}
 use Rattle.td_words.specs.declared.names.PageKind.TheVariants as kind
-use Rattle.td_words.specs.declared.names.EntryState.{EntryState}
-use Rattle.td_words.specs.declared.names.EntryState.TheVariants as entry
 use Rattle.td_words.specs.declared.names.OpState.{OpState}
 use Rattle.td_words.specs.declared.names.OpState.TheVariants as ops
 use Rattle.td_words.specs.declared.names.Access.{Access}
@@ -17,9 +15,8 @@ use Rattle.flat_core.specs.World.{World}
 use Rattle.flat_core.specs.Processor.{Phase, Trying, Undoing, Answered, Held, Guest}
 use Rattle.flat_core.specs.Opening.{Opening}
 use Rattle.flat_core.specs.Row.{Item, Check, Try, OperationRow, Move, Attempts, Undoes, Refuses, Succeeds, Releases, Rests, next, next_in, Passes}
-use Rattle.flat_core.specs.Tree.{entry_at}
 use Rattle.flat_core.specs.Inputs.{Input, input_in}
-use Rattle.flat_core.specs.ImportRows.{fill_page}
+use Rattle.flat_core.specs.PageLists.{page_count, gpas_from, arrivals}
 use Rattle.flat_core.specs.Table.{row_of}
 use Rattle.flat_core.specs.Effects.{tell_words, pass_operation}
 use Rattle.flat_core.specs.Guest.{ByRow, operation_of, is_pending_at}
@@ -29,6 +26,7 @@ use Rattle.flat_core.specs.Lawful.{Lawful, IsAlive}
 use Rattle.flat_core.specs.Inside.{AreTimely}
 use Rattle.flat_core.specs.Entered.{EventsSpare}
 use Rattle.flat_core.specs.Event.{State, Event, OfCall, OfOperation, Walks, Reaches, Leaves, next_event, event, after_event, world_after}
+use Rattle.flat_core.proofs.PageLists.{made_first, each_leaves, takes_leave}
 use Rattle.flat_core.proofs.Tests.{host_kind}
 use Rattle.flat_core.proofs.Operations.{operation_row, accepted}
 use Rattle.flat_core.proofs.Due.{Due, calls, frees, leaves, stops, fills, operates, walks, reaches, undoes, gives_back, due_event_is}
@@ -74,11 +72,6 @@ apart a b n = by (a == b) refl
     by true e = absurd (n (eqb-true a b e))
     by false e = e
 
--- a page whose words come in is none of them
-filled-controls : (u gpa page : ℕ) (ws : ℕ → ℕ) (s : EntryState) (w : World) (t : ℕ) → (fill_page u gpa page ws s w).tds.controls t ≡ w.tds.controls t
-filled-controls u gpa page ws entry.Free w t = refl
-filled-controls u gpa page ws _ w t = refl
-
 -- no call changes the control pages of a TD that runs
 row-controls : (o : Opening) (me : ℕ) (c : Call) (w : World) (p t v : ℕ) → Lawful o.machine w → Passes ((row_of o me c).items w) → IsOccupied w p t v → ((row_of o me c).act w).tds.controls t ≡ w.tds.controls t
 row-controls o me (call.MngCreate u h) w p t v la ps x =
@@ -93,7 +86,10 @@ row-controls o me (call.MngAddcx u page) w p t v la ps x =
     rw off refl
 row-controls o me (call.ExportTrack u slot zero) w p t v la ps x = refl
 row-controls o me (call.ExportTrack u slot (suc start)) w p t v la ps x = refl
-row-controls o me (call.ImportMem u slot page) w p t v la ps x = let y : Input = input_in (o.bundles slot) in filled-controls u y.header.gpa page y.words (entry_at w u 0 y.header.gpa).state w t
+row-controls o me (call.ExportMem u gpa k slot) w p t v la ps x = ap (λ (z : World). z.tds.controls t)
+    (each_leaves u k (gpas_from gpa (page_count None)) (made_first u gpa k slot None w))
+row-controls o me (call.ImportMem u slot page) w p t v la ps x =
+    let y : Input = input_in (o.bundles slot) in ap (λ (z : World). z.tds.controls t) (takes_leave u (arrivals y.header.gpa page y.words (page_count None)) w)
 row-controls o me _ w p t v la ps x = refl
 
 -- nor does a guest's operation
