@@ -37,10 +37,10 @@ module _ (pages tdcs number left k : ℕ) (ps : ArrayVec ℕ) (before between af
     feeds-next a b = subst (λ (n : ℕ). Feeds (from_here n) before after r) (sym some)
         (feeds-on one (λ page. behind (with_one page)) before between after page r a (subst (λ (qs : ArrayVec ℕ). Feeds (behind qs) between after r) same b))
 
--- so many numbers of 32 bits
-pub sum-below : (f : ℕ → ℕ) → ((p : ℕ) → f p < 2 ^ 32) → (ps : List ℕ) → sum_by f ps ≤ length ps * 2 ^ 32
+-- so many numbers of 36 bits: 16 pages a bundle
+pub sum-below : (f : ℕ → ℕ) → ((p : ℕ) → f p < 2 ^ 36) → (ps : List ℕ) → sum_by f ps ≤ length ps * 2 ^ 36
 sum-below f small [] = omega arith
 sum-below f small (p ∷ ps) = (let rest = sum-below f small ps in let here = small p in omega (arith, rest, here, sum_by-cons f p ps))
 
-pub sum-fits : (f : ℕ → ℕ) → ((p : ℕ) → f p < 2 ^ 32) → (ps : List ℕ) → length ps ≤ 4 → sum_by f ps % 2 ^ 64 ≡ sum_by f ps
+pub sum-fits : (f : ℕ → ℕ) → ((p : ℕ) → f p < 2 ^ 36) → (ps : List ℕ) → length ps ≤ 4 → sum_by f ps % 2 ^ 64 ≡ sum_by f ps
 sum-fits f small ps few = (let most = sum-below f small ps in omega (arith, most, few))
