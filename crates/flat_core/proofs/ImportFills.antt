@@ -1,4 +1,4 @@
--- What a page that comes in leaves as it was, by its entry's state, and the lock that is tried for it.
+-- What is tried for a page that comes in, and what it leaves as it was, by its entry's state.
 use Rattle.std.proofs.Common.{◌≡◌, refl, ℕ, List, [], ◌∷◌}
 use Rattle.td_words.specs.declared.names.EntryState.{EntryState}
 use Rattle.td_words.specs.declared.names.EntryState.TheVariants as entry
@@ -18,27 +18,3 @@ fill_tries w t locked gpa page _ = refl
 pub fill_memories : (t gpa page : ℕ) (ws : ℕ → ℕ) (s : EntryState) (w : World) → (fill_page t gpa page ws s w).hidden.memories ≡ w.hidden.memories
 fill_memories t gpa page ws entry.Free w = refl
 fill_memories t gpa page ws _ w = refl
-
-pub fill_vps : (t gpa page : ℕ) (ws : ℕ → ℕ) (s : EntryState) (w : World) → (fill_page t gpa page ws s w).vps ≡ w.vps
-fill_vps t gpa page ws entry.Free w = refl
-fill_vps t gpa page ws _ w = refl
-
-pub fill_rtmrs : (t gpa page : ℕ) (ws : ℕ → ℕ) (s : EntryState) (w : World) → (fill_page t gpa page ws s w).hidden.rtmrs ≡ w.hidden.rtmrs
-fill_rtmrs t gpa page ws entry.Free w = refl
-fill_rtmrs t gpa page ws _ w = refl
-
-pub fill_told : (t gpa page : ℕ) (ws : ℕ → ℕ) (s : EntryState) (w : World) → (fill_page t gpa page ws s w).outgoing.told ≡ w.outgoing.told
-fill_told t gpa page ws entry.Free w = refl
-fill_told t gpa page ws _ w = refl
-
-pub fill_tells : (t gpa page : ℕ) (ws : ℕ → ℕ) (s : EntryState) (w : World) → (fill_page t gpa page ws s w).outgoing.to_tell ≡ w.outgoing.to_tell
-fill_tells t gpa page ws entry.Free w = refl
-fill_tells t gpa page ws _ w = refl
-
-pub fill_measured : (t gpa page : ℕ) (ws : ℕ → ℕ) (s : EntryState) (w : World) → (fill_page t gpa page ws s w).tds.measured ≡ w.tds.measured
-fill_measured t gpa page ws entry.Free w = refl
-fill_measured t gpa page ws _ w = refl
-
-pub fill_made : (t gpa page : ℕ) (ws : ℕ → ℕ) (s : EntryState) (w : World) → (fill_page t gpa page ws s w).outgoing.bundles ≡ w.outgoing.bundles
-fill_made t gpa page ws entry.Free w = refl
-fill_made t gpa page ws _ w = refl

@@ -388,16 +388,6 @@ module _ (m : Machine) (t : ℕ) (w : World) (h : MayFill m t w) (locked : List 
         op = f.op;
       }
 
--- what the act of IMPORT.MEM keeps: what each page does
-pub pages_taken : (m : Machine) (x : Input) (w : World) (t page : ℕ) (count : Option ℕ) → Lawful m w → TakePassed m x w t page count → (P : World → Type 0)
-    → P w → ((v : World) (locked : List ℕ) (a : Arrival) → MayFill m t v → P v → MayTake v t locked a → IsInRange m a → P (take_in t a v))
-    → MayFill m t (take_each t (arrivals x.header.gpa page x.words (page_count count)) w) × P (take_each t (arrivals x.header.gpa page x.words (page_count count)) w)
-pages_taken m x w t page count l p P first one =
-    each_taken t (IsInRange m) (λ v. MayFill m t v × P v) (λ v locked a h may fit. (fills_on m t v h.0 locked a may fit, one v locked a h.0 h.1 may fit))
-    (arrivals x.header.gpa page x.words (page_count count)) w [] (arrivals_apart x.header.gpa page x.words (page_count count)) p.pages
-    (all_in_range m x.header.gpa page x.words (page_count count) p.in_machine p.fits)
-    (record { lawful = l; alive = td_alive p.td; built = p.td.built; op = p.td.op }, first)
-
 filling_begun : (s : OpState) → list_any (λ b. op_number b == op_number s) filling_ops ≡ true → s ≢ op.Uninitialized
 filling_begun s h = begun_of filling_ops s refl h
 
@@ -407,7 +397,10 @@ import_pages-keeps m b t slot page count = record {
       let x : Input = input_in b in
       let pages : List Arrival = arrivals x.header.gpa page x.words (page_count count) in
       let p = take_passed m b w t slot page count ps in
-      let h : MayFill m t (take_each t pages w) = (pages_taken m x w t page count l p (λ v. Unit {0}) tt (λ v locked a f u may fit. tt)).0 in
+      let h : MayFill m t (take_each t pages w) =
+      each_taken t (IsInRange m) (MayFill m t) (λ v locked a h may fit. fills_on m t v h locked a may fit) pages w []
+      (arrivals_apart x.header.gpa page x.words (page_count count)) p.pages (all_in_range m x.header.gpa page x.words (page_count count) p.in_machine p.fits)
+      (record { lawful = l; alive = td_alive p.td; built = p.td.built; op = p.td.op }) in
       let same : TakenAs w (take_each t pages w) ≡ take_each t pages w = sym (takes_leave t pages w) in
       counted m (take_each t pages w) t x.header.stream h.lawful h.alive (filling_begun ((take_each t pages w).tds.ops t) h.op)
       (subst (λ (v : World). x.header.stream < length (v.tds.streams t)) same p.few)
