@@ -1,10 +1,10 @@
 -- The tables of header values say the same.
-use Rattle.std.proofs.Common.{◌≡◌, refl, sym, subst, ℕ, ◌%◌, ◌^◌, ◌<◌, length, Option, Some, None, Result, Ok, Err, true, ◌==◌, nat_le, nat_lt, arith}
+use Rattle.std.proofs.Common.{◌≡◌, refl, sym, ◌∙◌, subst, ℕ, ◌%◌, ◌^◌, ◌<◌, length, Option, Some, None, Result, Ok, Err, true, ◌==◌, nat_le, nat_lt, arith}
 use Rattle.std.proofs.lemmas.Bool.{and_from, and_parts, eqb-true, eq-eqb, le-leb, lt-ltb, cond-true}
 use Rattle.td_words.specs.declared.headers.Header.{Header}
 use Rattle.td_words.specs.declared.names.HeaderField.{HeaderField}
 use Rattle.flat_core.specs.Opening.{clear_header}
-use Rattle.flat_core.specs.Inputs.{most_stream, most_index, most_info, most_gpa, has_values, fault_of_input}
+use Rattle.flat_core.specs.Inputs.{most_stream, most_index, most_info, most_gpa, fits_one, fits_version, has_values, fault_of_input}
 use Rattle.flat_core.proofs.Tests.{by_test}
 use Rattle.bundle_format.specs.declared.kinds.BundleKind.{BundleKind}
 use Rattle.bundle_format.specs.declared.kinds.BundleKind.TheVariants as kind
@@ -47,6 +47,10 @@ short_epoch kind.EpochToken = omega arith
 short_epoch kind.StartToken = omega arith
 short_epoch kind.AbortToken = omega arith
 
+-- a bundle of version 1 is no list
+one_page : (h : Header) → h.version ≡ 1 → fits_version (clear_header h) ≡ fits_one h.kind h.info h.gpa
+one_page h e = rw e refl
+
 of_kind : (h : Header) (o : Option BundleKind) → is_lawful h ≡ true → kind_of h.kind ≡ o → fits_kind h o ≡ true → HasForm h × (has_values (clear_header h) ≡ true)
 of_kind h None lawful is e = cc
 of_kind h (Some k) lawful is e =
@@ -57,13 +61,14 @@ of_kind h (Some k) lawful is e =
     let values : has_values (clear_header h) ≡ true =
     and_from (nat_le h.stream (most_stream h.kind)) _ (le-leb h.stream (most_stream h.kind) (omega (arith, w.stream, most.stream)))
     (and_from (nat_le h.index (most_index h.kind)) _ (le-leb h.index (most_index h.kind) (omega (arith, w.index, most.index)))
-    (and_from (nat_le h.info (most_info h.kind)) _ (le-leb h.info (most_info h.kind) (omega (arith, w.info, most.info)))
-    (and_from (nat_le h.gpa (most_gpa h.kind)) _ (le-leb h.gpa (most_gpa h.kind) (omega (arith, w.gpa, most.gpa)))
+    (and_from (fits_version (clear_header h)) _ (one_page h f.version
+    ∙ and_from (nat_le h.info (most_info h.kind)) _ (le-leb h.info (most_info h.kind) (omega (arith, w.info, most.info)))
+    (le-leb h.gpa (most_gpa h.kind) (omega (arith, w.gpa, most.gpa))))
     (and_from (h.gpa % 4096 == 0) _ (eq-eqb (h.gpa % 4096) 0 f.gpa)
     (and_from (nat_lt h.counter (2 ^ 32)) _ (lt-ltb h.counter (2 ^ 32) f.counter)
     (and_from (h.iv == h.counter) _ (eq-eqb h.iv h.counter f.iv)
     (and_from (nat_lt h.epoch (2 ^ 32)) _ (lt-ltb h.epoch (2 ^ 32) (omega (arith, w.epoch, epoch)))
-    (and_from (nat_le 1 h.session) _ (le-leb 1 h.session f.some_session) (lt-ltb h.session (2 ^ 16) f.session))))))))) in
+    (and_from (nat_le 1 h.session) _ (le-leb 1 h.session f.some_session) (lt-ltb h.session (2 ^ 16) f.session)))))))) in
     (record { size = f.size; version = f.version; reserved = f.reserved; tag = f.tag; kind = k; named = is; epoch = w.epoch; total = w.total }, values)
 
 formed : (h : Header) → HasForm h → has_values (clear_header h) ≡ true → is_lawful h ≡ true
@@ -72,9 +77,9 @@ formed h f e =
     let most = tables_agree h.kind f.kind f.named in
     let a = and_parts (nat_le h.stream (most_stream h.kind)) _ e in
     let b = and_parts (nat_le h.index (most_index h.kind)) _ a.1 in
-    let c = and_parts (nat_le h.info (most_info h.kind)) _ b.1 in
-    let d = and_parts (nat_le h.gpa (most_gpa h.kind)) _ c.1 in
-    let g = and_parts (h.gpa % 4096 == 0) _ d.1 in
+    let v = and_parts (fits_version (clear_header h)) _ b.1 in
+    let c = and_parts (nat_le h.info (most_info h.kind)) _ (sym (one_page h f.version) ∙ v.0) in
+    let g = and_parts (h.gpa % 4096 == 0) _ v.1 in
     let i = and_parts (nat_lt h.counter (2 ^ 32)) _ g.1 in
     let k = and_parts (h.iv == h.counter) _ i.1 in
     let l = and_parts (nat_lt h.epoch (2 ^ 32)) _ k.1 in
@@ -84,7 +89,7 @@ formed h f e =
     (and_from (nat_le h.epoch line.epoch) _ (le-leb h.epoch line.epoch f.epoch)
     (and_from (nat_le h.index line.index) _ (subst (λ (n : ℕ). nat_le h.index n ≡ true) most.index b.0)
     (and_from (nat_le h.info line.info) _ (subst (λ (n : ℕ). nat_le h.info n ≡ true) most.info c.0)
-    (and_from (nat_le h.gpa line.gpa) _ (subst (λ (n : ℕ). nat_le h.gpa n ≡ true) most.gpa d.0) (le-leb h.total line.total f.total))))) in
+    (and_from (nat_le h.gpa line.gpa) _ (subst (λ (n : ℕ). nat_le h.gpa n ≡ true) most.gpa c.1) (le-leb h.total line.total f.total))))) in
     and_from (h.size == 64) _ (eq-eqb h.size 64 f.size)
     (and_from (h.version == 1) _ (eq-eqb h.version 1 f.version)
     (and_from (h.reserved == 0) _ (eq-eqb h.reserved 0 f.reserved)
