@@ -8,7 +8,7 @@ use Rattle.td_words.specs.declared.refusals.Status.{Status}
 use Rattle.td_words.specs.declared.refusals.Status.TheVariants.{OperandInvalid, NoBundle, BundleHeader, BundleCounter, BundleTag}
 use Rattle.td_words.specs.Place as place
 use Rattle.flat_core.specs.World.{ClearHeader}
-use Rattle.flat_core.specs.Inputs.{Input, most_stream, most_index, most_info, most_gpa, has_no_fault, fault_shown}
+use Rattle.flat_core.specs.Inputs.{Input, most_stream, most_index, fits_version, has_no_fault, fault_shown}
 use Rattle.word_rules.specs.Rules.{Whole}
 use Rattle.leaf_engine.specs.Trees.{Tree, Load, needs}
 use Rattle.stream_parts.specs.declared.rooms.Room.{Room}
@@ -34,7 +34,7 @@ input_alone_tree pages x tdr slot kinds allowed further = needs (nat_lt tdr page
 -- whether the fields of a header have values that its form allows: those that depend on the type, and the others
 abbrev pub fits_type : ClearHeader → Bool
 fits_type h =
-    nat_le h.stream (most_stream h.kind) && (nat_le h.index (most_index h.kind) && (nat_le h.info (most_info h.kind) && (nat_le h.gpa (most_gpa h.kind) && (h.gpa % 4096 == 0))))
+    nat_le h.stream (most_stream h.kind) && (nat_le h.index (most_index h.kind) && (fits_version h && (h.gpa % 4096 == 0)))
 
 abbrev pub has_numbers : (counter epoch iv session : ℕ) → Bool
 has_numbers counter epoch iv session = nat_lt counter (2 ^ 32) && ((iv == counter) && (nat_lt epoch (2 ^ 32) && (nat_le 1 session && nat_lt session (2 ^ 16))))

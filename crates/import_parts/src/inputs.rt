@@ -4,7 +4,7 @@ ghost use Rattle.std.specs.Prelude.{◌≡◌, ◌==◌, ℕ, true, length, Matc
 ghost use Rattle.std.specs.List.{list_any};
 ghost use Rattle.td_words.specs.declared.machines.Machine.{Machine};
 ghost use Rattle.flat_core.specs.Opening.{clear_header};
-ghost use Rattle.flat_core.specs.Inputs.{input_in, has_values, most_stream, most_index, most_info, most_gpa, no_header, has_no_fault, fault_shown};
+ghost use Rattle.flat_core.specs.Inputs.{input_in, has_values, most_stream, most_index, most_info, most_gpa, fits_list, fits_version, no_header, has_no_fault, fault_shown};
 ghost use Rattle.leaf_engine.specs.Inside.{StopIn};
 ghost use Rattle.leaf_parts.specs.Parts.{Goes, Feeds, Uses};
 ghost use Rattle.import_parts.specs.InputTrees.{input_tree, tag_tree, fits_type, has_numbers};
@@ -162,9 +162,26 @@ fn fits_type(header: &Header) -> bool
 {
     header.stream <= most_stream(header.kind)
         && header.index <= most_index(header.kind)
-        && header.info <= most_info(header.kind)
-        && header.gpa <= most_gpa(header.kind)
+        && fits_version(header)
         && header.gpa % 4096 == 0
+}
+
+/// Whether what it says besides, and its GPA, are those of a list of pages, or of another bundle.
+fn fits_version(header: &Header) -> bool
+    ensures { result ≡ fits_version (clear_header header.now) }
+{
+    if header.version == 2 && header.kind == 3 {
+        fits_list(header.info, header.gpa)
+    } else {
+        header.info <= most_info(header.kind) && header.gpa <= most_gpa(header.kind)
+    }
+}
+
+/// Whether there are so many pages from this GPA on.
+fn fits_list(info: u32, gpa: u64) -> bool
+    ensures { result ≡ fits_list info gpa }
+{
+    1 <= info && info <= 16 && gpa <= 0x8000_0000_0000 - 4096 * u64::from(info)
 }
 
 /// Whether the counter is the IV too, and the numbers have their bits: 32 an epoch, and 16 a session,
