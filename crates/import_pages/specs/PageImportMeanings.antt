@@ -24,7 +24,7 @@ use Rattle.flat_core.specs.Processor.{OfPage, OfTree, Held}
 use Rattle.flat_core.specs.Row.{Item}
 use Rattle.flat_core.specs.Conditions.{is_host, children, tree_exclusive}
 use Rattle.flat_core.specs.Effects.{take_node, map_page, begin_memory}
-use Rattle.flat_core.specs.ImportRows.{filling_ops, importable, page_to_fill, fill_page, import_page}
+use Rattle.flat_core.specs.ImportRows.{filling_ops, importable, page_to_fill, fill_page, import_pages}
 use Rattle.flat_core.specs.Inputs.{Input, input_in, most_gpa, stream_there, session_same, epoch_same, counter_due, tag_holds}
 use Rattle.flat_core.specs.Lawful.{Lawful, IsAlive, IsNodeOf, IsPageOf, is_free}
 use Rattle.flat_core.specs.Sessions.{stream_page, stream_counter, count_bundle}
@@ -112,7 +112,7 @@ module _ (m : Machine) (c : Instant) (b : Option Incoming) (t slot page : ℕ) (
   w = c.state.world
 
   abbrev work : Work
-  work = work_of (OfCall (import_page m b t slot page))
+  work = work_of (OfCall (import_pages m b t slot page None))
 
   abbrev x : Input
   x = input_in b
@@ -203,7 +203,7 @@ module _ (m : Machine) (c : Instant) (b : Option Incoming) (t slot page : ℕ) (
       counter-owes : Owes g w' (place.Word q 0) KeepsNothing
       counter-owes = at-spot g w' (place.Word q 0) (spot_of StreamWord t q) (λ z. owes z KeepsNothing) (stream-spot w' t q 0 (record { kind = stream.kind; owner = stream.owner })) (inr (inr (inl (locks.tdr, (locks.op, (sole, tt))))))
 
-      acts-mapped : (import_page m b t slot page).act w ≡ act_by entry.Mapped
+      acts-mapped : (import_pages m b t slot page None).act w ≡ act_by entry.Mapped
       acts-mapped = ap act_by is
 
       mapped-ended : Means m c work mapped_locks (page_import_end m t x (record { at = at; page = p; children = None; room = room })) []
@@ -220,7 +220,7 @@ module _ (m : Machine) (c : Instant) (b : Option Incoming) (t slot page : ℕ) (
             (puts-change m g w w' p ws inside word-owes (counter_changes room) (λ mem. (((in_stream, omega arith), (KeepsNothing, counter-owes, tt)), tt)) (word-writes 0) 512 (omega arith) (omega arith) c.memory),
       )
 
-      pub mapped-means : Means m c work tree_locks (to_fill_tree t page at room entry.Mapped p further) (page_to_fill w t gpa page entry.Mapped ++ tag_holds x ∷ [])
+      pub mapped-means : Means m c work tree_locks (to_fill_tree t page at room entry.Mapped p further) (page_to_fill w t [] gpa page entry.Mapped ++ tag_holds x ∷ [])
       mapped-means = (refl, refl, record { in_machine = inside; at = refl; stands = tt; allowed = inl tt }, (refl, λ z. refl, λ right. mapped-ended))
 
     -- where it is FREE: a host page is taken
@@ -253,7 +253,7 @@ module _ (m : Machine) (c : Instant) (b : Option Incoming) (t slot page : ℕ) (
         abbrev node_taken : World
         node_taken = take_node page kind.Reg t 0 (number_at 0 (input_in b).header.gpa) c.state.world
 
-        acts-free : (import_page m b t slot page).act w ≡ act_by entry.Free
+        acts-free : (import_pages m b t slot page None).act w ≡ act_by entry.Free
         acts-free = ap act_by is
 
         respects : Respects free_grip w (act_by entry.Free)
@@ -300,7 +300,8 @@ module _ (m : Machine) (c : Instant) (b : Option Incoming) (t slot page : ℕ) (
 
         taken-ended : Means m c work taken_locks (page_import_end m t x (taking (children w t))) []
         taken-ended =
-            map-end m c taken_locks mapping at may (put w.words page ws) (word_puts page ws 0 512) filled (import_page m b t slot page) (counter_changes room)
+            map-end m c taken_locks mapping at may (put w.words page ws) (word_puts page ws 0 512) filled (import_pages m b t slot page None)
+            (counter_changes room)
             (ap (λ (v : World). v.pages) acts-free) (ap (λ (v : World). v.tds.lives) acts-free) (ap (λ (v : World). v.tds.controls) acts-free)
             (record { reply_is = refl; cached_is = refl; enters_is = refl; notes_are = refl; tells_are = refl; bundles_are = ap (λ (v : World). v.outgoing.bundles) acts-free })
             (both-allowed m free_grip (grasp_of c taken_locks) w (word_puts page ws 0 512)
@@ -312,22 +313,24 @@ module _ (m : Machine) (c : Instant) (b : Option Incoming) (t slot page : ℕ) (
             (map-shown m c taken_locks mapping at may (put w.words page ws) (word_puts page ws 0 512) filled) y.alive.life stream-then in_stream))
             (subst (λ (v : World). MayOweAll m free_grip v after (counter_changes room)) (sym acts-free) (((in_stream, omega arith), (KeepsNothing, counter-then, tt)), tt))
 
-      pub free-means : Means m c work tree_locks (to_fill_tree t page at room entry.Free e.page further) (page_to_fill w t gpa page entry.Free ++ tag_holds x ∷ [])
+      pub free-means : Means m c work tree_locks (to_fill_tree t page at room entry.Free e.page further) (page_to_fill w t [] gpa page entry.Free ++ tag_holds x ∷ [])
       free-means =
           taken-page-means m c sh work tree_locks t page y.alive.kind y.own in_tdr in_page (inr (inr (inl (free-holds.tdr, (free-holds.op, (free-sole, tt)))))) (λ n. further (taking n)) (tag_holds x ∷ [])
           (λ host. (refl, λ z. refl, λ right. taken-ended host))
 
-    by-state : (s : EntryState) → e.state ≡ s → list_any (λ a. same_state a s) importable ≡ true → Means m c work tree_locks (to_fill_tree t page at room s e.page further) (page_to_fill w t gpa page s ++ tag_holds x ∷ [])
+    by-state : (s : EntryState) → e.state ≡ s → list_any (λ a. same_state a s) importable ≡ true
+        → Means m c work tree_locks (to_fill_tree t page at room s e.page further) (page_to_fill w t [] gpa page s ++ tag_holds x ∷ [])
     by-state entry.Free is st = free-means is
     by-state entry.Mapped is st = mapped-means is
     by-state _ is st = cc
 
-    found-means : Means m c work tree_locks (found_rest t page room (record { page = at; entry = e }) further) (state_in w t gpa 0 importable ∷ (page_to_fill w t gpa page e.state ++ tag_holds x ∷ []))
+    found-means : Means m c work tree_locks (found_rest t page room (record { page = at; entry = e }) further) (state_in w t gpa 0 importable ∷ (page_to_fill w t [] gpa page e.state ++ tag_holds x ∷ []))
     found-means = (refl, λ z. refl, λ st. by-state e.state refl st)
 
   -- behind the beginning of the row
   abbrev found_items : List (Item Reply)
-  found_items = state_in c.state.world t (input_in b).header.gpa 0 importable ∷ (page_to_fill c.state.world t (input_in b).header.gpa page (entry_at c.state.world t 0 (input_in b).header.gpa).state ++ tag_holds (input_in b) ∷ [])
+  found_items = state_in c.state.world t (input_in b).header.gpa 0 importable ∷
+      (page_to_fill c.state.world t [] (input_in b).header.gpa page (entry_at c.state.world t 0 (input_in b).header.gpa).state ++ tag_holds (input_in b) ∷ [])
 
   abbrev walk_items : List (Item Reply)
   walk_items = walk c.state.world t (input_in b).header.gpa 0 ++ found_items
@@ -389,10 +392,10 @@ page_import-means p b t slot page limits = record {
       let w : World = c.state.world in
       let x : Input = input_in b in
       let h : ClearHeader = x.header in
-      let work : Work = work_of (OfCall (import_page m b t slot page)) in
+      let work : Work = work_of (OfCall (import_pages m b t slot page None)) in
       td-row-means m c work t at.lawful at.shown (arguments m x t slot page) (λ a. ltb-true t m.pages a.0) Shared filling_ops
       (λ td. td_rest m.pages t page h td.tdcs (λ z. tag_tree x (page_import_end m t x z)))
       (tree_exclusive t ∷ stream_there w t h ∷ session_same w t h ∷ epoch_same w t h ∷ counter_due (stream_counter w t h.stream) h
-      ∷ (walk w t h.gpa 0 ++ state_in w t h.gpa 0 importable ∷ (page_to_fill w t h.gpa page (entry_at w t 0 h.gpa).state ++ tag_holds x ∷ [])))
+      ∷ (walk w t h.gpa 0 ++ state_in w t h.gpa 0 importable ∷ (page_to_fill w t [] h.gpa page (entry_at w t 0 h.gpa).state ++ tag_holds x ∷ [])))
       (λ a y. td_rest-means m c b t slot page limits.pages.1 (ltb-true t m.pages a.0) (ltb-true page m.pages a.1.0) (not-true (page == t) a.1.1.0) at.lawful at.shown (gpa-small b m t slot page a) y));
 }

@@ -13,7 +13,7 @@ use Rattle.flat_core.specs.World.{ClearHeader}
 use Rattle.flat_core.specs.Opening.{Incoming}
 use Rattle.flat_core.specs.Processor.{OfPage}
 use Rattle.flat_core.specs.Inputs.{Input, input_in}
-use Rattle.flat_core.specs.ImportRows.{filling_ops, importable, import_page}
+use Rattle.flat_core.specs.ImportRows.{filling_ops, importable, import_pages}
 use Rattle.word_rules.specs.Rules.{Whole}
 use Rattle.leaf_engine.specs.declared.needs.Place.{Place}
 use Rattle.leaf_engine.specs.Changes.{Change, Put}
@@ -100,4 +100,8 @@ abbrev pub page_import_tree : Machine → Input → (tdr slot page : ℕ) → Tr
 page_import_tree m x tdr slot page = page_import_asked m x tdr slot page (page_import_end m tdr x)
 
 abbrev pub page_import_task : Place → Option Incoming → (tdr slot page : ℕ) → Task
-page_import_task p b tdr slot page = record { place = p; tree = page_import_tree p.machine (input_in b) tdr slot page; meaning = OfCall (import_page p.machine b tdr slot page) }
+page_import_task p b tdr slot page = record {
+  place = p;
+  tree = page_import_tree p.machine (input_in b) tdr slot page;
+  meaning = OfCall (import_pages p.machine b tdr slot page None);
+}
