@@ -1,5 +1,5 @@
 -- The leaf that exports a page means its row.
-use Rattle.std.proofs.Common.{◌≡◌, ℕ, ◌%◌, ◌^◌, ◌<◌, ◌≤◌, Bool, true, false, not, ◌==◌, nat_lt, List, [], ◌∷◌, ◌++◌, length, refl, ap, sym, ◌∙◌, subst, inl, inr, arith}
+use Rattle.std.proofs.Common.{◌≡◌, ℕ, ◌%◌, ◌^◌, ◌<◌, ◌≤◌, Bool, true, false, not, ◌==◌, nat_lt, None, List, [], ◌∷◌, ◌++◌, length, refl, ap, sym, ◌∙◌, subst, inl, inr, arith}
 use Rattle.std.specs.List.{list_any}
 use Rattle.std.proofs.lemmas.Bool.{eq-eqb, ne_eqb, lt-ltb, ltb-true}
 use Rattle.td_words.specs.declared.names.PageKind.TheVariants as kind
@@ -23,7 +23,7 @@ use Rattle.flat_core.specs.Row.{Item}
 use Rattle.flat_core.specs.Arguments.{level_size}
 use Rattle.flat_core.specs.Conditions.{page_exclusive, tree_shared, epoch_shared}
 use Rattle.flat_core.specs.ExportRows.{abortable_ops}
-use Rattle.flat_core.specs.BundleRows.{exportable, tracked_in, export_page}
+use Rattle.flat_core.specs.BundleRows.{exportable, tracked_in, export_pages}
 use Rattle.flat_core.specs.Sessions.{payload_words, stream_page, stream_counter, has_stream, counter_room, other_epoch}
 use Rattle.flat_core.specs.Lawful.{Lawful, IsPageOf}
 use Rattle.flat_core.specs.Tree.{entry_at, number_at, same_state, walk, state_in, has_page, named_page}
@@ -113,10 +113,10 @@ module _ (m : Machine) (c : Instant) (t gpa k slot : ℕ) (limit : m.pages ≤ 1
   w = c.state.world
 
   abbrev work : Work
-  work = work_of (OfCall (export_page m t gpa k slot))
+  work = work_of (OfCall (export_pages m t gpa k slot None))
 
   abbrev w' : World
-  w' = (export_page m t gpa k slot).act c.state.world
+  w' = (export_pages m t gpa k slot None).act c.state.world
 
   abbrev e : Entry
   e = entry_at c.state.world t 0 gpa
@@ -270,40 +270,46 @@ module _ (m : Machine) (c : Instant) (t gpa k slot : ℕ) (limit : m.pages ≤ 1
       (λ n. further (by (w.tds.sessions t) n)) [] (contents-mean still))
 
   -- the block of the page is tracked, while guests may run
-  live-means : w.tds.ops t ≡ op.LiveExport → Means m c work hs (tracked_in_tree op.LiveExport z.tdcs p (said_tree named room (w.tds.mig_epochs t) further)) (tracked_in op.LiveExport w t p)
+  live-means : w.tds.ops t ≡ op.LiveExport
+      → Means m c work hs (tracked_in_tree op.LiveExport z.tdcs p (said_tree named room (w.tds.mig_epochs t) further)) (tracked_in op.LiveExport w t (gpa ∷ []))
   live-means live =
       let begins : 1 ≤ w.tds.epochs t = la.tds.epoch_begun t (λ o. let no = sym live ∙ o in cc) in
-      tracked-means m c (export_page m t gpa k slot) t hs la sh facts.access.epochs abortable_ops x.td begins held.tree.tdr held.tree.op held.epoch (omega (arith, limit)) p x.in_machine held.page (said_tree named room (w.tds.mig_epochs t) further) []
+      tracked-means m c (export_pages m t gpa k slot None) t hs la sh facts.access.epochs abortable_ops x.td begins held.tree.tdr held.tree.op held.epoch
+      (omega (arith, limit)) p x.in_machine held.page (said_tree named room (w.tds.mig_epochs t) further) []
       (λ tracked. said-means (inr (live, write-clear m c t gpa la facts x.td.alive x.used (subst (λ o. list_any (λ a. same_state a e.state) (exportable o) ≡ true) live x.state) tracked)))
 
-  tracked_in-means : Means m c work hs (tracked_in_tree (w.tds.ops t) z.tdcs p (said_tree named room (w.tds.mig_epochs t) further)) (tracked_in (w.tds.ops t) w t p)
-  tracked_in-means = (let In : OpState → Type 0 = λ o. Means m c work hs (tracked_in_tree o z.tdcs p (said_tree named room (w.tds.mig_epochs t) further)) (tracked_in o w t p) in
+  tracked_in-means : Means m c work hs (tracked_in_tree (w.tds.ops t) z.tdcs p (said_tree named room (w.tds.mig_epochs t) further)) (tracked_in (w.tds.ops t) w t (gpa ∷ []))
+  tracked_in-means =
+      (let In : OpState → Type 0 = λ o. Means m c work hs (tracked_in_tree o z.tdcs p (said_tree named room (w.tds.mig_epochs t) further))
+      (tracked_in o w t (gpa ∷ [])) in
       by-op (w.tds.ops t) x.td.op (λ live. subst In (sym live) (live-means live)) (λ paused. subst In (sym paused) (said-means (inl paused))))
 
   -- the stream's page
   abbrev by_room : Room → Tree
   by_room r = tracked_in_tree (c.state.world.tds.ops t) x.td.controls.tdcs (entry_at c.state.world t 0 gpa).page (said_tree named r (c.state.world.tds.mig_epochs t) further)
 
-  room-means : Means m c work entry_locks (held_room_tree m.pages z.tdcs k by_room) (page_exclusive q ∷ counter_room w t k ∷ tracked_in (w.tds.ops t) w t p)
+  room-means : Means m c work entry_locks (held_room_tree m.pages z.tdcs k by_room) (page_exclusive q ∷ counter_room w t k ∷ tracked_in (w.tds.ops t) w t (gpa ∷ []))
   room-means =
       let few : length (w.tds.streams t) ≤ 4 = la.tds.streams_few t in
-      page-means m c work entry_locks t la sh x.td.alive z entry-head k q (omega (arith, few, streams)) (listed w t k streams) stream (λ page. Lock (OfPage page) (place.Lock page) Exclusive (counter_tree page by_room)) (page_exclusive q ∷ counter_room w t k ∷ tracked_in (w.tds.ops t) w t p) (
+      page-means m c work entry_locks t la sh x.td.alive z entry-head k q (omega (arith, few, streams)) (listed w t k streams) stream
+      (λ page. Lock (OfPage page) (place.Lock page) Exclusive (counter_tree page by_room))
+      (page_exclusive q ∷ counter_room w t k ∷ tracked_in (w.tds.ops t) w t (gpa ∷ [])) (
         refl,
         refl,
         record { in_machine = stream_in; at = refl; stands = tt; allowed = inl tt },
-        counter-means m c work hs t la sh x.td.alive z k stream may-read by_room (tracked_in (w.tds.ops t) w t p) (λ has. tracked_in-means),
+        counter-means m c work hs t la sh x.td.alive z k stream may-read by_room (tracked_in (w.tds.ops t) w t (gpa ∷ [])) (λ has. tracked_in-means),
       )
 
   -- behind the entry
-  pub named_rest-means : Means m c work entry_locks (named_rest m.pages k (w.tds.ops t) named further) (other_epoch w t gpa ∷ page_exclusive q ∷ counter_room w t k ∷ tracked_in (w.tds.ops t) w t p)
+  pub named_rest-means : Means m c work entry_locks (named_rest m.pages k (w.tds.ops t) named further) (other_epoch w t gpa ∷ page_exclusive q ∷ counter_room w t k ∷ tracked_in (w.tds.ops t) w t (gpa ∷ []))
   named_rest-means =
       mig_epoch-means m c work entry_locks t la sh x.td.alive z entry-head
       (λ epoch. needs (not (e.mark == epoch)) ExportedThisEpoch (held_room_tree m.pages z.tdcs k (λ r. tracked_in_tree (w.tds.ops t) z.tdcs p (said_tree named r epoch further))))
-      (other_epoch w t gpa ∷ page_exclusive q ∷ counter_room w t k ∷ tracked_in (w.tds.ops t) w t p) (refl, λ o. refl, λ o. room-means)
+      (other_epoch w t gpa ∷ page_exclusive q ∷ counter_room w t k ∷ tracked_in (w.tds.ops t) w t (gpa ∷ [])) (refl, λ o. refl, λ o. room-means)
 
 -- the items behind the beginning of the row, and behind the entry
 abbrev entry_items : World → (t gpa k : ℕ) → List (Item Reply)
-entry_items w t gpa k = other_epoch w t gpa ∷ page_exclusive (stream_page w t k) ∷ counter_room w t k ∷ tracked_in (w.tds.ops t) w t (entry_at w t 0 gpa).page
+entry_items w t gpa k = other_epoch w t gpa ∷ page_exclusive (stream_page w t k) ∷ counter_room w t k ∷ tracked_in (w.tds.ops t) w t (gpa ∷ [])
 
 abbrev stream_items : World → (t gpa k : ℕ) → List (Item Reply)
 stream_items w t gpa k =
@@ -315,7 +321,7 @@ module _ (m : Machine) (c : Instant) (t gpa k slot : ℕ) (in_page : t < m.pages
   v = c.state.world
 
   abbrev row_work : Work
-  row_work = work_of (OfCall (export_page m t gpa k slot))
+  row_work = work_of (OfCall (export_pages m t gpa k slot None))
 
   abbrev its-td : Td
   its-td = record { tdcs = y.controls.tdcs; op = c.state.world.tds.ops t }
@@ -349,7 +355,7 @@ page_export-means p t gpa k slot limits = record {
   means = λ c at.
       (let m : Machine = p.machine in
       let w : World = c.state.world in
-      let work : Work = work_of (OfCall (export_page m t gpa k slot)) in
+      let work : Work = work_of (OfCall (export_pages m t gpa k slot None)) in
       td-row-means m c work t at.lawful at.shown (arguments m t gpa k) (λ a. ltb-true t m.pages a.0) Shared abortable_ops
       (λ td. td_rest m.pages t gpa k td (page_words_tree gpa k slot)) (has_stream w t k ∷ stream_items w t gpa k)
       (λ a y. td_rest-means m c t gpa k slot (ltb-true t m.pages a.0) limits.pages.1 at.lawful at.shown at.facts (ltb-true gpa (2 ^ 47) a.1.0) y));

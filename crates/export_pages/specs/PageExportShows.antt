@@ -45,7 +45,7 @@ counted-line true w p = refl
 counted-line false w p = refl
 
 -- it fits its word, with one more
-pub counted-few : (again : Bool) (m : Machine) (w : World) (p : ℕ) → Lawful m w → counted_of again w.streams p < 2 ^ 32
+pub counted-few : (again : Bool) (m : Machine) (w : World) (p : ℕ) → Lawful m w → counted_of again w.streams p < 2 ^ 36
 counted-few true m w p la = (let made = la.streams.cleaned p in let few = la.streams.counter p in omega (arith, made, few))
 counted-few false m w p la = (let made = la.streams.first_exports p in let few = la.streams.counter p in omega (arith, made, few))
 

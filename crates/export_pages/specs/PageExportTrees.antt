@@ -1,5 +1,5 @@
 -- EXPORT.MEM as a decision over the words that it is told, its bundle, and its changes.
-use Rattle.std.specs.Prelude.{ℕ, zero, suc, ◌+◌, ◌%◌, ◌^◌, ◌==◌, not, nat_lt, if◌then◌else◌, List, [], ◌∷◌}
+use Rattle.std.specs.Prelude.{ℕ, zero, suc, ◌+◌, ◌%◌, ◌^◌, ◌==◌, not, nat_lt, if◌then◌else◌, None, List, [], ◌∷◌}
 use Rattle.td_words.specs.declared.names.EntryState.{EntryState}
 use Rattle.td_words.specs.declared.names.EntryState.TheVariants as entry
 use Rattle.td_words.specs.declared.names.OpState.{OpState}
@@ -16,7 +16,7 @@ use Rattle.flat_core.specs.Arguments.{level_size}
 use Rattle.flat_core.specs.World.{ClearHeader, Made}
 use Rattle.flat_core.specs.Processor.{OfPage}
 use Rattle.flat_core.specs.ExportRows.{abortable_ops}
-use Rattle.flat_core.specs.BundleRows.{exportable, export_page}
+use Rattle.flat_core.specs.BundleRows.{exportable, export_pages}
 use Rattle.sept_walk.specs.SecureEpt.{index_at}
 use Rattle.word_rules.specs.Rules.{Whole}
 use Rattle.leaf_engine.specs.declared.needs.Place.{Place}
@@ -135,4 +135,8 @@ abbrev pub page_export_tree : Machine → (tdr gpa stream slot : ℕ) → Tree
 page_export_tree m tdr gpa k slot = page_export_asked m tdr gpa k (page_words_tree gpa k slot)
 
 abbrev pub page_export_task : Place → (tdr gpa stream slot : ℕ) → Task
-page_export_task p tdr gpa k slot = record { place = p; tree = page_export_tree p.machine tdr gpa k slot; meaning = OfCall (export_page p.machine tdr gpa k slot) }
+page_export_task p tdr gpa k slot = record {
+  place = p;
+  tree = page_export_tree p.machine tdr gpa k slot;
+  meaning = OfCall (export_pages p.machine tdr gpa k slot None);
+}

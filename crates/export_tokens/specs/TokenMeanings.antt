@@ -118,7 +118,8 @@ module _ (m : Machine) (c : Instant) (t : ℕ) (la : Lawful m c.state.world) (sh
     total-means : (epoch : ℕ) (further : TokenWords → Tree) (rest : List (Item Reply)) → Mean (further (its-words epoch)) rest → Mean (total_tree its-streams epoch further) rest
     total-means epoch further rest end =
         let few : length (w.tds.streams t) ≤ 4 = la.tds.streams_few t in
-        let fits : sum_by w.streams.counters (w.tds.streams t) % 2 ^ 64 ≡ bundles_so_far w t = sum-fits w.streams.counters la.streams.counter (w.tds.streams t) few in
+        let fits : sum_by w.streams.counters (w.tds.streams t) % 2 ^ 64 ≡ bundles_so_far w t = sum-fits w.streams.counters
+        (λ q. (let own = la.streams.counter q in omega (arith, own))) (w.tds.streams t) few in
         let made : ℕ → ℕ → TokenWords = λ total session. record { tdcs = d; room = its-room; epoch = epoch; session = session; total = total } in
         sum-means m c k held t la sh x.alive z own 0 w.streams.counters (omega arith) (λ q. refl) refl (λ total. session_tree d (λ session. further (made total session))) rest
         (session-means m c k held t la sh x.alive z head (λ session. further (made (sum_by w.streams.counters (w.tds.streams t) % 2 ^ 64) session)) rest
@@ -143,7 +144,7 @@ module _ (m : Machine) (c : Instant) (t : ℕ) (la : Lawful m c.state.world) (sh
     dirty-means : (further : Tree) (rest : List (Item Reply)) → Mean further rest → Mean (none_dirty_tree d (w.tds.streams t) further) (none_dirty w t ∷ rest)
     dirty-means further rest end =
         let few : length (w.tds.streams t) ≤ 4 = la.tds.streams_few t in
-        let small : (q : ℕ) → w.streams.cleaned q < 2 ^ 32 = λ q. (let a = la.streams.cleaned q in let b = la.streams.counter q in omega (arith, a, b)) in
+        let small : (q : ℕ) → w.streams.cleaned q < 2 ^ 36 = λ q. (let a = la.streams.cleaned q in let b = la.streams.counter q in omega (arith, a, b)) in
         let fits : sum_by w.streams.cleaned (w.tds.streams t) % 2 ^ 64 ≡ sum_by w.streams.cleaned (w.tds.streams t) = sum-fits w.streams.cleaned small (w.tds.streams t) few in
         let tested : ℕ → ℕ → Tree = λ dirtied cleaned. needs (dirtied - cleaned == 0) (DirtyPages (dirtied - cleaned)) further in
         tdcs-load m c k held sh t 8 (w.tds.dirtied t) x.alive z (omega arith) refl (inr (inl (own.tdr, (own.alone, tt)))) (λ dirtied. sum_tree 1 (w.tds.streams t) (tested dirtied)) (none_dirty w t ∷ rest)

@@ -1,8 +1,5 @@
 -- Without others no try of a row of an import is denied.
 use Rattle.std.proofs.Common.{◌≡◌, refl, ℕ, [], Option, false, ◌==◌}
-use Rattle.td_words.specs.declared.names.PageKind.TheVariants as kind
-use Rattle.td_words.specs.declared.names.LifeState.TheVariants as life
-use Rattle.td_words.specs.declared.names.EntryState.TheVariants as entry
 use Rattle.td_words.specs.declared.machines.Machine.{Machine}
 use Rattle.flat_core.specs.World.{World}
 use Rattle.flat_core.specs.Opening.{Incoming}

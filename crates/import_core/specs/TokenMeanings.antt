@@ -64,7 +64,8 @@ module _ (m : Machine) (c : Instant) (k : Work) (t : ℕ) (la : Lawful m c.state
   total_same-means : (further : Tree) (rest : List (Item Reply)) → Mean further rest → Mean (total_same_tree m.pages d h further) (total_item ∷ rest)
   total_same-means further rest end =
       let few : length (w.tds.streams t) ≤ 4 = la.tds.streams_few t in
-      let fits : sum_by w.streams.counters (w.tds.streams t) % 2 ^ 64 ≡ bundles_so_far w t = sum-fits w.streams.counters la.streams.counter (w.tds.streams t) few in
+      let fits : sum_by w.streams.counters (w.tds.streams t) % 2 ^ 64 ≡ bundles_so_far w t = sum-fits w.streams.counters
+      (λ q. (let own = la.streams.counter q in omega (arith, own))) (w.tds.streams t) few in
       let tested : ℕ → Tree = λ total. needs (total == h.total) (TokenTotal total h.total) further in
       pages-means m c k held t la sh x.alive x.controls own (λ streams. sum_tree 0 streams.items tested) (total_item ∷ rest)
       (sum-means m c k held t la sh x.alive x.controls own 0 w.streams.counters (omega arith) (λ q. refl) refl tested (total_item ∷ rest)

@@ -11,7 +11,7 @@ use Rattle.td_words.specs.Limits.{IsMachine}
 use Rattle.flat_core.specs.Opening.{Incoming, Opening}
 use Rattle.flat_core.specs.Row.{OperationRow}
 use Rattle.flat_core.specs.Table.{row_of}
-use Rattle.flat_core.specs.ImportRows.{import_immutable, import_page, import_token, import_td, import_vp, abort_by_token}
+use Rattle.flat_core.specs.ImportRows.{import_immutable, import_pages, import_token, import_td, import_vp, abort_by_token}
 use Rattle.flat_core.specs.Lawful.{Lawful}
 use Rattle.flat_core.specs.Guest.{ByRow, Private, is_private, set_value}
 use Rattle.leaf_engine.specs.declared.needs.Place.{Place}
@@ -172,7 +172,7 @@ of-row o g same p (call.ExportStateTd tdr slot) = refl
 of-row o g same p (call.ExportStateVp tdr vp slot) = refl
 of-row o g same p (call.ExportAbortByToken tdr slot) = ap (λ (b : Option Incoming). OfCall (abort_by_token o.machine b tdr slot)) (same slot)
 of-row o g same p (call.ImportStateImmutable tdr slot) = ap (λ (b : Option Incoming). OfCall (import_immutable o.machine b tdr slot)) (same slot)
-of-row o g same p (call.ImportMem tdr slot page) = ap (λ (b : Option Incoming). OfCall (import_page o.machine b tdr slot page)) (same slot)
+of-row o g same p (call.ImportMem tdr slot page) = ap (λ (b : Option Incoming). OfCall (import_pages o.machine b tdr slot page None)) (same slot)
 of-row o g same p (call.ImportTrack tdr slot) = ap (λ (b : Option Incoming). OfCall (import_token o.machine b tdr slot)) (same slot)
 of-row o g same p (call.ImportStateTd tdr slot) = ap (λ (b : Option Incoming). OfCall (import_td o.machine b tdr slot)) (same slot)
 of-row o g same p (call.ImportStateVp tdr vp slot) = ap (λ (b : Option Incoming). OfCall (import_vp o.machine b tdr vp slot)) (same slot)
