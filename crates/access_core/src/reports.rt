@@ -147,6 +147,10 @@ impl Leaf for Report {
 
     ghost tries = { λ l. 2 - length l.told.items };
 
+    ghost Origin = { Unit {0} };
+
+    ghost origin = { λ l. tt };
+
     fn need(&mut self) -> Need {
         match self.decided() {
             Ok(()) => Need::Verdict(Reply::Done(Value::Nothing)),

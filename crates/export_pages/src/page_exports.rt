@@ -150,6 +150,10 @@ impl Leaf for PageExport {
 
     ghost tries = { λ l. 26 - length l.told.items };
 
+    ghost Origin = { Unit {0} };
+
+    ghost origin = { λ l. tt };
+
     fn need(&mut self) -> Need {
         match self.exporting {
             Some(exporting) => {

@@ -114,6 +114,10 @@ impl Leaf for StateTd {
 
     ghost tries = { λ l. 12 - length l.told.items };
 
+    ghost Origin = { Unit {0} };
+
+    ghost origin = { λ l. tt };
+
     fn need(&mut self) -> Need {
         match self.decided() {
             Ok(()) => Need::Verdict(Reply::Done(Value::Nothing)),

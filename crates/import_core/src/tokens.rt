@@ -35,13 +35,41 @@ pub struct ImportToken<'a> {
 }
 
 impl<'a> ImportToken<'a> {
-    ghost use Rattle.std.specs.Prelude.{◌≡◌};
+    ghost use Rattle.std.specs.Prelude.{◌≡◌, Option};
+    ghost use Rattle.flat_core.specs.Opening.{Incoming as Arrived};
     ghost use Rattle.import_core.specs.TokenTrees.{import_token_task};
 
     /// The plan of a call at a place, with the bundle in its slot.
     pub fn plan(place: Place, tdr: u64, slot: u64, input: Option<Incoming<'a>>) -> ImportToken<'a>
-        ensures { ⟦<ImportToken<'a> as Plan>⟧.task result ≡ import_token_task place input.entry tdr slot }
+        ensures task { ⟦<ImportToken<'a> as Plan>⟧.task result ≡ import_token_task place input.entry tdr slot }
+        ensures input { (result.slot ≡ slot) × (result.input ≡ input.entry) }
     {
+        ImportToken {
+            place,
+            tdr,
+            slot,
+            input,
+        }
+    }
+
+    /// The slot of its bundle.
+    pub fn slot(&self) -> u64
+        ensures { result ≡ self.now.slot }
+    {
+        self.slot
+    }
+
+    /// The same plan, with this bundle in place of its own.
+    pub fn with_input<'b>(self, input: Option<Incoming<'b>>) -> ImportToken<'b>
+        ensures task { (b : Option Arrived) → import_token_task result.place b result.tdr result.slot ≡ import_token_task self.entry.place b self.entry.tdr self.entry.slot }
+        ensures input { (result.slot ≡ self.entry.slot) × (result.input ≡ input.entry) }
+    {
+        let ImportToken {
+            place,
+            tdr,
+            slot,
+            input: _,
+        } = self;
         ImportToken {
             place,
             tdr,

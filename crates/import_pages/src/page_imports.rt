@@ -67,6 +67,7 @@ impl<'a> PageImport<'a> {
         requires { IsMachine place.machine }
         ensures task { ⟦<PageImport<'a> as Leaf>⟧.task result ≡ page_import_task place input.entry tdr slot page }
         ensures fresh { let leaf = ⟦<PageImport<'a> as Leaf>⟧ in IsFresh (leaf.task result).tree (leaf.rest result) (leaf.tries result) (leaf.written result) (leaf.waits result) }
+        ensures input { (result.slot ≡ slot) × (result.input ≡ input.entry) }
     {
         PageImport {
             place,
@@ -78,6 +79,43 @@ impl<'a> PageImport<'a> {
             importing: None,
             written: 0,
             waits: false,
+        }
+    }
+
+    /// The slot of its bundle.
+    pub fn slot(&self) -> u64
+        ensures { result ≡ self.now.slot }
+    {
+        self.slot
+    }
+
+    /// The same leaf, as far as it is, with this bundle in place of its own.
+    pub fn with_input<'b>(self, input: Option<Incoming<'b>>) -> PageImport<'b>
+        ensures call { (result.place ≡ self.entry.place) × (result.tdr ≡ self.entry.tdr) × (result.page ≡ self.entry.page) }
+        ensures input { (result.slot ≡ self.entry.slot) × (result.input ≡ input.entry) }
+        ensures progress { (result.told ≡ self.entry.told) × (result.importing ≡ self.entry.importing) × (result.written ≡ self.entry.written) × (result.waits ≡ self.entry.waits) }
+    {
+        let PageImport {
+            place,
+            tdr,
+            slot,
+            page,
+            input: _,
+            told,
+            importing,
+            written,
+            waits,
+        } = self;
+        PageImport {
+            place,
+            tdr,
+            slot,
+            page,
+            input,
+            told,
+            importing,
+            written,
+            waits,
         }
     }
 
@@ -108,7 +146,8 @@ impl<'a> PageImport<'a> {
 }
 
 impl<'a> Leaf for PageImport<'a> {
-    ghost use Rattle.std.specs.Prelude.{◌≡◌, ℕ, ◌+◌, ◌-◌, ◌*◌, length, if◌then◌else◌};
+    ghost use Rattle.std.specs.Prelude.{◌≡◌, ℕ, ◌+◌, ◌-◌, ◌*◌, length, if◌then◌else◌, Option};
+    ghost use Rattle.flat_core.specs.Opening.{Incoming as Arrived};
     ghost use Rattle.flat_core.specs.Inputs.{input_in};
     ghost use Rattle.import_pages.specs.PageImportTrees.{page_import_task};
     ghost use Rattle.import_pages.specs.PageImportStages.{rest_of};
@@ -125,6 +164,10 @@ impl<'a> Leaf for PageImport<'a> {
     ghost bound = { λ l. 2 * (21 - length l.told.items) + (516 - l.written) - (if l.waits then 1 else 0) };
 
     ghost tries = { λ l. 21 - length l.told.items };
+
+    ghost Origin = { ℕ × Option Arrived };
+
+    ghost origin = { λ l. (l.slot, l.input) };
 
     fn need(&mut self) -> Need {
         match self.importing {

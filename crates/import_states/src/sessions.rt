@@ -46,7 +46,8 @@ pub struct Begun {
 }
 
 impl<'a> ImportImmutable<'a> {
-    ghost use Rattle.std.specs.Prelude.{◌≡◌};
+    ghost use Rattle.std.specs.Prelude.{◌≡◌, Option};
+    ghost use Rattle.flat_core.specs.Opening.{Incoming as Arrived};
     ghost use Rattle.import_states.specs.BeginImportTrees.{import_immutable_task};
 
     /// The plan of a call at a place, with the bundle in its slot.
@@ -56,8 +57,35 @@ impl<'a> ImportImmutable<'a> {
         slot: u64,
         input: Option<Incoming<'a>>,
     ) -> ImportImmutable<'a>
-        ensures { ⟦<ImportImmutable<'a> as Plan>⟧.task result ≡ import_immutable_task place input.entry tdr slot }
+        ensures task { ⟦<ImportImmutable<'a> as Plan>⟧.task result ≡ import_immutable_task place input.entry tdr slot }
+        ensures input { (result.slot ≡ slot) × (result.input ≡ input.entry) }
     {
+        ImportImmutable {
+            place,
+            tdr,
+            slot,
+            input,
+        }
+    }
+
+    /// The slot of its bundle.
+    pub fn slot(&self) -> u64
+        ensures { result ≡ self.now.slot }
+    {
+        self.slot
+    }
+
+    /// The same plan, with this bundle in place of its own.
+    pub fn with_input<'b>(self, input: Option<Incoming<'b>>) -> ImportImmutable<'b>
+        ensures task { (b : Option Arrived) → import_immutable_task result.place b result.tdr result.slot ≡ import_immutable_task self.entry.place b self.entry.tdr self.entry.slot }
+        ensures input { (result.slot ≡ self.entry.slot) × (result.input ≡ input.entry) }
+    {
+        let ImportImmutable {
+            place,
+            tdr,
+            slot,
+            input: _,
+        } = self;
         ImportImmutable {
             place,
             tdr,

@@ -54,6 +54,7 @@ impl<'a> ImportTd<'a> {
     pub fn leaf(place: Place, tdr: u64, slot: u64, input: Option<Incoming<'a>>) -> ImportTd<'a>
         ensures task { ⟦<ImportTd<'a> as Leaf>⟧.task result ≡ import_td_task place input.entry tdr slot }
         ensures fresh { let leaf = ⟦<ImportTd<'a> as Leaf>⟧ in IsFresh (leaf.task result).tree (leaf.rest result) (leaf.tries result) (leaf.written result) (leaf.waits result) }
+        ensures input { (result.slot ≡ slot) × (result.input ≡ input.entry) }
     {
         ImportTd {
             place,
@@ -63,6 +64,39 @@ impl<'a> ImportTd<'a> {
             told: ArrayVec::new(),
             written: 0,
             waits: false,
+        }
+    }
+
+    /// The slot of its bundle.
+    pub fn slot(&self) -> u64
+        ensures { result ≡ self.now.slot }
+    {
+        self.slot
+    }
+
+    /// The same leaf, as far as it is, with this bundle in place of its own.
+    pub fn with_input<'b>(self, input: Option<Incoming<'b>>) -> ImportTd<'b>
+        ensures call { (result.place ≡ self.entry.place) × (result.tdr ≡ self.entry.tdr) }
+        ensures input { (result.slot ≡ self.entry.slot) × (result.input ≡ input.entry) }
+        ensures progress { (result.told ≡ self.entry.told) × (result.written ≡ self.entry.written) × (result.waits ≡ self.entry.waits) }
+    {
+        let ImportTd {
+            place,
+            tdr,
+            slot,
+            input: _,
+            told,
+            written,
+            waits,
+        } = self;
+        ImportTd {
+            place,
+            tdr,
+            slot,
+            input,
+            told,
+            written,
+            waits,
         }
     }
 
@@ -92,7 +126,8 @@ impl<'a> ImportTd<'a> {
 }
 
 impl<'a> Leaf for ImportTd<'a> {
-    ghost use Rattle.std.specs.Prelude.{◌≡◌, ℕ, ◌+◌, ◌-◌, ◌*◌, length, if◌then◌else◌};
+    ghost use Rattle.std.specs.Prelude.{◌≡◌, ℕ, ◌+◌, ◌-◌, ◌*◌, length, if◌then◌else◌, Option};
+    ghost use Rattle.flat_core.specs.Opening.{Incoming as Arrived};
     ghost use Rattle.flat_core.specs.Inputs.{input_in};
     ghost use Rattle.leaf_engine.specs.Trees.{feed};
     ghost use Rattle.import_states.specs.TdImportTrees.{td_import_tree, import_td_task};
@@ -109,6 +144,10 @@ impl<'a> Leaf for ImportTd<'a> {
     ghost bound = { λ l. 2 * (32 - length l.told.items) + (26 - l.written) - (if l.waits then 1 else 0) };
 
     ghost tries = { λ l. 32 - length l.told.items };
+
+    ghost Origin = { ℕ × Option Arrived };
+
+    ghost origin = { λ l. (l.slot, l.input) };
 
     fn need(&mut self) -> Need {
         match self.decided() {

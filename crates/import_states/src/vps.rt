@@ -41,7 +41,8 @@ pub struct ImportVp<'a> {
 }
 
 impl<'a> ImportVp<'a> {
-    ghost use Rattle.std.specs.Prelude.{◌≡◌};
+    ghost use Rattle.std.specs.Prelude.{◌≡◌, Option};
+    ghost use Rattle.flat_core.specs.Opening.{Incoming as Arrived};
     ghost use Rattle.import_states.specs.VpImportTrees.{import_vp_task};
 
     /// The plan of a call at a place, with the bundle in its slot.
@@ -52,8 +53,37 @@ impl<'a> ImportVp<'a> {
         slot: u64,
         input: Option<Incoming<'a>>,
     ) -> ImportVp<'a>
-        ensures { ⟦<ImportVp<'a> as Plan>⟧.task result ≡ import_vp_task place input.entry tdr vp slot }
+        ensures task { ⟦<ImportVp<'a> as Plan>⟧.task result ≡ import_vp_task place input.entry tdr vp slot }
+        ensures input { (result.slot ≡ slot) × (result.input ≡ input.entry) }
     {
+        ImportVp {
+            place,
+            tdr,
+            vp,
+            slot,
+            input,
+        }
+    }
+
+    /// The slot of its bundle.
+    pub fn slot(&self) -> u64
+        ensures { result ≡ self.now.slot }
+    {
+        self.slot
+    }
+
+    /// The same plan, with this bundle in place of its own.
+    pub fn with_input<'b>(self, input: Option<Incoming<'b>>) -> ImportVp<'b>
+        ensures task { (b : Option Arrived) → import_vp_task result.place b result.tdr result.vp result.slot ≡ import_vp_task self.entry.place b self.entry.tdr self.entry.vp self.entry.slot }
+        ensures input { (result.slot ≡ self.entry.slot) × (result.input ≡ input.entry) }
+    {
+        let ImportVp {
+            place,
+            tdr,
+            vp,
+            slot,
+            input: _,
+        } = self;
         ImportVp {
             place,
             tdr,

@@ -26,3 +26,5 @@ pub mod Epochs
 pub mod EndedCalls
 pub mod CallTurns
 pub mod Firsts
+mod Pausing
+mod Taking

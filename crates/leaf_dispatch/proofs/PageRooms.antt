@@ -11,4 +11,4 @@ use Rattle.leaf_table.proofs.PageRooms.{leaf-holds}
 pub turned-room : {B : Type 0} (did : List Taken → B → Type 0) (m : Machine) (spare : Option (List ℕ)) (kept kept' : Option Running) (bench : B) (turn : RunTurn) → HasTurned did m kept bench kept' turn → holds_room spare kept ≡ true → holds_room spare kept' ≡ true
 turned-room did m spare None kept' bench turn t room = absurd t
 turned-room did m spare (Some r) None bench turn t room = absurd t
-turned-room did m spare (Some r) (Some r') bench turn t room = leaf-holds spare r.run.leaf r'.run.leaf t.1 room
+turned-room did m spare (Some r) (Some r') bench turn t room = leaf-holds spare r.run.leaf r'.run.leaf t.3 room

@@ -11,7 +11,9 @@ use Rattle.word_rules.specs.Views.{look}
 use Rattle.leaf_engine.specs.Turns.{Standing, AreIn, IsStageIn}
 use Rattle.leaf_table.specs.Ends.{Ends, MakesOne, EndsBy, EndsAs, BeginsUnderOther}
 use Rattle.leaf_dispatch.specs.Answers.{FitsStage, OldestIsOther}
-use Rattle.leaf_dispatch.specs.Running.{IsUnderWay, IsRunOf, IsAnsweredBy, IsAnswered}
+use Rattle.leaf_table.specs.Given.{Given}
+use Rattle.leaf_table.specs.Leaves.{LeafSeen}
+use Rattle.leaf_dispatch.specs.Running.{IsGoing, IsRunOf, TakesIts, IsAnsweredBy, IsAnswered}
 use Rattle.leaf_dispatch.specs.declared.running.Running.{Running}
 
 AreIn-prop : (m : Machine) (hs : List HeldLock) → IsProp (AreIn m hs)
@@ -55,12 +57,16 @@ pub OldestIsOther-prop : (hs : List HeldLock) (s : Standing) → IsProp (OldestI
 OldestIsOther-prop [] s = hlevel (BeginsUnderOther-prop s.rest)
 OldestIsOther-prop (h ∷ hs) s = hlevel props
 
-pub IsUnderWay-prop : (m : Machine) (e : Ends) (r : Running) → IsProp (IsUnderWay m e r)
-IsUnderWay-prop m e r = hlevel (props, AreIn-prop, IsStageIn-prop, EndsAs-prop, FitsStage-prop, OldestIsOther-prop)
+pub IsGoing-prop : (m : Machine) (e : Ends) (l : LeafSeen) (s : Standing) → IsProp (IsGoing m e l s)
+IsGoing-prop m e l s = hlevel (props, AreIn-prop, IsStageIn-prop, EndsAs-prop, FitsStage-prop, OldestIsOther-prop)
 
 pub IsRunOf-prop : (m : Machine) (e : Ends) (run : Option Running) → IsProp (IsRunOf m e run)
 IsRunOf-prop m e None = hlevel
-IsRunOf-prop m e (Some r) = IsUnderWay-prop m e r
+IsRunOf-prop m e (Some r) = hlevel IsGoing-prop
+
+pub TakesIts-prop : (g : Given) (run : Option Running) → IsProp (TakesIts g run)
+TakesIts-prop g None = hlevel
+TakesIts-prop g (Some r) = hlevel props
 
 IsAnsweredBy-prop : (s : Stage) → IsProp (IsAnsweredBy s)
 IsAnsweredBy-prop stage.Trying = hlevel

@@ -2,14 +2,17 @@ pub mod Answers
 pub mod Bounds
 pub mod Held
 pub mod Running
+pub mod Pausing
 pub mod Kept
 pub mod ShortRuns
 pub mod StepRuns
 pub mod CallRuns
 pub mod Guests
+pub mod Lists
 pub mod Inside
 pub mod Shown
 pub mod States
+pub mod Paused
 pub mod Exits
 pub mod Ended
 pub mod Due

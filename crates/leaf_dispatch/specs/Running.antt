@@ -1,5 +1,5 @@
 -- What contracts see of the run of a leaf, and what it keeps between its turns.
-use Rattle.std.specs.Prelude.{◌≡◌, ℕ, Bool, false, List, [], Option, Some, None}
+use Rattle.std.specs.Prelude.{◌≡◌, ◌⊎◌, ℕ, Bool, false, List, [], Option, Some, None}
 use Rattle.report_core.specs.declared.facts.Facts.{Facts}
 use Rattle.td_words.specs.declared.machines.Machine.{Machine}
 use Rattle.td_words.specs.declared.replies.Reply.{Reply}
@@ -10,8 +10,11 @@ use Rattle.leaf_engine.specs.declared.events.RunTurn.{RunTurn}
 use Rattle.leaf_engine.specs.declared.events.Stage.{Stage}
 use Rattle.leaf_engine.specs.declared.events.Stage.TheVariants as stage
 use Rattle.leaf_engine.specs.Besides.{bundles_made, facts_made}
+use Rattle.leaf_engine.specs.Trees.{settle}
 use Rattle.leaf_engine.specs.Turns.{Standing, standing, CanRun, Turned, has_ended}
-use Rattle.leaf_table.specs.Leaves.{leaf_seen}
+use Rattle.leaf_table.specs.Given.{Given}
+use Rattle.leaf_table.specs.Leaves.{LeafSeen, leaf_seen}
+use Rattle.leaf_table.specs.Origins.{origin_of, TakesFrom, HasBundle}
 use Rattle.leaf_table.specs.PageRooms.{is_spare, leaf_room}
 use Rattle.leaf_table.specs.Ends.{Ends}
 use Rattle.leaf_dispatch.specs.Answers.{FewTries, FitsStage, OldestIsOther}
@@ -28,13 +31,16 @@ run_seen None = None
 run_seen (Some r) = Some (standing_of r)
 
 -- it can go on in its machine, has something left to do, and comes to what its leaf does
-pub record IsUnderWay (m : Machine) (e : Ends) (r : Running) : Type 0 where
-  pub machine : (leaf_seen r.run.leaf).task.place.machine ≡ m
-  pub can_run : CanRun m (standing_of r) (leaf_seen r.run.leaf).tries (leaf_seen r.run.leaf).written (leaf_seen r.run.leaf).waits
-  pub going : has_ended r.run.stage r.run.held.items ≡ false
-  pub few_tries : FewTries e (standing_of r)
-  pub fits : FitsStage e r.run.stage
-  pub oldest : OldestIsOther r.run.held.items (standing_of r)
+pub record IsGoing (m : Machine) (e : Ends) (l : LeafSeen) (s : Standing) : Type 0 where
+  pub machine : l.task.place.machine ≡ m
+  pub can_run : CanRun m s l.tries l.written l.waits
+  pub going : has_ended s.stage s.held ≡ false
+  pub few_tries : FewTries e s
+  pub fits : FitsStage e s.stage
+  pub oldest : OldestIsOther s.held s
+
+abbrev pub IsUnderWay : Machine → Ends → Running → Type 0
+IsUnderWay m e r = IsGoing m e (leaf_seen r.run.leaf) (standing_of r)
 
 -- a run that is kept, if there is one
 abbrev pub IsRunOf : Machine → Ends → Option Running → Type 0
@@ -46,6 +52,18 @@ abbrev pub IsKept : Machine → Ends → Standing → Option Running → Type 0
 IsKept m e s None = ⊥
 IsKept m e s (Some r) = (standing_of r ≡ s) × IsUnderWay m e r
 
+-- it takes the bundle of its slot of those that are given: at its first event there may be none, later there is one
+abbrev pub IsFirst : Running → Type 0
+IsFirst r = standing_of r ≡ standing (settle (leaf_seen r.run.leaf).task.tree) stage.Trying [] None
+
+abbrev pub BeginsWith : Given → Option Running → Type 0
+BeginsWith g None = Unit {0}
+BeginsWith g (Some r) = TakesFrom g r.run.leaf × (HasBundle r.run.leaf ⊎ IsFirst r)
+
+abbrev pub TakesIts : Given → Option Running → Type 0
+TakesIts g None = Unit {0}
+TakesIts g (Some r) = TakesFrom g r.run.leaf × HasBundle r.run.leaf
+
 -- the run that is kept can make a turn, and has made it
 abbrev pub CanTurn : Machine → Option Running → Type 0
 CanTurn m None = ⊥
@@ -54,6 +72,7 @@ CanTurn m (Some r) = ((leaf_seen r.run.leaf).task.place.machine ≡ m) × CanRun
 abbrev pub HasTurned : {B : Type 0} → (List Taken → B → Type 0) → Machine → Option Running → B → Option Running → RunTurn → Type 0
 HasTurned did m (Some r) bench (Some r') result =
     Turned did m (standing_of r) bench (standing_of r') result × ((leaf_seen r'.run.leaf).task ≡ (leaf_seen r.run.leaf).task) × CanRun m (standing_of r') (leaf_seen r'.run.leaf).tries (leaf_seen r'.run.leaf).written (leaf_seen r'.run.leaf).waits
+    × (origin_of r'.run.leaf ≡ origin_of r.run.leaf)
 HasTurned did m _ bench _ result = ⊥
 
 abbrev pub act_in : Option Running → Event → Option Reply

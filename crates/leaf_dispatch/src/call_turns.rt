@@ -9,7 +9,7 @@ ghost use Rattle.leaf_table.specs.Table.{task_of};
 ghost use Rattle.leaf_table.specs.Ends.{call_makes, call_ends};
 ghost use Rattle.leaf_dispatch.specs.NoteRooms.{run_room};
 ghost use Rattle.leaf_dispatch.specs.BundleRooms.{count_of, words_of, HasAdded};
-ghost use Rattle.leaf_dispatch.specs.Running.{holds_room};
+ghost use Rattle.leaf_dispatch.specs.Running.{holds_room, TakesIts};
 ghost use Rattle.leaf_dispatch.specs.CallRuns.{call_run_seen, IsCallRunOf, CallTurned};
 
 use crate::call_runs::CallRun;
@@ -42,8 +42,10 @@ pub fn turn_call<'a, B: Bench>(
     requires room { run_room (count_of (call_makes call.now)) (call_run_seen kept.old) ≤ bundles.old.room }
     requires word_room { run_room (words_of (call_makes call.now)) (call_run_seen kept.old) ≤ bundles.old.word_room }
     requires page_room { holds_room spare.old kept.old.other ≡ true }
+    requires takes { TakesIts (given_in given) kept.old.other }
     ensures turned { (made : List Made) × HasAdded bundles.old made bundles.new × CallTurned (B.did bench.old) place.machine (call_ends place.machine call.now) (running (task_of (given_in given.entry) place call.now) (call_run_seen kept.old)) bench.new kept.new turn.new made }
     ensures page_room { holds_room spare.new kept.new.other ≡ true }
+    ensures takes { TakesIts (given_in given.entry) kept.new.other }
     ensures stays { is_some kept.old.other ≡ true → is_none kept.new.host ≡ true }
     ensures machine { B.machine bench.new ≡ B.machine bench.old }
 {
@@ -74,8 +76,10 @@ fn turn_other_call<'a, B: Bench>(
     requires room { run_room (count_of (call_makes call.now)) (call_run_seen kept.old) ≤ bundles.old.room }
     requires word_room { run_room (words_of (call_makes call.now)) (call_run_seen kept.old) ≤ bundles.old.word_room }
     requires page_room { holds_room spare.old kept.old.other ≡ true }
+    requires takes { TakesIts (given_in given) kept.old.other }
     ensures turned { (made : List Made) × HasAdded bundles.old made bundles.new × CallTurned (B.did bench.old) place.machine (call_ends place.machine call.now) (running (task_of (given_in given.entry) place call.now) (call_run_seen kept.old)) bench.new kept.new turn.new made }
     ensures page_room { holds_room spare.new kept.new.other ≡ true }
+    ensures takes { TakesIts (given_in given.entry) kept.new.other }
     ensures alone { kept.new.host ≡ None }
     ensures machine { B.machine bench.new ≡ B.machine bench.old }
 {
@@ -108,8 +112,10 @@ fn turn_new_call<'a, B: Bench>(
     requires room { run_room (count_of (call_makes call.now)) (call_run_seen kept.old) ≤ bundles.old.room }
     requires word_room { run_room (words_of (call_makes call.now)) (call_run_seen kept.old) ≤ bundles.old.word_room }
     requires page_room { holds_room spare.old kept.old.other ≡ true }
+    requires takes { TakesIts (given_in given) kept.old.other }
     ensures turned { (made : List Made) × HasAdded bundles.old made bundles.new × CallTurned (B.did bench.old) place.machine (call_ends place.machine call.now) (running (task_of (given_in given.entry) place call.now) (call_run_seen kept.old)) bench.new kept.new turn.new made }
     ensures page_room { holds_room spare.new kept.new.other ≡ true }
+    ensures takes { TakesIts (given_in given.entry) kept.new.other }
     ensures machine { B.machine bench.new ≡ B.machine bench.old }
 {
     let pages = place.machine.pages;

@@ -10,11 +10,14 @@ ghost use Rattle.leaf_engine.specs.Guests.{private_step, operation_step, passed_
 ghost use Rattle.leaf_engine.specs.Merges.{IsOperation, IsStepOf};
 ghost use Rattle.td_words.specs.declared.replies.Reply.TheVariants.{Refused};
 ghost use Rattle.leaf_dispatch.specs.Answers.{is_busy};
+ghost use Rattle.leaf_dispatch.specs.FirstLists.{AreFirstLists};
+ghost use Rattle.leaf_dispatch.specs.Lists.{AreWithoutList, AreWithList};
 ghost use Rattle.leaf_table.specs.Steps.{step_seen};
 ghost use Rattle.leaf_dispatch.specs.Guests.{guest_seen, due_in, next_in, IsLow, CanCount, is_outcome, IsNumber, IsReplyOf, unless, IsStepped};
 
+use crate::first_lists::FirstLists;
 use leaf_table::Step;
-use td_words::{Access, GuestOp, Outcome, Reply, Status, Value};
+use td_words::{Access, Code, GuestOp, Outcome, Reply, Status, Value};
 use tlb_epochs::Tlb;
 
 /// Private GPAs are below this one.
@@ -54,6 +57,34 @@ pub struct InGuest {
     pub vp: u16,
     pub most: u64,
     pub completed: u64,
+}
+
+/// The same guest without its list, so that nothing is borrowed.
+pub fn without_list(guest: Option<GuestAt<'_>>) -> Option<GuestAt<'static>>
+    ensures { AreWithoutList guest.entry result }
+{
+    match guest {
+        Some(guest) => Some(GuestAt { list: &[], ..guest }),
+        None => None,
+    }
+}
+
+/// The same guest with the list of its virtual processor.
+pub fn with_list<'b>(
+    guest: Option<GuestAt<'static>>,
+    codes: &'b [Code],
+    first_lists: &FirstLists,
+) -> Option<GuestAt<'b>>
+    requires { AreFirstLists codes.now first_lists.now }
+    ensures { AreWithList codes.now guest.entry result }
+{
+    match guest {
+        Some(guest) => Some(GuestAt {
+            list: first_lists.list_at(codes, guest.tdr, guest.index),
+            ..guest
+        }),
+        None => None,
+    }
 }
 
 /// The guest's next step, by the translations that are cached.

@@ -1,6 +1,13 @@
 //! What the layers above may rest on, as the contract of a function that does nothing.
 
 ghost use Rattle.leaf_dispatch.specs.Follows.{LpStatesFollow};
+ghost use Rattle.leaf_dispatch.specs.Paused.{PausedStay};
+
+/// A paused processor that can go on can do so with whatever bundles have come in besides, and then stands
+/// where it stood.
+pub fn paused_stay()
+    ensures { PausedStay }
+{}
 
 /// Over words that show a state of the flat machine, the turn of an `LpState` that stands where that
 /// state has its processor is the processor's next event, and its `Event` is the shown form of that one:

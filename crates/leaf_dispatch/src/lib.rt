@@ -8,8 +8,9 @@
 //! of its present call's leaf, or in a guest that of the guest's next step, told in pieces; the reply comes in
 //! with the call's last event. A turn takes no memory. What guests note, report and tell stands in `notes`,
 //! `reports` and `told`, and the bundles of the calls that have ended in `bundles`; `guest`, `next_step` and
-//! `cached` tell of the guest that a processor is in. By `lp_states_follow` a turn is the flat machine's next
-//! event, and its `Event` is what that was.
+//! `cached` tell of the guest that a processor is in. `pause` gives up what it borrows, at whatever event, and
+//! `resume` goes on there, with whatever bundles have come in besides (`paused_stay`). By `lp_states_follow` a
+//! turn is the flat machine's next event, and its `Event` is what that was.
 #![tactic(auto)]
 
 mod answers;
@@ -21,6 +22,7 @@ mod first_lists;
 mod guests;
 mod inputs;
 mod laws;
+mod paused;
 mod rooms;
 mod running;
 mod states;
@@ -32,5 +34,6 @@ pub use ended::EndedBundles;
 pub use first_lists::FirstLists;
 pub use guests::InGuest;
 pub use inputs::Inputs;
-pub use laws::lp_states_follow;
+pub use laws::{lp_states_follow, paused_stay};
+pub use paused::PausedLp;
 pub use states::LpState;

@@ -9,7 +9,8 @@ ghost use Rattle.leaf_engine.specs.Turns.{Standing};
 ghost use Rattle.leaf_engine.specs.OwnLists.{running};
 ghost use Rattle.leaf_engine.specs.Merges.{IsStepOf};
 ghost use Rattle.leaf_table.specs.Steps.{step_seen};
-ghost use Rattle.leaf_table.specs.Given.{given_in};
+ghost use Rattle.leaf_table.specs.Given.{Given as Inputs, given_in};
+ghost use Rattle.leaf_table.specs.Origins.{TakesFrom};
 ghost use Rattle.leaf_table.specs.Table.{task_of, step_task};
 ghost use Rattle.leaf_table.specs.Ends.{Ends, call_makes, call_ends, step_reports, step_ends};
 ghost use Rattle.report_core.specs.declared.facts.Facts.{Facts};
@@ -20,7 +21,7 @@ ghost use Rattle.leaf_dispatch.specs.BundleRooms.{count_of, words_of, payload_wo
 ghost use Rattle.leaf_table.specs.PageRooms.{is_spare, leaf_room};
 ghost use Rattle.leaf_dispatch.specs.Ended.{made_by_run};
 ghost use Rattle.leaf_dispatch.specs.Held.{held_by};
-ghost use Rattle.leaf_dispatch.specs.Running.{standing_of, run_seen, answered_with, IsAnswered, act_in, made_in_run, facts_in_run, kept_until, holds_room, IsUnderWay, IsRunOf, IsKept, CanTurn, HasTurned, RunTurned};
+ghost use Rattle.leaf_dispatch.specs.Running.{standing_of, run_seen, answered_with, IsAnswered, act_in, made_in_run, facts_in_run, kept_until, holds_room, IsUnderWay, IsRunOf, IsFirst, BeginsWith, TakesIts, IsKept, CanTurn, HasTurned, RunTurned};
 
 use crate::rooms::{add_bundle, add_facts};
 use bundles::{Bundle, Bundles};
@@ -40,6 +41,30 @@ pub struct Running<'a> {
 
 impl<'a> Running<'a> {
     ghost use Rattle.std.specs.Prelude.{◌≡◌};
+    ghost use Rattle.leaf_table.specs.Given.{given_in};
+    ghost use Rattle.leaf_dispatch.specs.Pausing.{IsWithoutInput, IsWithInput};
+
+    /// The same run, as far as it is, without the bundle that its leaf was given, so that nothing is borrowed.
+    pub fn without_input(self) -> Running<'static>
+        ensures { IsWithoutInput self.entry result }
+    {
+        let Running { run } = self;
+        let (leaf, progress) = run.into_parts();
+        Running {
+            run: Run::resumed(leaf.without_input(), progress),
+        }
+    }
+
+    /// The same run, as far as it is, with the bundle that its leaf's slot has here.
+    pub fn with_input_of<'b>(self, given: Given<'b>) -> Running<'b>
+        ensures { IsWithInput (given_in given.entry) self.entry result }
+    {
+        let Running { run } = self;
+        let (leaf, progress) = run.into_parts();
+        Running {
+            run: Run::resumed(leaf.with_input_of(given), progress),
+        }
+    }
 
     /// Its leaf, as it now is.
     fn into_leaf(self) -> AnyLeaf<'a>
@@ -80,8 +105,10 @@ pub fn turn_call_run<'a, B: Bench>(
     requires room { run_room (count_of (call_makes call.now)) (run_seen kept.old) ≤ bundles.old.room }
     requires word_room { run_room (words_of (call_makes call.now)) (run_seen kept.old) ≤ bundles.old.word_room }
     requires page_room { holds_room spare.old kept.old ≡ true }
+    requires takes { TakesIts (given_in given) kept.old }
     ensures turned { (made : List Made) × HasAdded bundles.old made bundles.new × RunTurned (B.did bench.old) place.machine (call_ends place.machine call.now) (running (task_of (given_in given.entry) place call.now) (run_seen kept.old)) bench.new kept.new turn.new made None }
     ensures page_room { holds_room spare.new kept.new ≡ true }
+    ensures takes { TakesIts (given_in given.entry) kept.new }
     ensures machine { B.machine bench.new ≡ B.machine bench.old }
 {
     begin_where_none(kept, spare, place, call, given);
@@ -93,11 +120,11 @@ pub fn turn_call_run<'a, B: Bench>(
 /// The next turn of the run of a guest's step, which is kept until its reply comes, and begins where
 /// none is kept.
 #[inline(never)]
-pub fn turn_step_run<'a, B: Bench>(
-    kept: &mut Option<Running<'a>>,
+pub fn turn_step_run<B: Bench>(
+    kept: &mut Option<Running<'static>>,
     reports: &mut Vec<Facts>,
     place: Place,
-    given: Given<'a>,
+    given: Given<'_>,
     tdr: u16,
     vp: u16,
     line: usize,
@@ -175,6 +202,7 @@ pub fn answer_kept(kept: &mut Option<Running<'_>>, reply: Reply)
     ensures under_way { (m : Machine) (e : Ends) → IsRunOf m e kept.old → IsAnswered kept.old → e.fits reply ≡ true → IsRunOf m e kept.new }
     ensures answered { IsAnswered kept.new }
     ensures page_room { (spare : Option (List ℕ)) → holds_room spare kept.old ≡ true → holds_room spare kept.new ≡ true }
+    ensures takes { (g : Inputs) → TakesIts g kept.old → TakesIts g kept.new }
 {
     match kept {
         Some(Running { run }) => run.answer(reply),
@@ -263,8 +291,10 @@ fn begin_where_none<'a>(
     requires machine { IsMachine place.machine }
     requires under_way { IsRunOf place.machine (call_ends place.machine call.now) kept.old }
     requires page_room { holds_room spare.old kept.old ≡ true }
+    requires takes { TakesIts (given_in given) kept.old }
     ensures kept { IsKept place.machine (call_ends place.machine call.now) (running (task_of (given_in given.entry) place call.now) (run_seen kept.old)) kept.new }
     ensures page_room { holds_room spare.new kept.new ≡ true }
+    ensures takes { BeginsWith (given_in given.entry) kept.new }
 {
     match kept {
         Some(_) => (),
@@ -284,6 +314,7 @@ fn begin_kept<'a>(
     requires page_room { is_spare spare.old ≡ true }
     ensures kept { IsKept place.machine (call_ends place.machine call.now) (running (task_of (given_in given.entry) place call.now) None) kept.new }
     ensures page_room { holds_room spare.new kept.new ≡ true }
+    ensures takes { BeginsWith (given_in given.entry) kept.new }
 {
     *kept = Some(begin(place, call, given, spare));
 }
@@ -358,6 +389,8 @@ fn begin<'a>(
     ensures stands { standing_of result ≡ running (task_of (given_in given.entry) place call.now) None }
     ensures under_way { IsUnderWay place.machine (call_ends place.machine call.now) result }
     ensures page_room { leaf_room spare.new result.run.leaf ≡ true }
+    ensures takes { TakesFrom (given_in given.entry) result.run.leaf }
+    ensures first { IsFirst result }
 {
     Running {
         run: Run::new(leaf_of(place, call, given, spare)),
@@ -365,10 +398,10 @@ fn begin<'a>(
 }
 
 // Where no run is kept, that of a step begins.
-fn begin_step_where_none<'a>(
-    kept: &mut Option<Running<'a>>,
+fn begin_step_where_none(
+    kept: &mut Option<Running<'static>>,
     place: Place,
-    given: Given<'a>,
+    given: Given<'_>,
     tdr: u16,
     vp: u16,
     line: usize,
@@ -387,10 +420,10 @@ fn begin_step_where_none<'a>(
 }
 
 #[inline(never)]
-fn begin_kept_step<'a>(
-    kept: &mut Option<Running<'a>>,
+fn begin_kept_step(
+    kept: &mut Option<Running<'static>>,
     place: Place,
-    given: Given<'a>,
+    given: Given<'_>,
     tdr: u16,
     vp: u16,
     line: usize,
@@ -405,14 +438,14 @@ fn begin_kept_step<'a>(
 }
 
 /// The run of a step at its first event.
-fn begin_step<'a>(
+fn begin_step(
     place: Place,
-    given: Given<'a>,
+    given: Given<'_>,
     tdr: u16,
     vp: u16,
     line: usize,
     step: Step,
-) -> Running<'a>
+) -> Running<'static>
     requires machine { IsMachine place.machine }
     requires inside { (tdr < place.machine.pages) × (vp < place.machine.pages) }
     requires limits { IsStepOf (step_seen step) }

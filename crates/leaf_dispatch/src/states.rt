@@ -5,7 +5,9 @@ ghost use Rattle.std.specs.List.{All};
 ghost use Rattle.leaf_table.specs.Table.{code_in};
 ghost use Rattle.leaf_dispatch.specs.Guests.{IsPlaced, ArePlaced-prop};
 ghost use Rattle.td_words.specs.Limits.{IsMachine};
-ghost use Rattle.leaf_dispatch.specs.Running.{holds_room};
+ghost use Rattle.leaf_table.specs.Given.{given_in};
+ghost use Rattle.leaf_dispatch.specs.Running.{holds_room, TakesIts};
+ghost use Rattle.leaf_dispatch.specs.Kept.{TakesIts-prop};
 ghost use Rattle.leaf_dispatch.specs.CallRuns.{call_run_seen, IsCallRunAt, IsCallRunAt-prop};
 ghost use Rattle.leaf_dispatch.specs.Inside.{guest_in, AreOperations, AreOperations-prop, KeepsGuest, KeepsGuest-prop};
 ghost use Rattle.leaf_dispatch.specs.NoteRooms.{longest_in, room_of, most_reports, reports_of};
@@ -16,8 +18,9 @@ use crate::call_runs::{CallRun, call_held_of, made_by_call};
 use crate::ended::EndedBundles;
 use crate::exits::event_told;
 use crate::first_lists::FirstLists;
-use crate::guests::{GuestAt, InGuest, next_step};
+use crate::guests::{GuestAt, InGuest, next_step, with_list, without_list};
 use crate::inputs::Inputs;
+use crate::paused::PausedLp;
 use crate::rooms::{
     lines_bundles, lines_payloads, lines_reports, lines_room, longest, most_reports,
 };
@@ -53,7 +56,7 @@ pub struct LpState<'a> {
     run: CallRun<'a>,
     spare: Option<PageWords>,
     guest: Option<GuestAt<'a>>,
-    step_run: StepRun<'a>,
+    step_run: StepRun,
     cached: Tlb,
     replies: Vec<Reply>,
     notes: Vec<GuestNote>,
@@ -76,6 +79,7 @@ pub struct LpState<'a> {
     ghost bundle_room: { still_make count_of lines.now (call_run_seen run) ≤ bundles.room },
     ghost payload_room: { still_make words_of lines.now (call_run_seen run) ≤ bundles.word_room },
     ghost page_room: { holds_room spare run.other ≡ true },
+    ghost takes: { TakesIts (given_in given) run.other } by { TakesIts-prop (given_in given) run.other },
 }
 
 impl<'a> LpState<'a> {
@@ -89,6 +93,7 @@ impl<'a> LpState<'a> {
     ghost use Rattle.leaf_table.specs.Steps.{step_seen};
     ghost use Rattle.leaf_table.specs.Table.{code_in};
     ghost use Rattle.leaf_dispatch.specs.States.{seen_of, HasMoved};
+    ghost use Rattle.leaf_dispatch.specs.Paused.{paused_seen, CanResume};
     ghost use Rattle.leaf_dispatch.specs.Ended.{ended_in, ended_seen};
     ghost use Rattle.leaf_dispatch.specs.Held.{held_by};
     ghost use Rattle.leaf_dispatch.specs.Due.{step_due, in_guest, step_held};
@@ -167,6 +172,46 @@ impl<'a> LpState<'a> {
             bundles,
             turn: LeafTurn::unmade(),
         })
+    }
+
+    /// Pauses it, wherever it is: nothing is borrowed then, and no memory is taken.
+    pub fn pause(self) -> PausedLp
+        ensures place { result.place ≡ self.entry.place }
+        ensures resumable { CanResume result self.entry.codes.now self.entry.lines.now (given_in self.entry.given) }
+        ensures seen { paused_seen result self.entry.lines.now (given_in self.entry.given) ≡ seen_of self.entry }
+    {
+        let LpState {
+            place,
+            lines: _,
+            codes: _,
+            given: _,
+            first_lists: _,
+            run,
+            spare,
+            guest,
+            step_run,
+            cached,
+            replies,
+            notes,
+            reports,
+            told,
+            bundles,
+            turn,
+        } = self;
+        PausedLp {
+            place,
+            run: run.without_input(),
+            spare,
+            guest: without_list(guest),
+            step_run,
+            cached,
+            replies,
+            notes,
+            reports,
+            told,
+            bundles,
+            turn,
+        }
     }
 
     /// One for each call that is done, in order.
@@ -346,6 +391,60 @@ impl<'a> LpState<'a> {
         answer_exit(&mut self.run.other, step, &self.turn.reply);
         leave_where(&mut self.guest, left);
         event_told(step, parity, self.turn.event)
+    }
+}
+
+impl PausedLp {
+    ghost use Rattle.std.specs.Prelude.{◌≡◌};
+    ghost use Rattle.leaf_table.specs.Given.{given_in};
+    ghost use Rattle.leaf_dispatch.specs.States.{seen_of};
+    ghost use Rattle.leaf_dispatch.specs.Paused.{paused_seen, CanResume};
+
+    /// Goes on with the lines that were left, and with what is given by now. No memory is taken.
+    pub fn resume<'b>(self, inputs: Inputs<'b>, lines: &'b [Call]) -> LpState<'b>
+        requires { CanResume self inputs.codes.now lines.now (given_in inputs.given) }
+        ensures place { result.place ≡ self.place }
+        ensures codes { result.codes.now ≡ inputs.entry.codes.now }
+        ensures given { given_in result.given ≡ given_in inputs.entry.given }
+        ensures seen { seen_of result ≡ paused_seen self lines.now (given_in inputs.entry.given) }
+    {
+        let Inputs {
+            codes,
+            first_lists,
+            given,
+        } = inputs;
+        let PausedLp {
+            place,
+            run,
+            spare,
+            guest,
+            step_run,
+            cached,
+            replies,
+            notes,
+            reports,
+            told,
+            bundles,
+            turn,
+        } = self;
+        LpState {
+            place,
+            lines,
+            codes,
+            given,
+            first_lists,
+            run: run.with_input_of(given),
+            spare,
+            guest: with_list(guest, codes, first_lists),
+            step_run,
+            cached,
+            replies,
+            notes,
+            reports,
+            told,
+            bundles,
+            turn,
+        }
     }
 }
 

@@ -8,15 +8,16 @@ use crate::running::{Running, forget, held_of};
 use guest_turns::SharedRun;
 use leaf_engine::HeldLock;
 
-/// The run of a guest's step, if there is one: of a shared access, or else of another leaf.
+/// The run of a guest's step, if there is one: of a shared access, or else of another leaf, which takes no
+/// bundle.
 #[derive(Drop)]
-pub struct StepRun<'a> {
+pub struct StepRun {
     pub shared: Option<SharedRun>,
-    pub other: Option<Running<'a>>,
+    pub other: Option<Running<'static>>,
 }
 
 /// The locks that it holds, the oldest first.
-pub fn step_held_of<'b>(kept: &'b StepRun<'_>) -> &'b [HeldLock]
+pub fn step_held_of(kept: &StepRun) -> &[HeldLock]
     ensures { result.now ≡ held_by (step_run_seen kept.now) }
 {
     match kept.shared {
@@ -26,7 +27,7 @@ pub fn step_held_of<'b>(kept: &'b StepRun<'_>) -> &'b [HeldLock]
 }
 
 /// Keeps no run any more.
-pub fn forget_step(kept: &mut StepRun<'_>)
+pub fn forget_step(kept: &mut StepRun)
     ensures { is_none (step_run_seen kept.new) ≡ true }
 {
     kept.shared = None;

@@ -41,11 +41,11 @@ use td_words::{Access, GuestOp, Outcome, Reply, Value};
 /// The next turn of the run of a guest's step, which is kept until its reply comes, and begins where
 /// none is kept. A step that has a short way takes it. Of an exit it answers the parity of the epoch whose
 /// count was lowered.
-pub fn turn_step<'a, B: Bench>(
-    kept: &mut StepRun<'a>,
+pub fn turn_step<B: Bench>(
+    kept: &mut StepRun,
     reports: &mut Vec<Facts>,
     place: Place,
-    given: Given<'a>,
+    given: Given<'_>,
     tdr: u16,
     vp: u16,
     line: usize,
@@ -83,11 +83,11 @@ pub fn turn_step<'a, B: Bench>(
 }
 
 // That of a step of another leaf.
-fn turn_other_step<'a, B: Bench>(
-    kept: &mut StepRun<'a>,
+fn turn_other_step<B: Bench>(
+    kept: &mut StepRun,
     reports: &mut Vec<Facts>,
     place: Place,
-    given: Given<'a>,
+    given: Given<'_>,
     tdr: u16,
     vp: u16,
     line: usize,
@@ -120,11 +120,11 @@ fn turn_other_step<'a, B: Bench>(
 }
 
 // The first turn of a step.
-fn turn_new_step<'a, B: Bench>(
-    kept: &mut StepRun<'a>,
+fn turn_new_step<B: Bench>(
+    kept: &mut StepRun,
     reports: &mut Vec<Facts>,
     place: Place,
-    given: Given<'a>,
+    given: Given<'_>,
     tdr: u16,
     vp: u16,
     line: usize,
@@ -177,11 +177,11 @@ fn turn_new_step<'a, B: Bench>(
 }
 
 // The first turn of an operation.
-fn turn_new_operation<'a, B: Bench>(
-    kept: &mut StepRun<'a>,
+fn turn_new_operation<B: Bench>(
+    kept: &mut StepRun,
     reports: &mut Vec<Facts>,
     place: Place,
-    given: Given<'a>,
+    given: Given<'_>,
     tdr: u16,
     vp: u16,
     line: usize,

@@ -22,8 +22,8 @@ ghost use Rattle.leaf_dispatch.specs.FirstLists.{AreFirstLists};
 ghost use Rattle.leaf_dispatch.specs.StepRuns.{step_run_seen, IsStepRunOf};
 ghost use Rattle.leaf_dispatch.specs.Exits.{StepCounted};
 ghost use Rattle.leaf_dispatch.specs.CallRuns.{call_run_seen, IsCallRunOf, CallTurned};
-ghost use Rattle.leaf_dispatch.specs.Running.{run_seen, holds_room, IsRunOf, IsAnswered};
-ghost use Rattle.leaf_table.specs.Given.{given_in};
+ghost use Rattle.leaf_dispatch.specs.Running.{run_seen, holds_room, IsRunOf, TakesIts, IsAnswered};
+ghost use Rattle.leaf_table.specs.Given.{Given as Inputs, given_in};
 ghost use Rattle.leaf_table.specs.Table.{code_in, task_of, step_task};
 
 use crate::answers::{cache_walk, drop_stale, entered, noted, told};
@@ -80,10 +80,12 @@ pub fn turn_line<'a, B: Bench>(
     requires room { run_room (count_of (call_makes call.now)) (call_run_seen kept.old) ≤ bundles.old.room }
     requires word_room { run_room (words_of (call_makes call.now)) (call_run_seen kept.old) ≤ bundles.old.word_room }
     requires page_room { holds_room spare.old kept.old.other ≡ true }
+    requires takes { TakesIts (given_in given) kept.old.other }
     ensures turned { (made : List Made) × HasAdded bundles.old made bundles.new × CallTurned (B.did bench.old) place.machine (call_ends place.machine call.now) (running (task_of (given_in given.entry) place call.now) (call_run_seen kept.old)) bench.new kept.new turn.new made }
     ensures cached { cached.new ≡ cached_by (call_answer call.now) turn.new.act cached.old }
     ensures entered { HasEntered place.machine codes.now (guest_by (call_answer call.now) turn.new.act None) guest.old guest.new }
     ensures page_room { holds_room spare.new kept.new.other ≡ true }
+    ensures takes { TakesIts (given_in given.entry) kept.new.other }
     ensures stays { is_some kept.old.other ≡ true → is_none kept.new.host ≡ true }
     ensures machine { B.machine bench.new ≡ B.machine bench.old }
 {
@@ -122,13 +124,13 @@ fn enter_by<'a>(
 
 /// The next turn in a guest, at a call line: of the run of its step, which is kept until its reply
 /// comes, and begins where none is kept.
-pub fn turn_guest<'a, B: Bench>(
-    kept: &mut StepRun<'a>,
+pub fn turn_guest<B: Bench>(
+    kept: &mut StepRun,
     reports: &mut Vec<Facts>,
     cached: &mut Tlb,
-    guest: &mut GuestAt<'a>,
+    guest: &mut GuestAt<'_>,
     place: Place,
-    given: Given<'a>,
+    given: Given<'_>,
     line: u32,
     bench: &mut B,
     turn: &mut LeafTurn,
@@ -268,6 +270,7 @@ pub fn answer_exit(kept: &mut Option<Running<'_>>, step: Step, reply: &Option<Re
     ensures under_way { (m : Machine) (c : Call) → IsRunOf m (call_ends m c) kept.old → IsAnswered kept.old → IfSome reply.now (λ r. IsReplyOf (step_seen step) r) → IsRunOf m (call_ends m c) kept.new }
     ensures answered { IsAnswered kept.old → IsAnswered kept.new }
     ensures page_room { (spare : Option (List ℕ)) → holds_room spare kept.old ≡ true → holds_room spare kept.new ≡ true }
+    ensures takes { (g : Inputs) → TakesIts g kept.old → TakesIts g kept.new }
 {
     if let Step::Leaves(_) = step {
         if let Some(reply) = reply {

@@ -29,6 +29,7 @@ pub fn ask<L: Leaf, B: Bench>(leaf: &mut L, bench: &mut B) -> Choice
     ensures ready { L.waits leaf.new ≡ false }
     ensures tries { LowersTries (need_of result) (L.tries leaf.old) (L.tries leaf.new) }
     ensures same { (B.machine bench.new ≡ B.machine bench.old) × (L.task leaf.new ≡ L.task leaf.old) × (L.written leaf.new ≡ L.written leaf.old) }
+    ensures origin { L.origin leaf.new ≡ L.origin leaf.old }
 {
     loop {
         match leaf.need() {
@@ -48,6 +49,7 @@ pub fn change<L: Leaf, B: Bench>(leaf: &mut L, hasher: &mut Option<Measure>, ben
     ensures changed { Changed (B.did bench.old) (B.machine bench.old) (changes_left (L.rest leaf.old) (L.written leaf.old)) hasher.old bench.new hasher.new }
     ensures same { (B.machine bench.new ≡ B.machine bench.old) × (L.task leaf.new ≡ L.task leaf.old) × (L.rest leaf.new ≡ L.rest leaf.old) × (L.waits leaf.new ≡ L.waits leaf.old) }
     ensures tries { L.tries leaf.new ≤ L.tries leaf.old }
+    ensures origin { L.origin leaf.new ≡ L.origin leaf.old }
 {
     while let Some(write) = leaf.write(hasher) {
         make(write, hasher, bench);

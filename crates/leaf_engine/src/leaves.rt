@@ -30,6 +30,11 @@ pub trait Leaf {
     /// How many more locks it can ask for at most.
     ghost tries: { Self → ℕ };
 
+    /// What it was made of, which stays.
+    ghost Origin: { Type 0 };
+
+    ghost origin: { Self → Origin };
+
     /// What it needs next. A lock counts as granted at the next call.
     fn need(&mut self) -> Need
         requires { waits self.old ≡ false }
@@ -39,7 +44,8 @@ pub trait Leaf {
         ensures waits { waits self.new ≡ is_load result }
         ensures bound { Lowers result (bound self.old) (bound self.new) }
         ensures tries { LowersTries result (tries self.old) (tries self.new) }
-        ensures same { (task self.new ≡ task self.old) × (written self.new ≡ written self.old) };
+        ensures same { (task self.new ≡ task self.old) × (written self.new ≡ written self.old) }
+        ensures origin { origin self.new ≡ origin self.old };
 
     /// The word that it waits for.
     fn tell(&mut self, word: u64)
@@ -48,7 +54,8 @@ pub trait Leaf {
         ensures waits { waits self.new ≡ false }
         ensures bound { bound self.new ≤ bound self.old }
         ensures tries { tries self.new ≤ tries self.old }
-        ensures same { (task self.new ≡ task self.old) × (written self.new ≡ written self.old) };
+        ensures same { (task self.new ≡ task self.old) × (written self.new ≡ written self.old) }
+        ensures origin { origin self.new ≡ origin self.old };
 
     /// The next write of its act, made with the hasher in hand.
     fn write(&mut self, hasher: &mut Option<Measure>) -> Option<Write>
@@ -57,7 +64,8 @@ pub trait Leaf {
         ensures waits { waits self.new ≡ waits self.old }
         ensures bound { MatchOption result (bound self.new ≤ bound self.old) (λ w. bound self.new < bound self.old) }
         ensures tries { tries self.new ≤ tries self.old }
-        ensures same { task self.new ≡ task self.old };
+        ensures same { task self.new ≡ task self.old }
+        ensures origin { origin self.new ≡ origin self.old };
 
     ghost means: { (l : Self) → MeansRow (task l) };
 }

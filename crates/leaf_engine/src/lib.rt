@@ -25,6 +25,6 @@ pub use laws::{
 };
 pub use leaves::Leaf;
 pub use needs::{Hand, Need, Place, Write};
-pub use plans::{ANSWERS, Act, Plan, Planned, Stop, Told, Verdict, need_at};
+pub use plans::{ANSWERS, Act, Plan, Planned, Progress, Stop, Told, Verdict, need_at};
 pub use processors::{Gate, NoGate, Processor, Turn};
-pub use runs::{LOCKS, Run};
+pub use runs::{LOCKS, Run, RunProgress};

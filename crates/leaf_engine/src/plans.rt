@@ -200,6 +200,16 @@ pub fn need_at(stop: Stop, told: &mut ArrayVec<u64, ANSWERS>, waits: &mut bool) 
 ghost use Rattle.std.specs.Prelude.{IfSome};
 ghost use Rattle.std.proofs.Props.{props};
 
+/// How far a leaf is that goes by a plan, apart from the plan: what it was told, and how many writes of its
+/// act it has handed out.
+#[derive(Drop)]
+pub struct Progress {
+    told: ArrayVec<u64, ANSWERS>,
+    written: usize,
+    waits: bool,
+    ghost room: { waits ≡ true → length told.items < 32 },
+}
+
 /// A leaf that goes by a plan. The act is kept once it was decided.
 #[derive(Drop)]
 pub struct Planned<P: Plan + Drop> {
@@ -227,6 +237,49 @@ impl<P: Plan + Drop> Planned<P> {
             act: None,
             written: 0,
             waits: false,
+        }
+    }
+
+    /// The plan, and how far it is by that.
+    pub fn into_parts(self) -> (P, Progress)
+        ensures plan { result.0 ≡ self.plan }
+        ensures told { result.1.told ≡ self.told }
+        ensures written { (result.1.written ≡ self.written) × (result.1.waits ≡ self.waits) }
+    {
+        let Planned {
+            plan,
+            told,
+            act: _,
+            written,
+            waits,
+        } = self;
+        (
+            plan,
+            Progress {
+                told,
+                written,
+                waits,
+            },
+        )
+    }
+
+    /// As far by this plan. Its act is decided anew.
+    pub fn resumed(plan: P, progress: Progress) -> Planned<P>
+        ensures plan { result.plan ≡ plan }
+        ensures told { result.told ≡ progress.told }
+        ensures written { (result.written ≡ progress.written) × (result.waits ≡ progress.waits) }
+    {
+        let Progress {
+            told,
+            written,
+            waits,
+        } = progress;
+        Planned {
+            plan,
+            told,
+            act: None,
+            written,
+            waits,
         }
     }
 
@@ -278,6 +331,10 @@ impl<P: Plan + Drop> Leaf for Planned<P> {
     ghost bound = { λ l. 2 * (32 - length l.told.items) + (24 - l.written) - (if l.waits then 1 else 0) };
 
     ghost tries = { λ l. 32 - length l.told.items };
+
+    ghost Origin = { P };
+
+    ghost origin = { λ l. l.plan };
 
     fn need(&mut self) -> Need {
         match self.plan.decide(Told {

@@ -20,6 +20,14 @@ use td_words::{LockName, Mode, Reply, Status};
 /// At most how many locks a leaf holds at once.
 pub const LOCKS: usize = 32;
 
+/// How far a run is, apart from its leaf.
+#[derive(Drop)]
+pub struct RunProgress {
+    hasher: Option<Measure>,
+    stage: Stage,
+    held: ArrayVec<HeldLock, LOCKS>,
+}
+
 /// A leaf on its way through its row, or giving its locks back.
 pub struct Run<L: Leaf> {
     leaf: L,
@@ -103,6 +111,49 @@ impl<L: Leaf> Run<L> {
         leaf
     }
 
+    /// The leaf, as it now is, and how far the run is besides.
+    pub fn into_parts(self) -> (L, RunProgress)
+        ensures leaf { result.0 ≡ self.leaf }
+        ensures stage { result.1.stage ≡ self.stage }
+        ensures held { result.1.held ≡ self.held }
+        ensures hasher { result.1.hasher ≡ self.hasher }
+    {
+        let Run {
+            leaf,
+            hasher,
+            stage,
+            held,
+        } = self;
+        (
+            leaf,
+            RunProgress {
+                hasher,
+                stage,
+                held,
+            },
+        )
+    }
+
+    /// The run of a leaf that is as far as this.
+    pub fn resumed(leaf: L, progress: RunProgress) -> Run<L>
+        ensures leaf { result.leaf ≡ leaf }
+        ensures stage { result.stage ≡ progress.stage }
+        ensures held { result.held ≡ progress.held }
+        ensures hasher { result.hasher ≡ progress.hasher }
+    {
+        let RunProgress {
+            hasher,
+            stage,
+            held,
+        } = progress;
+        Run {
+            leaf,
+            hasher,
+            stage,
+            held,
+        }
+    }
+
     /// Makes the word steps up to the leaf's next event. The reply comes with the last one.
     pub fn turn<B: Bench>(&mut self, bench: &mut B) -> RunTurn
         requires machine { (L.task self.old.leaf).place.machine ≡ B.machine bench.old }
@@ -111,6 +162,7 @@ impl<L: Leaf> Run<L> {
         ensures turned { Turned (B.did bench.old) (B.machine bench.old) (standing (L.rest self.old.leaf) self.old.stage self.old.held.items self.old.hasher) bench.new (standing (L.rest self.new.leaf) self.new.stage self.new.held.items self.new.hasher) result }
         ensures can_run { CanRun (B.machine bench.new) (standing (L.rest self.new.leaf) self.new.stage self.new.held.items self.new.hasher) (L.tries self.new.leaf) (L.written self.new.leaf) (L.waits self.new.leaf) }
         ensures same { (B.machine bench.new ≡ B.machine bench.old) × (L.task self.new.leaf ≡ L.task self.old.leaf) }
+        ensures origin { L.origin self.new.leaf ≡ L.origin self.old.leaf }
     {
         let event = match self.stage {
             Stage::Trying => self.go_on(bench),
@@ -133,6 +185,7 @@ impl<L: Leaf> Run<L> {
         ensures went { Went (B.did bench.old) (B.machine bench.old) (standing (L.rest self.old.leaf) self.old.stage self.old.held.items self.old.hasher) bench.new (standing (L.rest self.new.leaf) self.new.stage self.new.held.items self.new.hasher) result }
         ensures can_run { CanRun (B.machine bench.new) (standing (L.rest self.new.leaf) self.new.stage self.new.held.items self.new.hasher) (L.tries self.new.leaf) (L.written self.new.leaf) (L.waits self.new.leaf) }
         ensures same { (B.machine bench.new ≡ B.machine bench.old) × (L.task self.new.leaf ≡ L.task self.old.leaf) }
+        ensures origin { L.origin self.new.leaf ≡ L.origin self.old.leaf }
     {
         match ask(&mut self.leaf, bench) {
             Choice::Lock { name, at, mode } => {

@@ -3,3 +3,5 @@ pub mod Tries
 pub mod Calls
 pub mod NoBundles
 pub mod PageRooms
+pub mod Refusals
+pub mod Inputs

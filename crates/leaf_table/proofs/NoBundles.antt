@@ -40,6 +40,9 @@ use Rattle.leaf_table.specs.Plans.{plan_task}
 use Rattle.leaf_table.specs.Table.{task_of, step_task}
 use Rattle.leaf_table.specs.declared.plans.AnyPlan.{AnyPlan}
 use Rattle.leaf_table.specs.declared.plans.AnyPlan.TheVariants as plan
+use Rattle.leaf_table.specs.BundlePlans.{bundle_plan_task}
+use Rattle.leaf_table.specs.declared.bundle_plans.BundlePlan.{BundlePlan}
+use Rattle.leaf_table.specs.declared.bundle_plans.BundlePlan.TheVariants as bundle_plan
 use Rattle.leaf_table.proofs.Ending.{ends-fed}
 use Rattle.leaf_table.proofs.Calls.{given_alone}
 use Rattle.leaf_table.proofs.Tries.{TriesAtMost, plain-ends, making-ends, page-make, words-few, tracked-few, scan-few, ends_as, step_ends_as}
@@ -189,13 +192,9 @@ plans-bare (plan.Restore l) told none = call-bare l.place (call.ExportRestore l.
 plans-bare (plan.Immutable l) told none = cc
 plans-bare (plan.Token l) told none = cc
 plans-bare (plan.StateVp l) told none = cc
-plans-bare (plan.ImportToken l) told none = taking-bare l.input l.place (call.ImportTrack l.tdr l.slot) told refl
-plans-bare (plan.AbortByToken l) told none = taking-bare l.input l.place (call.ExportAbortByToken l.tdr l.slot) told refl
 plans-bare (plan.Commit l) told none = call-bare l.place (call.ImportCommit l.tdr) told refl
 plans-bare (plan.ImportEnd l) told none = call-bare l.place (call.ImportEnd l.tdr) told refl
 plans-bare (plan.ImportAbort l) told none = cc
-plans-bare (plan.ImportImmutable l) told none = taking-bare l.input l.place (call.ImportStateImmutable l.tdr l.slot) told refl
-plans-bare (plan.ImportVp l) told none = taking-bare l.input l.place (call.ImportStateVp l.tdr l.vp l.slot) told refl
 plans-bare (plan.Enter l) told none = call-bare l.place (call.VpEnter l.tdr l.vp l.most) told refl
 plans-bare (plan.Exit l) told none = step-bare l.place l.tdr l.vp 0 (Leaves l.outcome) told refl
 plans-bare (plan.Set l) told none = step-bare l.place l.tdr l.vp 0 (Operates (op.Set l.register l.value)) told refl
@@ -208,6 +207,13 @@ plans-bare (plan.SharedStore l) told none = step-bare l.place l.tdr l.vp 0 (Oper
 plans-bare (plan.PrivateLoad l) told none = access-bare l.vp l.line Read l.register l.gpa l.page told
 plans-bare (plan.PrivateStore l) told none = access-bare l.vp l.line Write l.register l.gpa l.page told
 plans-bare (plan.WalkLoad l) told none = walk-bare l.tdr l.access l.gpa l.level l.page told
+
+-- those that take bundles make none
+pub bundle_plans-bare : (l : BundlePlan) (told : List ℕ) → IsBare (feed (bundle_plan_task l).tree told)
+bundle_plans-bare (bundle_plan.ImportToken l) told = taking-bare l.input l.place (call.ImportTrack l.tdr l.slot) told refl
+bundle_plans-bare (bundle_plan.AbortByToken l) told = taking-bare l.input l.place (call.ExportAbortByToken l.tdr l.slot) told refl
+bundle_plans-bare (bundle_plan.ImportImmutable l) told = taking-bare l.input l.place (call.ImportStateImmutable l.tdr l.slot) told refl
+bundle_plans-bare (bundle_plan.ImportVp l) told = taking-bare l.input l.place (call.ImportStateVp l.tdr l.vp l.slot) told refl
 
 -- none of them reports
 pub plans-quiet : (l : AnyPlan) (told : List ℕ) → IsQuiet (feed (plan_task l).tree told)

@@ -1,5 +1,6 @@
 -- What contracts see of a leaf of any call.
-use Rattle.std.specs.Prelude.{ℕ, ◌+◌, ◌-◌, ◌*◌, Bool, if◌then◌else◌, List, length}
+use Rattle.std.specs.Prelude.{ℕ, ◌+◌, ◌-◌, ◌*◌, Bool, if◌then◌else◌, List, Option, length}
+use Rattle.flat_core.specs.Opening.{Incoming}
 use Rattle.flat_core.specs.Inputs.{input_in}
 use Rattle.leaf_engine.specs.declared.plans.TheConstants.{ANSWERS}
 use Rattle.leaf_engine.specs.Trees.{Tree, feed}
@@ -18,11 +19,14 @@ use Rattle.export_pages.specs.PageExportMeanings.{page_export-means}
 use Rattle.import_pages.specs.PageImportTrees.{page_import_task}
 use Rattle.import_pages.specs.PageImportStages.{rest_of as import_rest_of}
 use Rattle.import_pages.specs.PageImportMeanings.{page_import-means}
+use Rattle.import_pages.specs.declared.page_imports.PageImport.{PageImport}
 use Rattle.import_states.specs.TdImportTrees.{td_import_tree, import_td_task}
 use Rattle.import_states.specs.TdImportMeanings.{import_td-means}
+use Rattle.import_states.specs.declared.tds.ImportTd.{ImportTd}
 use Rattle.access_core.specs.ReportTrees.{report_task, report_tree}
 use Rattle.access_core.specs.ReportMeanings.{report-means}
 use Rattle.leaf_table.specs.Plans.{plan_task, plans-mean}
+use Rattle.leaf_table.specs.BundlePlans.{bundle_plan_task, task_with, bundle_plans-mean}
 use Rattle.leaf_table.specs.declared.leaves.AnyLeaf.{AnyLeaf}
 use Rattle.leaf_table.specs.declared.leaves.AnyLeaf.TheVariants as leaf
 
@@ -47,9 +51,31 @@ planned t told written waits = record {
   tries = ANSWERS - length told;
 }
 
+-- of those two of their own that were given this bundle
+abbrev pub td_seen : Option Incoming → ImportTd → LeafSeen
+td_seen b l = record {
+  task = import_td_task l.place b l.tdr l.slot;
+  rest = feed (td_import_tree l.place.machine (input_in b) l.tdr l.slot) l.told.items;
+  written = l.written;
+  waits = l.waits;
+  bound = 2 * (32 - length l.told.items) + (26 - l.written) - (if l.waits then 1 else 0);
+  tries = 32 - length l.told.items;
+}
+
+abbrev pub page_seen : Option Incoming → PageImport → LeafSeen
+page_seen b l = record {
+  task = page_import_task l.place b l.tdr l.slot l.page;
+  rest = import_rest_of l.place.machine (input_in b) l.tdr l.slot l.page l.importing l.told.items;
+  written = l.written;
+  waits = l.waits;
+  bound = 2 * (21 - length l.told.items) + (516 - l.written) - (if l.waits then 1 else 0);
+  tries = 21 - length l.told.items;
+}
+
 -- kind by kind
 abbrev pub leaf_seen : AnyLeaf → LeafSeen
 leaf_seen (leaf.ByPlan l) = planned (plan_task l.plan) l.told.items l.written l.waits
+leaf_seen (leaf.ByBundle l) = planned (bundle_plan_task l.plan) l.told.items l.written l.waits
 leaf_seen (leaf.Extend l) = record {
   task = extend_task l.place l.tdr l.gpa;
   rest = rest_of l.place l.tdr l.gpa l.chunk l.told.items l.words.items;
@@ -90,26 +116,20 @@ leaf_seen (leaf.Report l) = record {
   bound = 2 * (41 - length l.told.items) + (1 - l.written) - (if l.waits then 1 else 0);
   tries = 2 - length l.told.items;
 }
-leaf_seen (leaf.ImportTd l) = record {
-  task = import_td_task l.place l.input l.tdr l.slot;
-  rest = feed (td_import_tree l.place.machine (input_in l.input) l.tdr l.slot) l.told.items;
-  written = l.written;
-  waits = l.waits;
-  bound = 2 * (32 - length l.told.items) + (26 - l.written) - (if l.waits then 1 else 0);
-  tries = 32 - length l.told.items;
-}
-leaf_seen (leaf.PageImport l) = record {
-  task = page_import_task l.place l.input l.tdr l.slot l.page;
-  rest = import_rest_of l.place.machine (input_in l.input) l.tdr l.slot l.page l.importing l.told.items;
-  written = l.written;
-  waits = l.waits;
-  bound = 2 * (21 - length l.told.items) + (516 - l.written) - (if l.waits then 1 else 0);
-  tries = 21 - length l.told.items;
-}
+leaf_seen (leaf.ImportTd l) = td_seen l.input l
+leaf_seen (leaf.PageImport l) = page_seen l.input l
+
+-- with this bundle in place of its own
+abbrev pub seen_with : Option Incoming → AnyLeaf → LeafSeen
+seen_with b (leaf.ByBundle l) = planned (task_with b l.plan) l.told.items l.written l.waits
+seen_with b (leaf.ImportTd l) = td_seen b l
+seen_with b (leaf.PageImport l) = page_seen b l
+seen_with b l = leaf_seen l
 
 -- each means its row
 pub leaves-mean : (l : AnyLeaf) → MeansRow (leaf_seen l).task
 leaves-mean (leaf.ByPlan l) = plans-mean l.plan
+leaves-mean (leaf.ByBundle l) = bundle_plans-mean l.plan
 leaves-mean (leaf.Extend l) = extend-means l.place l.tdr l.gpa l.machine
 leaves-mean (leaf.SeptRemove l) = sept_remove-means l.place l.tdr l.gpa l.level l.machine
 leaves-mean (leaf.StateTd l) = td_state-means l.place l.tdr l.slot

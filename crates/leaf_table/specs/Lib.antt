@@ -1,8 +1,10 @@
 pub mod Given
 pub mod Table
 pub mod Plans
-pub mod Leaves
+pub mod BundlePlans
 pub mod PageRooms
+pub mod Origins
+pub mod Leaves
 pub mod Steps
 pub mod Ends
 pub mod Laws

@@ -1,4 +1,4 @@
--- What contracts see of a plan of any call, and of any step of a guest.
+-- What contracts see of a plan of any call that takes no bundle, and of any step of a guest.
 use Rattle.std.specs.Prelude.{ℕ, ◌+◌, ◌-◌, ◌%◌, ◌^◌, ◌==◌, ◌&&◌, not, nat_lt, nat_le, Bool, true, false, List, [], ◌∷◌, length, drop, slice_index}
 use Rattle.td_words.specs.declared.names.LifeState.TheVariants as life
 use Rattle.td_words.specs.declared.names.OpState.TheVariants as op
@@ -45,14 +45,8 @@ use Rattle.export_core.specs.RestoreTrees.{restore_task}
 use Rattle.export_sessions.specs.SessionTrees.{immutable_task}
 use Rattle.export_tokens.specs.TokenTrees.{token_task, token_changes}
 use Rattle.export_states.specs.VpStateTrees.{vp_state_task}
-use Rattle.flat_core.specs.Inputs.{input_in}
-use Rattle.flat_core.specs.ImportRows.{is_start}
-use Rattle.import_core.specs.TokenTrees.{import_token_task, import_token_changes}
-use Rattle.import_core.specs.TokenAbortTrees.{abort_by_token_task}
 use Rattle.import_core.specs.CommitTrees.{commit_task, import_end_task}
 use Rattle.import_core.specs.AbortTrees.{import_abort_task}
-use Rattle.import_states.specs.BeginImportTrees.{import_immutable_task, begin_import_changes}
-use Rattle.import_states.specs.VpImportTrees.{import_vp_task, vp_import_changes}
 use Rattle.key_table.specs.CacheTrees.{cache_task, cache_changes}
 use Rattle.key_table.specs.ReclaimTrees.{reclaim_task, give_back}
 use Rattle.td_control.specs.CreationTrees.{create_task, create_changes}
@@ -84,12 +78,8 @@ use Rattle.export_core.specs.RestoreMeanings.{restore-means}
 use Rattle.export_sessions.specs.SessionMeanings.{immutable-means}
 use Rattle.export_tokens.specs.TokenMeanings.{token-means}
 use Rattle.export_states.specs.VpStateMeanings.{vp_state-means}
-use Rattle.import_core.specs.TokenMeanings.{import_token-means}
-use Rattle.import_core.specs.TokenAbortMeanings.{abort_by_token-means}
 use Rattle.import_core.specs.CommitMeanings.{commit-means, import_end-means}
 use Rattle.import_core.specs.AbortMeanings.{import_abort-means}
-use Rattle.import_states.specs.BeginImportMeanings.{import_immutable-means}
-use Rattle.import_states.specs.VpImportMeanings.{import_vp-means}
 use Rattle.key_table.specs.CacheMeanings.{cache-means}
 use Rattle.key_table.specs.ReclaimMeanings.{reclaim-means}
 use Rattle.td_control.specs.CreationMeanings.{create-means}
@@ -144,13 +134,9 @@ plan_task (plan.Restore l) = restore_task l.place l.tdr l.gpa
 plan_task (plan.Immutable l) = immutable_task l.place l.tdr l.slot
 plan_task (plan.Token l) = token_task l.place l.tdr l.slot l.start
 plan_task (plan.StateVp l) = vp_state_task l.place l.tdr l.vp l.slot
-plan_task (plan.ImportToken l) = import_token_task l.place l.input l.tdr l.slot
-plan_task (plan.AbortByToken l) = abort_by_token_task l.place l.input l.tdr l.slot
 plan_task (plan.Commit l) = commit_task l.place l.tdr
 plan_task (plan.ImportEnd l) = import_end_task l.place l.tdr
 plan_task (plan.ImportAbort l) = import_abort_task l.place l.tdr l.slot
-plan_task (plan.ImportImmutable l) = import_immutable_task l.place l.input l.tdr l.slot
-plan_task (plan.ImportVp l) = import_vp_task l.place l.input l.tdr l.vp l.slot
 plan_task (plan.Enter l) = vp_enter_task l.place l.tdr l.vp l.most
 plan_task (plan.Exit l) = exit_task l.place l.tdr l.vp l.outcome
 plan_task (plan.Set l) = set_task l.place l.tdr l.vp l.register l.value
@@ -200,13 +186,9 @@ plan_changes (plan.Restore l) told a = changes_of (feed (restore_task l.place l.
 plan_changes (plan.Immutable l) told a = changes_of (feed (immutable_task l.place l.tdr l.slot).tree told)
 plan_changes (plan.Token l) told a = token_changes l.start a.page a.named a.epoch a.count
 plan_changes (plan.StateVp l) told a = changes_of (feed (vp_state_task l.place l.tdr l.vp l.slot).tree told)
-plan_changes (plan.ImportToken l) told a = import_token_changes (is_start (input_in l.input).header) a.page a.named a.epoch a.count
-plan_changes (plan.AbortByToken l) told a = op_changes op.Runnable a.page
 plan_changes (plan.Commit l) told a = op_changes op.LiveImport a.page
 plan_changes (plan.ImportEnd l) told a = op_changes op.Runnable a.page
 plan_changes (plan.ImportAbort l) told a = op_changes op.FailedImport a.page
-plan_changes (plan.ImportImmutable l) told a = begin_import_changes (input_in l.input) (record { tdcs = a.page; page = a.named })
-plan_changes (plan.ImportVp l) told a = vp_import_changes l.vp (input_in l.input) a.page
 plan_changes (plan.Enter l) told a = enter_changes a.page l.place.lp l.vp a.count
 plan_changes (plan.Exit l) told a = exit_changes a.page a.count
 plan_changes (plan.Set l) told a = put_register l.vp l.register l.value ∷ put_next l.vp (slice_index told 0) ∷ []
@@ -259,13 +241,9 @@ plan_shown (plan.Restore l) told a = true
 plan_shown (plan.Immutable l) told a = true
 plan_shown (plan.Token l) told a = is_page l.place a.page && is_page l.place a.named && nat_lt a.count (2 ^ 32 - 1)
 plan_shown (plan.StateVp l) told a = true
-plan_shown (plan.ImportToken l) told a = is_page l.place a.page && is_page l.place a.named && nat_lt a.count (2 ^ 32 - 1)
-plan_shown (plan.AbortByToken l) told a = is_page l.place a.page
 plan_shown (plan.Commit l) told a = is_page l.place a.page
 plan_shown (plan.ImportEnd l) told a = is_page l.place a.page
 plan_shown (plan.ImportAbort l) told a = is_page l.place a.page
-plan_shown (plan.ImportImmutable l) told a = is_page l.place a.page && is_page l.place a.named
-plan_shown (plan.ImportVp l) told a = is_page l.place l.vp && is_page l.place a.page
 plan_shown (plan.Enter l) told a = is_page l.place l.vp && is_page l.place a.page
 plan_shown (plan.Exit l) told a = is_page l.place a.page
 plan_shown (plan.Set l) told a = true
@@ -315,13 +293,9 @@ plans-mean (plan.Restore l) = restore-means l.place l.tdr l.gpa l.machine
 plans-mean (plan.Immutable l) = immutable-means l.place l.tdr l.slot
 plans-mean (plan.Token l) = token-means l.place l.tdr l.slot l.start
 plans-mean (plan.StateVp l) = vp_state-means l.place l.tdr l.vp l.slot l.few_pages
-plans-mean (plan.ImportToken l) = import_token-means l.place l.input l.tdr l.slot
-plans-mean (plan.AbortByToken l) = abort_by_token-means l.place l.input l.tdr l.slot
 plans-mean (plan.Commit l) = commit-means l.place l.tdr
 plans-mean (plan.ImportEnd l) = import_end-means l.place l.tdr
 plans-mean (plan.ImportAbort l) = import_abort-means l.place l.tdr l.slot
-plans-mean (plan.ImportImmutable l) = import_immutable-means l.place l.input l.tdr l.slot
-plans-mean (plan.ImportVp l) = import_vp-means l.place l.input l.tdr l.vp l.slot l.few_pages
 plans-mean (plan.Enter l) = entry-means l.place l.tdr l.vp l.most l.few_pages
 plans-mean (plan.Exit l) = exit-means l.place l.tdr l.vp l.outcome
 plans-mean (plan.Set l) = set-means l.place l.tdr l.vp l.register l.value l.few

@@ -10,9 +10,12 @@ ghost use Rattle.leaf_table.specs.Plans.{plan_task};
 ghost use Rattle.leaf_engine.specs.Merges.{IsOperation, IsStepOf};
 ghost use Rattle.leaf_table.specs.Steps.{step_seen};
 ghost use Rattle.leaf_table.specs.PageRooms.{is_page_export, is_spare, leaf_room};
-ghost use Rattle.leaf_table.specs.Given.{given_in};
+ghost use Rattle.leaf_table.specs.Given.{Given as Inputs, given_in};
+ghost use Rattle.leaf_table.specs.BundlePlans.{plan_input, plan_slot, bundle_plan_task};
+ghost use Rattle.leaf_table.specs.Origins.{TakesFrom};
 ghost use Rattle.leaf_table.specs.Table.{task_of, operation_task, step_task};
 
+use crate::bundle_plans::BundlePlan;
 use crate::given::Given;
 use crate::plans::AnyPlan;
 use crate::steps::Step;
@@ -41,13 +44,14 @@ use td_control::{AddCx, Create, Finalize, Init, KeyConfig, Rd};
 use td_words::{Access, Call, GuestOp};
 use vcpu_control::{Enter, Exit, VpCreate, VpFlush, VpInit};
 
-/// A leaf of any call that is built, or of any step of a guest: one that goes by a plan, or
-/// that of MR.EXTEND, of MEM.SEPT.REMOVE, of EXPORT.STATE.TD, of EXPORT.MEM or of a guest's report, which
+/// A leaf of any call that is built, or of any step of a guest: one that goes by a plan, with a bundle or
+/// without, or that of MR.EXTEND, of MEM.SEPT.REMOVE, of EXPORT.STATE.TD, of EXPORT.MEM or of a guest's report, which
 /// are told more words, or of IMPORT.STATE.TD or of IMPORT.MEM, which make more writes. That of EXPORT.MEM has the
 /// room for a page's words.
 #[derive(Drop)]
 pub enum AnyLeaf<'a> {
-    ByPlan(Planned<AnyPlan<'a>>),
+    ByPlan(Planned<AnyPlan>),
+    ByBundle(Planned<BundlePlan<'a>>),
     Extend(Extend),
     SeptRemove(SeptRemove),
     StateTd(StateTd),
@@ -59,6 +63,7 @@ pub enum AnyLeaf<'a> {
 
 impl<'a> Leaf for AnyLeaf<'a> {
     ghost use Rattle.leaf_table.specs.Leaves.{leaf_seen, leaves-mean};
+    ghost use Rattle.leaf_table.specs.Origins.{LeafOrigin, origin_of};
 
     ghost task = { λ l. (leaf_seen l).task };
 
@@ -72,9 +77,14 @@ impl<'a> Leaf for AnyLeaf<'a> {
 
     ghost tries = { λ l. (leaf_seen l).tries };
 
+    ghost Origin = { LeafOrigin };
+
+    ghost origin = { λ l. origin_of l };
+
     fn need(&mut self) -> Need {
         match self {
             AnyLeaf::ByPlan(leaf) => leaf.need(),
+            AnyLeaf::ByBundle(leaf) => leaf.need(),
             AnyLeaf::Extend(leaf) => leaf.need(),
             AnyLeaf::SeptRemove(leaf) => leaf.need(),
             AnyLeaf::StateTd(leaf) => leaf.need(),
@@ -88,6 +98,7 @@ impl<'a> Leaf for AnyLeaf<'a> {
     fn tell(&mut self, word: u64) {
         match self {
             AnyLeaf::ByPlan(leaf) => leaf.tell(word),
+            AnyLeaf::ByBundle(leaf) => leaf.tell(word),
             AnyLeaf::Extend(leaf) => leaf.tell(word),
             AnyLeaf::SeptRemove(leaf) => leaf.tell(word),
             AnyLeaf::StateTd(leaf) => leaf.tell(word),
@@ -101,6 +112,7 @@ impl<'a> Leaf for AnyLeaf<'a> {
     fn write(&mut self, hasher: &mut Option<Measure>) -> Option<Write> {
         match self {
             AnyLeaf::ByPlan(leaf) => leaf.write(hasher),
+            AnyLeaf::ByBundle(leaf) => leaf.write(hasher),
             AnyLeaf::Extend(leaf) => leaf.write(hasher),
             AnyLeaf::SeptRemove(leaf) => leaf.write(hasher),
             AnyLeaf::StateTd(leaf) => leaf.write(hasher),
@@ -115,7 +127,63 @@ impl<'a> Leaf for AnyLeaf<'a> {
 }
 
 impl<'a> AnyLeaf<'a> {
-    ghost use Rattle.leaf_table.specs.Leaves.{leaf_seen};
+    ghost use Rattle.std.specs.Prelude.{Option};
+    ghost use Rattle.flat_core.specs.Opening.{Incoming};
+    ghost use Rattle.leaf_table.specs.Leaves.{leaf_seen, seen_with};
+    ghost use Rattle.leaf_table.specs.Origins.{slot_in, bundle_for, TakesFrom};
+    ghost use Rattle.leaf_table.specs.PageRooms.{has_words};
+
+    /// The same leaf, as far as it is, without the bundle that it was given, so that nothing is borrowed.
+    pub fn without_input(self) -> AnyLeaf<'static>
+        ensures seen { (b : Option Incoming) → seen_with b result ≡ seen_with b self.entry }
+        ensures slot { slot_in result ≡ slot_in self.entry }
+        ensures words { has_words result ≡ has_words self.entry }
+    {
+        match self {
+            AnyLeaf::ByPlan(leaf) => AnyLeaf::ByPlan(leaf),
+            AnyLeaf::ByBundle(leaf) => {
+                let (plan, progress) = leaf.into_parts();
+                AnyLeaf::ByBundle(Planned::resumed(plan.with_input(None), progress))
+            }
+            AnyLeaf::Extend(leaf) => AnyLeaf::Extend(leaf),
+            AnyLeaf::SeptRemove(leaf) => AnyLeaf::SeptRemove(leaf),
+            AnyLeaf::StateTd(leaf) => AnyLeaf::StateTd(leaf),
+            AnyLeaf::PageExport(leaf) => AnyLeaf::PageExport(leaf),
+            AnyLeaf::Report(leaf) => AnyLeaf::Report(leaf),
+            AnyLeaf::ImportTd(leaf) => AnyLeaf::ImportTd(leaf.with_input(None)),
+            AnyLeaf::PageImport(leaf) => AnyLeaf::PageImport(leaf.with_input(None)),
+        }
+    }
+
+    /// The same leaf, as far as it is, with the bundle that its slot has here, if its call takes one.
+    pub fn with_input_of<'b>(self, given: Given<'b>) -> AnyLeaf<'b>
+        ensures seen { leaf_seen result ≡ seen_with (bundle_for (given_in given.entry) self.entry) self.entry }
+        ensures slot { slot_in result ≡ slot_in self.entry }
+        ensures takes { TakesFrom (given_in given.entry) result }
+        ensures words { has_words result ≡ has_words self.entry }
+    {
+        match self {
+            AnyLeaf::ByPlan(leaf) => AnyLeaf::ByPlan(leaf),
+            AnyLeaf::ByBundle(leaf) => {
+                let (plan, progress) = leaf.into_parts();
+                let input = given.bundles.get(plan.slot());
+                AnyLeaf::ByBundle(Planned::resumed(plan.with_input(input), progress))
+            }
+            AnyLeaf::Extend(leaf) => AnyLeaf::Extend(leaf),
+            AnyLeaf::SeptRemove(leaf) => AnyLeaf::SeptRemove(leaf),
+            AnyLeaf::StateTd(leaf) => AnyLeaf::StateTd(leaf),
+            AnyLeaf::PageExport(leaf) => AnyLeaf::PageExport(leaf),
+            AnyLeaf::Report(leaf) => AnyLeaf::Report(leaf),
+            AnyLeaf::ImportTd(leaf) => {
+                let input = given.bundles.get(leaf.slot());
+                AnyLeaf::ImportTd(leaf.with_input(input))
+            }
+            AnyLeaf::PageImport(leaf) => {
+                let input = given.bundles.get(leaf.slot());
+                AnyLeaf::PageImport(leaf.with_input(input))
+            }
+        }
+    }
 
     /// The bundle that it has made, once it has come to its act.
     pub fn bundle(&self) -> Option<Bundle<'_>>
@@ -123,6 +191,7 @@ impl<'a> AnyLeaf<'a> {
     {
         match self {
             AnyLeaf::ByPlan(leaf) => leaf.plan().bundle(leaf.told()),
+            AnyLeaf::ByBundle(_) => None,
             AnyLeaf::Extend(_) => None,
             AnyLeaf::SeptRemove(_) => None,
             AnyLeaf::StateTd(leaf) => leaf.bundle(),
@@ -139,6 +208,7 @@ impl<'a> AnyLeaf<'a> {
     {
         match self {
             AnyLeaf::ByPlan(_) => None,
+            AnyLeaf::ByBundle(_) => None,
             AnyLeaf::Extend(_) => None,
             AnyLeaf::SeptRemove(_) => None,
             AnyLeaf::StateTd(_) => None,
@@ -151,11 +221,21 @@ impl<'a> AnyLeaf<'a> {
 }
 
 // A leaf that goes by that plan, and has done nothing yet.
-fn by_plan<'a>(plan: AnyPlan<'a>) -> AnyLeaf<'a>
-    ensures task { ⟦<AnyLeaf<'a> as Leaf>⟧.task result ≡ plan_task plan.entry }
+fn by_plan<'a>(plan: AnyPlan) -> AnyLeaf<'a>
+    ensures task { ⟦<AnyLeaf<'a> as Leaf>⟧.task result ≡ plan_task plan }
     ensures fresh { let leaf = ⟦<AnyLeaf<'a> as Leaf>⟧ in IsFresh (leaf.task result).tree (leaf.rest result) (leaf.tries result) (leaf.written result) (leaf.waits result) }
+    ensures takes { (g : Inputs) → TakesFrom g result }
 {
     AnyLeaf::ByPlan(Planned::new(plan))
+}
+
+// That by a plan which takes a bundle.
+fn by_bundle<'a>(plan: BundlePlan<'a>) -> AnyLeaf<'a>
+    ensures task { ⟦<AnyLeaf<'a> as Leaf>⟧.task result ≡ bundle_plan_task plan.entry }
+    ensures fresh { let leaf = ⟦<AnyLeaf<'a> as Leaf>⟧ in IsFresh (leaf.task result).tree (leaf.rest result) (leaf.tries result) (leaf.written result) (leaf.waits result) }
+    ensures takes { (g : Inputs) → plan_input plan.entry ≡ g.bundles (plan_slot plan.entry) → TakesFrom g result }
+{
+    AnyLeaf::ByBundle(Planned::new(plan))
 }
 
 /// The leaf of a call at a place, which has done nothing yet, with the bundle of its input slot. That
@@ -170,6 +250,7 @@ pub fn leaf_of<'a>(
     requires room { is_spare spare.old ≡ true }
     ensures task { ⟦<AnyLeaf<'a> as Leaf>⟧.task result ≡ task_of (given_in given.entry) place call.now }
     ensures fresh { let leaf = ⟦<AnyLeaf<'a> as Leaf>⟧ in IsFresh (leaf.task result).tree (leaf.rest result) (leaf.tries result) (leaf.written result) (leaf.waits result) }
+    ensures takes { TakesFrom (given_in given.entry) result }
     ensures room { leaf_room spare.new result ≡ true }
 {
     match *call {
@@ -194,6 +275,7 @@ fn roomless_leaf<'a>(place: Place, call: &Call, given: Given<'a>) -> AnyLeaf<'a>
     requires roomless { is_page_export call.now ≡ false }
     ensures task { ⟦<AnyLeaf<'a> as Leaf>⟧.task result ≡ task_of (given_in given.entry) place call.now }
     ensures fresh { let leaf = ⟦<AnyLeaf<'a> as Leaf>⟧ in IsFresh (leaf.task result).tree (leaf.rest result) (leaf.tries result) (leaf.written result) (leaf.waits result) }
+    ensures takes { TakesFrom (given_in given.entry) result }
 {
     match *call {
         Call::HostRead { page, word } => {
@@ -282,13 +364,10 @@ fn roomless_leaf<'a>(place: Place, call: &Call, given: Given<'a>) -> AnyLeaf<'a>
         Call::ExportStateVp { tdr, vp, slot } => {
             by_plan(AnyPlan::StateVp(StateVp::plan(place, tdr, vp, slot)))
         }
-        Call::ExportAbortByToken { tdr, slot } => by_plan(AnyPlan::AbortByToken(AbortByToken::plan(
-            place,
-            tdr,
-            slot,
-            given.bundles.get(slot),
-        ))),
-        Call::ImportStateImmutable { tdr, slot } => by_plan(AnyPlan::ImportImmutable(
+        Call::ExportAbortByToken { tdr, slot } => by_bundle(BundlePlan::AbortByToken(
+            AbortByToken::plan(place, tdr, slot, given.bundles.get(slot)),
+        )),
+        Call::ImportStateImmutable { tdr, slot } => by_bundle(BundlePlan::ImportImmutable(
             ImportImmutable::plan(place, tdr, slot, given.bundles.get(slot)),
         )),
         Call::ImportMem { tdr, slot, page } => AnyLeaf::PageImport(PageImport::leaf(
@@ -298,7 +377,7 @@ fn roomless_leaf<'a>(place: Place, call: &Call, given: Given<'a>) -> AnyLeaf<'a>
             page,
             given.bundles.get(slot),
         )),
-        Call::ImportTrack { tdr, slot } => by_plan(AnyPlan::ImportToken(ImportToken::plan(
+        Call::ImportTrack { tdr, slot } => by_bundle(BundlePlan::ImportToken(ImportToken::plan(
             place,
             tdr,
             slot,
@@ -310,7 +389,7 @@ fn roomless_leaf<'a>(place: Place, call: &Call, given: Given<'a>) -> AnyLeaf<'a>
             slot,
             given.bundles.get(slot),
         )),
-        Call::ImportStateVp { tdr, vp, slot } => by_plan(AnyPlan::ImportVp(ImportVp::plan(
+        Call::ImportStateVp { tdr, vp, slot } => by_bundle(BundlePlan::ImportVp(ImportVp::plan(
             place,
             tdr,
             vp,
@@ -329,20 +408,20 @@ fn roomless_leaf<'a>(place: Place, call: &Call, given: Given<'a>) -> AnyLeaf<'a>
 /// The leaf of a step of a guest of a virtual processor, at a call line, which has done nothing yet.
 /// The page that a translation or an upper entry names is the machine's; any other is read as page 0.
 /// The word of a secret operation is a given one.
-pub fn step_leaf<'a>(
+pub fn step_leaf(
     place: Place,
-    given: Given<'a>,
+    given: Given<'_>,
     tdr: u16,
     vp: u16,
     line: usize,
     step: Step,
-) -> AnyLeaf<'a>
+) -> AnyLeaf<'static>
     requires machine { IsMachine place.machine }
     requires inside { (tdr < place.machine.pages) × (vp < place.machine.pages) }
     requires limits { IsStepOf (step_seen step) }
-    ensures place { (⟦<AnyLeaf<'a> as Leaf>⟧.task result).place ≡ place }
-    ensures tree { (⟦<AnyLeaf<'a> as Leaf>⟧.task result).tree ≡ (step_task (given_in given.entry) place tdr vp line (step_seen step)).tree }
-    ensures fresh { let leaf = ⟦<AnyLeaf<'a> as Leaf>⟧ in IsFresh (leaf.task result).tree (leaf.rest result) (leaf.tries result) (leaf.written result) (leaf.waits result) }
+    ensures place { (⟦<AnyLeaf<'static> as Leaf>⟧.task result).place ≡ place }
+    ensures tree { (⟦<AnyLeaf<'static> as Leaf>⟧.task result).tree ≡ (step_task (given_in given.entry) place tdr vp line (step_seen step)).tree }
+    ensures fresh { let leaf = ⟦<AnyLeaf<'static> as Leaf>⟧ in IsFresh (leaf.task result).tree (leaf.rest result) (leaf.tries result) (leaf.written result) (leaf.waits result) }
 {
     match step {
         Step::Operates(operation) => operation_leaf(place, given, tdr, vp, line, operation),
@@ -376,19 +455,19 @@ pub fn step_leaf<'a>(
 }
 
 // The leaf of an operation that goes by a row.
-fn operation_leaf<'a>(
+fn operation_leaf(
     place: Place,
-    given: Given<'a>,
+    given: Given<'_>,
     tdr: u16,
     vp: u16,
     line: usize,
     operation: GuestOp,
-) -> AnyLeaf<'a>
+) -> AnyLeaf<'static>
     requires machine { IsMachine place.machine }
     requires inside { (tdr < place.machine.pages) × (vp < place.machine.pages) }
     requires limits { IsOperation operation }
-    ensures task { ⟦<AnyLeaf<'a> as Leaf>⟧.task result ≡ operation_task (given_in given.entry) place tdr vp line operation }
-    ensures fresh { let leaf = ⟦<AnyLeaf<'a> as Leaf>⟧ in IsFresh (leaf.task result).tree (leaf.rest result) (leaf.tries result) (leaf.written result) (leaf.waits result) }
+    ensures task { ⟦<AnyLeaf<'static> as Leaf>⟧.task result ≡ operation_task (given_in given.entry) place tdr vp line operation }
+    ensures fresh { let leaf = ⟦<AnyLeaf<'static> as Leaf>⟧ in IsFresh (leaf.task result).tree (leaf.rest result) (leaf.tries result) (leaf.written result) (leaf.waits result) }
 {
     match operation {
         GuestOp::Set { register, value } => {

@@ -1,4 +1,4 @@
-//! The plan of each call, and of each step of a guest, that goes by one.
+//! The plan of each call, and of each step of a guest, that goes by one and takes no bundle.
 
 ghost use Rattle.std.specs.Prelude.{◌≡◌};
 ghost use Rattle.bundles.specs.Made.{made_in};
@@ -13,8 +13,7 @@ use export_core::{Abort, BlockW, Pause, Restore, StreamCreate, UnblockW};
 use export_sessions::Immutable;
 use export_states::StateVp;
 use export_tokens::Token;
-use import_core::{AbortByToken, Commit, ImportAbort, ImportEnd, ImportToken};
-use import_states::{ImportImmutable, ImportVp};
+use import_core::{Commit, ImportAbort, ImportEnd};
 use key_table::{CacheWb, FlushDone, FreeId, Reclaim};
 use leaf_engine::{Act, Hand, Plan, Stop, Told, Verdict, Write};
 use mem_build::{PageAdd, PageAug, SeptAdd, SeptRd};
@@ -23,9 +22,9 @@ use relocate_core::PageRelocate;
 use td_control::{AddCx, Create, Finalize, Init, KeyConfig, Rd};
 use vcpu_control::{Enter, Exit, VpCreate, VpFlush, VpInit};
 
-/// A plan of any call that is built, or of any step of a guest.
+/// A plan of any call that is built and takes no bundle, or of any step of a guest.
 #[derive(Drop)]
-pub enum AnyPlan<'a> {
+pub enum AnyPlan {
     HostRead(HostRead),
     HostWrite(HostWrite),
     Rdmd(Rdmd),
@@ -60,13 +59,9 @@ pub enum AnyPlan<'a> {
     Immutable(Immutable),
     Token(Token),
     StateVp(StateVp),
-    ImportToken(ImportToken<'a>),
-    AbortByToken(AbortByToken<'a>),
     Commit(Commit),
     ImportEnd(ImportEnd),
     ImportAbort(ImportAbort),
-    ImportImmutable(ImportImmutable<'a>),
-    ImportVp(ImportVp<'a>),
     Enter(Enter),
     Exit(Exit),
     Set(Set),
@@ -81,7 +76,7 @@ pub enum AnyPlan<'a> {
     WalkLoad(WalkLoad),
 }
 
-impl<'a> Plan for AnyPlan<'a> {
+impl Plan for AnyPlan {
     ghost use Rattle.leaf_table.specs.Plans.{plan_task, plan_changes, plan_shown, plans-mean};
 
     ghost task = { λ p. plan_task p };
@@ -126,13 +121,9 @@ impl<'a> Plan for AnyPlan<'a> {
             AnyPlan::Immutable(plan) => plan.decide(told),
             AnyPlan::Token(plan) => plan.decide(told),
             AnyPlan::StateVp(plan) => plan.decide(told),
-            AnyPlan::ImportToken(plan) => plan.decide(told),
-            AnyPlan::AbortByToken(plan) => plan.decide(told),
             AnyPlan::Commit(plan) => plan.decide(told),
             AnyPlan::ImportEnd(plan) => plan.decide(told),
             AnyPlan::ImportAbort(plan) => plan.decide(told),
-            AnyPlan::ImportImmutable(plan) => plan.decide(told),
-            AnyPlan::ImportVp(plan) => plan.decide(told),
             AnyPlan::Enter(plan) => plan.decide(told),
             AnyPlan::Exit(plan) => plan.decide(told),
             AnyPlan::Set(plan) => plan.decide(told),
@@ -184,13 +175,9 @@ impl<'a> Plan for AnyPlan<'a> {
             AnyPlan::Immutable(plan) => plan.write(act, told, number, hand),
             AnyPlan::Token(plan) => plan.write(act, told, number, hand),
             AnyPlan::StateVp(plan) => plan.write(act, told, number, hand),
-            AnyPlan::ImportToken(plan) => plan.write(act, told, number, hand),
-            AnyPlan::AbortByToken(plan) => plan.write(act, told, number, hand),
             AnyPlan::Commit(plan) => plan.write(act, told, number, hand),
             AnyPlan::ImportEnd(plan) => plan.write(act, told, number, hand),
             AnyPlan::ImportAbort(plan) => plan.write(act, told, number, hand),
-            AnyPlan::ImportImmutable(plan) => plan.write(act, told, number, hand),
-            AnyPlan::ImportVp(plan) => plan.write(act, told, number, hand),
             AnyPlan::Enter(plan) => plan.write(act, told, number, hand),
             AnyPlan::Exit(plan) => plan.write(act, told, number, hand),
             AnyPlan::Set(plan) => plan.write(act, told, number, hand),
@@ -209,7 +196,7 @@ impl<'a> Plan for AnyPlan<'a> {
     ghost means = { plans-mean };
 }
 
-impl<'a> AnyPlan<'a> {
+impl AnyPlan {
     ghost use Rattle.leaf_table.specs.Plans.{plan_task};
 
     /// The bundle that it makes, where these words have brought it to its act.

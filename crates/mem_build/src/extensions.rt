@@ -92,6 +92,10 @@ impl Leaf for Extend {
 
     ghost tries = { λ l. 32 - length l.told.items };
 
+    ghost Origin = { Unit {0} };
+
+    ghost origin = { λ l. tt };
+
     fn need(&mut self) -> Need {
         match self.chunk {
             Some(chunk) => {

@@ -96,6 +96,10 @@ impl Leaf for SeptRemove {
 
     ghost tries = { λ l. 15 - length l.told.items + (4 - length l.later.items) };
 
+    ghost Origin = { Unit {0} };
+
+    ghost origin = { λ l. tt };
+
     fn need(&mut self) -> Need {
         match self.table {
             Some(table) => match self.used {

@@ -1,16 +1,18 @@
-use Rattle.std.proofs.Common.{length, List, None, refl, sym, subst, arith}
+use Rattle.std.proofs.Common.{length, List, Option, None, refl, sym, subst, arith}
 use Rattle.td_words.specs.declared.machines.Machine.{Machine}
 use Rattle.flat_core.specs.World.{Made}
 use Rattle.leaf_engine.specs.Turns.{Standing}
 use Rattle.leaf_engine.specs.OwnLists.{running}
 use Rattle.leaf_table.specs.Ends.{Ends, call_ends}
 use Rattle.leaf_dispatch.specs.BundleRooms.{count_of, words_of, payload_words}
-use Rattle.leaf_dispatch.specs.Running.{run_seen, made_in_run, IsKept, RunTurned}
+use Rattle.leaf_dispatch.specs.Running.{run_seen, made_in_run, TakesIts, IsKept, RunTurned}
+use Rattle.leaf_dispatch.specs.declared.running.Running.{Running}
 use Rattle.leaf_table.specs.Given.{given_in}
 use Rattle.leaf_table.specs.Table.{task_of}
 use Rattle.leaf_dispatch.proofs.Keeping.{can-turn-at, run-turned}
 use Rattle.leaf_dispatch.proofs.Making.{counts_bundles, counts_words, call-room, call-facts}
 use Rattle.leaf_dispatch.proofs.PageRooms.{turned-room}
+use Rattle.leaf_dispatch.proofs.Taking.{takes-turned}
 use Rattle.leaf_dispatch.proofs.running.turn_call_run.Goals as goal
 
 pub turn_kept-made-requires : goal.turn_kept-made-requires
@@ -47,3 +49,8 @@ returns-clause-turned g c =
           (run-turned (g.B.Bench.did c.args.bench.now) c.turn_kept-made.new.bench _ e s c.begin_where_none.new.kept c.turn_kept-made.new.kept c.leave_call.new.kept c.leave_call.new.turn c.turn_kept-made.result made None k c.turn_kept-made.ensures.turned c.leave_call.ensures.turn
           c.leave_call.ensures.act refl (call-facts (g.B.Bench.did c.args.bench.now) c.turn_kept-made.new.bench _ (given_in c.args.given) c.args.place c.args.call.now s c.begin_where_none.new.kept c.turn_kept-made.new.kept c.turn_kept-made.result k c.turn_kept-made.ensures.turned) c.leave_call.ensures.kept),
     )
+
+pub returns-clause-takes : goal.returns-clause-takes
+returns-clause-takes g c =
+    subst (λ (k : Option Running). TakesIts (given_in c.args.given) k) (sym c.leave_call.ensures.kept)
+    (takes-turned (g.B.Bench.did c.args.bench.now) _ (given_in c.args.given) c.begin_where_none.new.kept c.turn_kept-made.new.kept c.turn_kept-made.new.bench c.turn_kept-made.result c.begin_where_none.ensures.takes c.turn_kept-made.ensures.turned)

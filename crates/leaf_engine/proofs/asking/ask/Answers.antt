@@ -19,4 +19,5 @@ loop-name-preserved g c =
       ready = search rules;
       tries = search rules;
       same = search rules;
+      origin = search rules;
     }

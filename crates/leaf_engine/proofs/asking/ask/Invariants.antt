@@ -10,6 +10,7 @@ invariant-loop-name g l = record {
   ready : g.L.Leaf.waits l.leaf ≡ false;
   tries : g.L.Leaf.tries l.leaf ≤ g.L.Leaf.tries l.initial.leaf;
   same : (g.B.Bench.machine l.bench ≡ g.B.Bench.machine l.initial.bench) × (g.L.Leaf.task l.leaf ≡ g.L.Leaf.task l.initial.leaf) × (g.L.Leaf.written l.leaf ≡ g.L.Leaf.written l.initial.leaf);
+  origin : g.L.Leaf.origin l.leaf ≡ g.L.Leaf.origin l.initial.leaf;
 }
 
 abbrev pub decreases-loop-name : goal.decreases-loop-name

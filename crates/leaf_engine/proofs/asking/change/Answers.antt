@@ -19,6 +19,7 @@ loop-write-preserved g c =
       fits = search rules;
       tries = search rules;
       same = search rules;
+      origin = search rules;
     }
 
 pub returns-clause-changed : goal.returns-clause-changed

@@ -14,6 +14,7 @@ invariant-loop-write g l = record {
   fits : (g.L.Leaf.task l.leaf).place.machine ≡ g.B.Bench.machine l.bench;
   tries : g.L.Leaf.tries l.leaf ≤ g.L.Leaf.tries l.initial.leaf;
   same : (g.B.Bench.machine l.bench ≡ g.B.Bench.machine l.initial.bench) × (g.L.Leaf.task l.leaf ≡ g.L.Leaf.task l.initial.leaf) × (g.L.Leaf.rest l.leaf ≡ g.L.Leaf.rest l.initial.leaf) × (g.L.Leaf.waits l.leaf ≡ g.L.Leaf.waits l.initial.leaf);
+  origin : g.L.Leaf.origin l.leaf ≡ g.L.Leaf.origin l.initial.leaf;
 }
 
 abbrev pub decreases-loop-write : goal.decreases-loop-write

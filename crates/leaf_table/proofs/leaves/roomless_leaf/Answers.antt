@@ -1,5 +1,6 @@
 use Rattle.std.proofs.Common.{◌∙◌, Option, sym, ap}
 use Rattle.flat_core.specs.Opening.{Incoming}
+use Rattle.incoming.specs.Arrivals.{at_slot}
 use Rattle.import_core.specs.TokenTrees.{import_token_task}
 use Rattle.import_core.specs.TokenAbortTrees.{abort_by_token_task}
 use Rattle.import_pages.specs.PageImportTrees.{page_import_task}
@@ -85,11 +86,11 @@ returns-in-ExportStateTd-clause-task c = c.leaf-in-ExportStateTd.ensures.task �
 
 pub returns-in-ExportAbortByToken-clause-task : goal.returns-in-ExportAbortByToken-clause-task
 returns-in-ExportAbortByToken-clause-task c =
-    c.by_plan-in-ExportAbortByToken.ensures.task ∙ c.plan-in-ExportAbortByToken.ensures ∙ ap (λ (b : Option Incoming). abort_by_token_task c.args.place b c.in-ExportAbortByToken.tdr c.in-ExportAbortByToken.slot) c.get.ensures ∙ sym (ap (task_of (given_in c.args.given) c.args.place) c.in-ExportAbortByToken.is)
+    c.by_bundle.ensures.task ∙ c.plan-in-ExportAbortByToken.ensures.task ∙ ap (λ (b : Option Incoming). abort_by_token_task c.args.place b c.in-ExportAbortByToken.tdr c.in-ExportAbortByToken.slot) c.get.ensures ∙ sym (ap (task_of (given_in c.args.given) c.args.place) c.in-ExportAbortByToken.is)
 
 pub returns-in-ImportStateImmutable-clause-task : goal.returns-in-ImportStateImmutable-clause-task
 returns-in-ImportStateImmutable-clause-task c =
-    c.by_plan-in-ImportStateImmutable.ensures.task ∙ c.plan-in-ImportStateImmutable.ensures ∙ ap (λ (b : Option Incoming). import_immutable_task c.args.place b c.in-ImportStateImmutable.tdr c.in-ImportStateImmutable.slot) c.get-in-ImportStateImmutable.ensures ∙ sym (ap (task_of (given_in c.args.given) c.args.place) c.in-ImportStateImmutable.is)
+    c.by_bundle-in-ImportStateImmutable.ensures.task ∙ c.plan-in-ImportStateImmutable.ensures.task ∙ ap (λ (b : Option Incoming). import_immutable_task c.args.place b c.in-ImportStateImmutable.tdr c.in-ImportStateImmutable.slot) c.get-in-ImportStateImmutable.ensures ∙ sym (ap (task_of (given_in c.args.given) c.args.place) c.in-ImportStateImmutable.is)
 
 pub returns-in-ImportMem-clause-task : goal.returns-in-ImportMem-clause-task
 returns-in-ImportMem-clause-task c =
@@ -97,7 +98,7 @@ returns-in-ImportMem-clause-task c =
 
 pub returns-in-ImportTrack-clause-task : goal.returns-in-ImportTrack-clause-task
 returns-in-ImportTrack-clause-task c =
-    c.by_plan-in-ImportTrack.ensures.task ∙ c.plan-in-ImportTrack.ensures ∙ ap (λ (b : Option Incoming). import_token_task c.args.place b c.in-ImportTrack.tdr c.in-ImportTrack.slot) c.get-in-ImportTrack.ensures ∙ sym (ap (task_of (given_in c.args.given) c.args.place) c.in-ImportTrack.is)
+    c.by_bundle-in-ImportTrack.ensures.task ∙ c.plan-in-ImportTrack.ensures.task ∙ ap (λ (b : Option Incoming). import_token_task c.args.place b c.in-ImportTrack.tdr c.in-ImportTrack.slot) c.get-in-ImportTrack.ensures ∙ sym (ap (task_of (given_in c.args.given) c.args.place) c.in-ImportTrack.is)
 
 pub returns-in-ImportStateTd-clause-task : goal.returns-in-ImportStateTd-clause-task
 returns-in-ImportStateTd-clause-task c =
@@ -105,8 +106,30 @@ returns-in-ImportStateTd-clause-task c =
 
 pub returns-in-ImportStateVp-clause-task : goal.returns-in-ImportStateVp-clause-task
 returns-in-ImportStateVp-clause-task c =
-    c.by_plan-in-ImportStateVp.ensures.task ∙ c.plan-in-ImportStateVp.ensures ∙ ap (λ (b : Option Incoming). import_vp_task c.args.place b c.in-ImportStateVp.tdr c.in-ImportStateVp.vp c.in-ImportStateVp.slot) c.get-in-ImportStateVp.ensures ∙ sym (ap (task_of (given_in c.args.given) c.args.place) c.in-ImportStateVp.is)
+    c.by_bundle-in-ImportStateVp.ensures.task ∙ c.plan-in-ImportStateVp.ensures.task ∙ ap (λ (b : Option Incoming). import_vp_task c.args.place b c.in-ImportStateVp.tdr c.in-ImportStateVp.vp c.in-ImportStateVp.slot) c.get-in-ImportStateVp.ensures ∙ sym (ap (task_of (given_in c.args.given) c.args.place) c.in-ImportStateVp.is)
 
 pub returns-in-ImportAbort-clause-task : goal.returns-in-ImportAbort-clause-task
 returns-in-ImportAbort-clause-task c =
     c.by_plan-in-ImportAbort.ensures.task ∙ c.plan-in-ImportAbort.ensures ∙ sym (ap (task_of (given_in c.args.given) c.args.place) c.in-ImportAbort.is)
+
+pub returns-in-ExportAbortByToken-clause-takes : goal.returns-in-ExportAbortByToken-clause-takes
+returns-in-ExportAbortByToken-clause-takes c =
+    c.by_bundle.ensures.takes (given_in c.args.given) (c.plan-in-ExportAbortByToken.ensures.input.1 ∙ c.get.ensures ∙ sym (ap (at_slot c.args.given.bundles.now) c.plan-in-ExportAbortByToken.ensures.input.0))
+
+pub returns-in-ImportStateImmutable-clause-takes : goal.returns-in-ImportStateImmutable-clause-takes
+returns-in-ImportStateImmutable-clause-takes c =
+    c.by_bundle-in-ImportStateImmutable.ensures.takes (given_in c.args.given) (c.plan-in-ImportStateImmutable.ensures.input.1 ∙ c.get-in-ImportStateImmutable.ensures ∙ sym (ap (at_slot c.args.given.bundles.now) c.plan-in-ImportStateImmutable.ensures.input.0))
+
+pub returns-in-ImportTrack-clause-takes : goal.returns-in-ImportTrack-clause-takes
+returns-in-ImportTrack-clause-takes c =
+    c.by_bundle-in-ImportTrack.ensures.takes (given_in c.args.given) (c.plan-in-ImportTrack.ensures.input.1 ∙ c.get-in-ImportTrack.ensures ∙ sym (ap (at_slot c.args.given.bundles.now) c.plan-in-ImportTrack.ensures.input.0))
+
+pub returns-in-ImportStateVp-clause-takes : goal.returns-in-ImportStateVp-clause-takes
+returns-in-ImportStateVp-clause-takes c =
+    c.by_bundle-in-ImportStateVp.ensures.takes (given_in c.args.given) (c.plan-in-ImportStateVp.ensures.input.1 ∙ c.get-in-ImportStateVp.ensures ∙ sym (ap (at_slot c.args.given.bundles.now) c.plan-in-ImportStateVp.ensures.input.0))
+
+pub returns-in-ImportMem-clause-takes : goal.returns-in-ImportMem-clause-takes
+returns-in-ImportMem-clause-takes c = c.leaf-in-ImportMem.ensures.input.1 ∙ c.get-in-ImportMem.ensures ∙ sym (ap (at_slot c.args.given.bundles.now) c.leaf-in-ImportMem.ensures.input.0)
+
+pub returns-in-ImportStateTd-clause-takes : goal.returns-in-ImportStateTd-clause-takes
+returns-in-ImportStateTd-clause-takes c = c.leaf-in-ImportStateTd.ensures.input.1 ∙ c.get-in-ImportStateTd.ensures ∙ sym (ap (at_slot c.args.given.bundles.now) c.leaf-in-ImportStateTd.ensures.input.0)

@@ -2,7 +2,7 @@ use Rattle.std.proofs.Common.{◌∙◌, ap, sym}
 use Rattle.leaf_engine.specs.Trees.{answer_of}
 use Rattle.leaf_table.specs.declared.leaves.AnyLeaf.{AnyLeaf}
 use Rattle.leaf_table.specs.Leaves.{leaf_seen}
-use Rattle.leaf_table.proofs.NoBundles.{extend-bare, sept-bare, import_td-bare, page_import-bare, report-unmade}
+use Rattle.leaf_table.proofs.NoBundles.{bundle_plans-bare, extend-bare, sept-bare, import_td-bare, page_import-bare, report-unmade}
 use Rattle.leaf_table.proofs.leaves.AnyLeaf.bundle.Goals as goal
 
 pub returns-in-Extend : goal.returns-in-Extend
@@ -29,3 +29,8 @@ pub returns-in-Report : goal.returns-in-Report
 returns-in-Report c =
     let l = c.in-Report.field-0 in
     sym (ap (λ (z : AnyLeaf). (answer_of (leaf_seen z).rest).bundles) c.in-Report.is ∙ report-unmade l.place l.tdr l.vp l.line l.told.items)
+
+pub returns-in-ByBundle : goal.returns-in-ByBundle
+returns-in-ByBundle c =
+    let l = c.in-ByBundle.field-0 in
+    sym (ap (λ (z : AnyLeaf). (answer_of (leaf_seen z).rest).bundles) c.in-ByBundle.is ∙ (bundle_plans-bare l.plan l.told.items).0)

@@ -3,7 +3,7 @@ use Rattle.leaf_engine.specs.Besides.{reported}
 use Rattle.leaf_engine.specs.Trees.{answer_of}
 use Rattle.leaf_table.specs.declared.leaves.AnyLeaf.{AnyLeaf}
 use Rattle.leaf_table.specs.Leaves.{leaf_seen}
-use Rattle.leaf_table.proofs.NoBundles.{plans-quiet, extend-bare, sept-bare, state_td-quiet, page_export-quiet, import_td-bare, page_import-bare}
+use Rattle.leaf_table.proofs.NoBundles.{plans-quiet, bundle_plans-bare, extend-bare, sept-bare, state_td-quiet, page_export-quiet, import_td-bare, page_import-bare}
 use Rattle.leaf_table.proofs.leaves.AnyLeaf.facts.Goals as goal
 
 pub returns-in-ByPlan : goal.returns-in-ByPlan
@@ -40,3 +40,8 @@ pub returns-in-PageImport : goal.returns-in-PageImport
 returns-in-PageImport c =
     let l = c.in-PageImport.field-0 in
     sym (ap (λ (z : AnyLeaf). reported (answer_of (leaf_seen z).rest).notes) c.in-PageImport.is ∙ (page_import-bare l.place l.input l.tdr l.slot l.page l.importing l.told.items).1)
+
+pub returns-in-ByBundle : goal.returns-in-ByBundle
+returns-in-ByBundle c =
+    let l = c.in-ByBundle.field-0 in
+    sym (ap (λ (z : AnyLeaf). reported (answer_of (leaf_seen z).rest).notes) c.in-ByBundle.is ∙ (bundle_plans-bare l.plan l.told.items).1)

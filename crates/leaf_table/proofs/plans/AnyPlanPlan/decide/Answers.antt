@@ -51,12 +51,6 @@ returns-in-Restore-clause-decides c = rw (c.in-Restore.is) c.decide-in-Restore.e
 pub returns-in-Immutable-clause-decides : goal.returns-in-Immutable-clause-decides
 returns-in-Immutable-clause-decides c = rw (c.in-Immutable.is) c.decide-in-Immutable.ensures.decides
 
-pub returns-in-ImportToken-clause-decides : goal.returns-in-ImportToken-clause-decides
-returns-in-ImportToken-clause-decides c = rw (c.in-ImportToken.is) c.decide-in-ImportToken.ensures.decides
-
-pub returns-in-AbortByToken-clause-decides : goal.returns-in-AbortByToken-clause-decides
-returns-in-AbortByToken-clause-decides c = rw (c.in-AbortByToken.is) c.decide-in-AbortByToken.ensures.decides
-
 pub returns-in-Commit-clause-decides : goal.returns-in-Commit-clause-decides
 returns-in-Commit-clause-decides c = rw (c.in-Commit.is) c.decide-in-Commit.ensures.decides
 
@@ -65,9 +59,3 @@ returns-in-ImportEnd-clause-decides c = rw (c.in-ImportEnd.is) c.decide-in-Impor
 
 pub returns-in-ImportAbort-clause-decides : goal.returns-in-ImportAbort-clause-decides
 returns-in-ImportAbort-clause-decides c = rw (c.in-ImportAbort.is) c.decide-in-ImportAbort.ensures.decides
-
-pub returns-in-ImportImmutable-clause-decides : goal.returns-in-ImportImmutable-clause-decides
-returns-in-ImportImmutable-clause-decides c = rw (c.in-ImportImmutable.is) c.decide-in-ImportImmutable.ensures.decides
-
-pub returns-in-ImportVp-clause-decides : goal.returns-in-ImportVp-clause-decides
-returns-in-ImportVp-clause-decides c = rw (c.in-ImportVp.is) c.decide-in-ImportVp.ensures.decides
