@@ -1,6 +1,5 @@
 pub mod Codes
 pub mod Notes
-pub mod Turning
 pub mod Places
 pub mod Making
 pub mod Replayed

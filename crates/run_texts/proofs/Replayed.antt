@@ -58,7 +58,7 @@ use Rattle.run_texts.specs.Looking.{IsNext, Looked, GoesOn, Goes, ended_behind}
 use Rattle.run_texts.specs.declared.replay.Texts.{Texts}
 use Rattle.run_texts.proofs.Codes.{codes-of}
 use Rattle.run_texts.proofs.Making.{fit-run, moved-there}
-use Rattle.run_texts.proofs.Turning.{made_by, one-event, merge-more, order-more}
+use Rattle.explore_turns.proofs.Turning.{made_by, one-event, merge-more, order-more}
 use Rattle.run_texts.proofs.EndedRuns.{shown-first, shown-next}
 use Rattle.run_texts.proofs.Places.{seen-at, seen-own, seen-other, place-at, given-at, codes-at, numbered-set, first-count, first-numbered, first-seen, first-more}
 
