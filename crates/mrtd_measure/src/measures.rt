@@ -53,14 +53,23 @@ impl Measure {
         self.hasher.update(chunk);
     }
 
-    /// The SHA-384 of the records so far.
-    pub fn digest(&self) -> [u8; 48]
-        ensures { (m : List ℕ) → Holds384 self.now m → result ≡ sha384 m }
+    /// Another measure with the same records.
+    pub fn copy(&self) -> Measure
+        ensures { result ≡ self.now }
     {
         let Ok(hasher) = self.hasher.clone() else {
             unreachable!()
         };
-        hasher.finalize()
+        Measure {
+            hasher,
+        }
+    }
+
+    /// The SHA-384 of the records so far.
+    pub fn digest(&self) -> [u8; 48]
+        ensures { (m : List ℕ) → Holds384 self.now m → result ≡ sha384 m }
+    {
+        self.copy().finish()
     }
 
     /// MRTD: the SHA-384 of all records.

@@ -12,8 +12,10 @@ fn digests_are_those_of_another_program(rt: HostRuntime) -> Result<(), Fail> {
     let mut built = Measure::new();
     built.add_page(0x1000);
     built.extend_chunk(0x1100, &[7; 256]);
+    let other = built.copy();
+    built.add_page(0x2000);
     assert_eq!(rt;
-        built.finish().encode_hex(rt.alloc())?.as_str(),
+        other.finish().encode_hex(rt.alloc())?.as_str(),
         "06c6bf4132a7cff92569c3a3bbb6e1ace7ee4ffb781fe6a632f030c101ff8fdab40b6fc1db82131453bd062eb4dc857c"
     );
     let next = rtmr_next(&[0; 48], &[1; 48]);
