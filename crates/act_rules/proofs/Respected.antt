@@ -25,6 +25,7 @@ use Rattle.word_rules.specs.Lines.{Line, At, Run, in_lines}
 use Rattle.word_rules.specs.Spots.{Spot, spot, slot_of, slot_spot, runs_in, page_spot, control_class, root_class, or_unused, tdr_classes, tdcs_classes, vp_classes, stream_classes, is_current, is_at_end, is_empty, entry_class, entry_named}
 use Rattle.word_rules.specs.Cells.{one_of_parity, entered_of_parity}
 use Rattle.word_rules.specs.Permissions.{MayAt, Moves, Respects}
+use Rattle.word_rules.proofs.Conflicts.{respects-compose}
 use Rattle.act_rules.specs.Acts.{SameTd, SameWords, HoldsTd, EffectsRespect}
 
 -- a page's words, from what tells of its TD and of its node
@@ -82,11 +83,6 @@ words-same w w' s (Word p i) =
 
 pub leaves : (g : Grip) (w w' : World) → SameWords w w' → ((h : ℕ) → key_owner (w'.key_table.keys h) ≡ key_owner (w.key_table.keys h)) → w'.tds.lives ≡ w.tds.lives → Respects g w w'
 leaves g w w' s k l = record { word = λ q. inl (words-same w w' s q); slot = λ h. inl (ap slot_of (k h)); life = λ t. inl (ap (λ (f : ℕ → LifeState). f t) l) }
-
--- what changes of one TD alone leaves the other TDs
-
-same-td : (w : World) (t : ℕ) → SameTd w w t
-same-td w t = record { op = refl; controls = refl; epoch = refl; empty = λ b. refl; named = λ n. refl }
 
 -- an entry
 
@@ -508,6 +504,58 @@ enter-moved g w m me t v la own h = record {
 
 pub all-same : (w w' : World) → w'.pages ≡ w.pages → ((t : ℕ) → SameTd w w' t) → SameWords w w'
 all-same w w' e s = record { kinds = λ j. (e j).kinds; owners = λ j. (e j).owners; levels = λ j. (e j).levels; numbers = λ j. (e j).numbers; tds = s }
+
+-- all that tells what words are, of every page and TD
+pub record Spotted : Type 0 where
+  pub kinds : ℕ → PageKind
+  pub owners : ℕ → ℕ
+  pub levels : ℕ → ℕ
+  pub numbers : ℕ → ℕ
+  pub lives : ℕ → LifeState
+  pub ops : ℕ → OpState
+  pub controls : ℕ → List ℕ
+  pub epochs : ℕ → ℕ
+  pub entries : ℕ → ℕ → ℕ → Entry
+  pub vps : ℕ → List ℕ
+  pub entered : ℕ → Option ℕ
+  pub keys : ℕ → Option ℕ
+
+abbrev pub spotted : World → Spotted
+spotted w = record {
+  kinds = w.pages.kinds;
+  owners = w.pages.owners;
+  levels = w.pages.levels;
+  numbers = w.pages.numbers;
+  lives = w.tds.lives;
+  ops = w.tds.ops;
+  controls = w.tds.controls;
+  epochs = w.tds.epochs;
+  entries = w.tds.entries;
+  vps = w.tds.vps;
+  entered = w.vps.entered;
+  keys = λ h. key_owner (w.key_table.keys h);
+}
+
+-- an act that leaves all of that; and one behind another
+pub leaves-all : (g : Grip) (w w' : World) → spotted w' ≡ spotted w → Respects g w w'
+leaves-all g w w' e = leaves g w w'
+    (record {
+      kinds = ap (λ (z : Spotted). z.kinds) e;
+      owners = ap (λ (z : Spotted). z.owners) e;
+      levels = ap (λ (z : Spotted). z.levels) e;
+      numbers = ap (λ (z : Spotted). z.numbers) e;
+      tds = λ u. record {
+        op = ap (λ (z : Spotted). z.ops u) e;
+        controls = ap (λ (z : Spotted). z.controls u) e;
+        epoch = ap (λ (z : Spotted). z.epochs u) e;
+        empty = λ b. ap (λ (z : Spotted). is_at_end (z.lives u) || entered_of_parity b z.entered (z.vps u) == 0) e;
+        named = λ n. ap (λ (z : Spotted). named_by (z.entries u 0 n)) e;
+      };
+    })
+    (λ h. ap (λ (z : Spotted). z.keys h) e) (ap (λ (z : Spotted). z.lives) e)
+
+pub then-leaves : (g : Grip) (w w1 w2 : World) → spotted w2 ≡ spotted w1 → Respects g w w1 → Respects g w w2
+then-leaves g w w1 w2 e before = respects-compose.both g w w1 w2 before (leaves-all g w1 w2 e)
 
 key-moved : (g : Grip) (w : World) (h : ℕ) (k : Key) → (key_owner k ≡ key_owner (w.key_table.keys h)) ⊎ MayAt g (slot_spot w h) moves → Respects g w (set_key h k w)
 key-moved g w h k m = record {

@@ -1,5 +1,5 @@
 -- The act of each row changes what words are only as the rules say.
-use Rattle.std.proofs.Common.{◌≡◌, ◌⊎◌, refl, sym, ◌∙◌, ap, subst, inl, inr, ℕ, zero, suc, ◌+◌, ◌%◌, ◌^◌, List, [], ◌∷◌, ◌++◌, length, map, Bool, true, false, not, ◌==◌, nat_lt, arith}
+use Rattle.std.proofs.Common.{◌≡◌, ◌⊎◌, refl, sym, ◌∙◌, ap, subst, inl, inr, ℕ, zero, suc, ◌+◌, List, [], ◌∷◌, ◌++◌, length, map, Bool, true, false, not, ◌==◌, nat_lt, arith}
 use Rattle.std.specs.Prelude.{Option, Some, None}
 use Rattle.std.proofs.lemmas.Bool.{eq-eqb, eqb-true, ne_eqb, not-true, and_parts}
 use Rattle.std.proofs.lemmas.Bool.Decides.{nat_tests}
@@ -10,7 +10,6 @@ use Rattle.td_words.specs.declared.names.LifeState.{LifeState}
 use Rattle.td_words.specs.declared.names.LifeState.TheVariants as life
 use Rattle.td_words.specs.declared.names.OpState.{OpState}
 use Rattle.td_words.specs.declared.names.OpState.TheVariants as op
-use Rattle.td_words.specs.declared.names.VcpuState.TheVariants as vcpu
 use Rattle.td_words.specs.declared.names.EntryState.{EntryState}
 use Rattle.td_words.specs.declared.names.EntryState.TheVariants as entry
 use Rattle.td_words.specs.declared.replies.Reply.{Reply}
@@ -19,27 +18,26 @@ use Rattle.td_words.specs.declared.refusals.Status.TheVariants.{EptWalkFailed}
 use Rattle.td_words.specs.declared.machines.Machine.{Machine}
 use Rattle.td_words.specs.Packing.{Entry, Key as KeyState, Unassigned, AssignedTo, FlushedOf}
 use Rattle.td_words.specs.Place.{WordPlace, Lock, Pamt, Word, Key}
-use Rattle.flat_core.specs.World.{World, ClearHeader, put, free_entry}
+use Rattle.flat_core.specs.World.{World, put, free_entry}
 use Rattle.flat_core.specs.Processor.{OfPage, OfOp, OfTree, OfKeys}
 use Rattle.flat_core.specs.Opening.{Incoming}
 use Rattle.flat_core.specs.Lawful.{Lawful, ArePagesOf, key_owner, is_free}
 use Rattle.flat_core.specs.Row.{Item, Check, Try, Passes}
 use Rattle.flat_core.specs.Conditions.{same_kind, is_host, is_host_in, is_free_key}
-use Rattle.flat_core.specs.Effects.{set_word, take_node, take_page, set_entry, restate, block_page, unmap_page, end_memory, end_association, clear_page, give_back, end_memory_in, set_key, set_life, set_op, set_epoch, set_register, set_vp_state, begin_measurement, measure, end_measurement, begin_memory, set_page, map_page, write_back, written_back}
+use Rattle.flat_core.specs.Effects.{take_node, take_page, set_entry, restate, unmap_page, end_memory, clear_page, give_back, end_memory_in, set_key, set_life, set_op, set_epoch, measure, begin_memory, set_page, map_page, write_back, written_back}
 use Rattle.flat_core.specs.TdRows.{create, add_tdcx}
 use Rattle.flat_core.specs.KeyRows.{reclaim_conditions}
 use Rattle.flat_core.specs.VpRows.{create_vp}
 use Rattle.flat_core.specs.Tree.{is_passed, page_of_gpa, number_at, entry_at, empty_below, levels_above}
 use Rattle.flat_core.specs.Tracking.{tracked_page}
 use Rattle.flat_core.specs.MemRows.{removed_states, unblocked_state, move_page}
-use Rattle.flat_core.specs.ExportRows.{add_stream, write_blocked, count_dirt, count_restored, note_pause}
-use Rattle.flat_core.specs.Digests.{six_words}
-use Rattle.flat_core.specs.Sessions.{bundles_so_far, payload_words, About, about, make_bundle, begin_session, set_mig_epoch, count_bundle, count_export, note_td_export, note_vp_export}
+use Rattle.flat_core.specs.ExportRows.{add_stream, write_blocked}
+use Rattle.flat_core.specs.Sessions.{make_bundle, count_bundle}
 use Rattle.flat_core.specs.PageLists.{page_count, count_argument, pages_argument, Arrival, arrivals}
 use Rattle.flat_core.specs.Arguments.{apart_argument}
 use Rattle.flat_core.specs.Inputs.{Input, input_in, input_row, tag_holds}
-use Rattle.flat_core.specs.ImportRows.{begin_import, import_immutable, page_to_fill, page_filled, pages_to_fill, fill_page, take_in, take_each, list_says, import_conditions, import_pages, is_start, op_then, import_token, give_rtmrs, import_td, give_vp_state, import_vp, note_commit, commit_import, abort_import}
-use Rattle.flat_core.specs.BundleRows.{start_epoch, track_export, token_kind, token_epoch, export_immutable, export_page, export_pages, export_token, export_td, export_vp}
+use Rattle.flat_core.specs.ImportRows.{page_to_fill, page_filled, pages_to_fill, fill_page, take_in, take_each, list_says, import_conditions, import_pages, is_start, op_then}
+use Rattle.flat_core.specs.BundleRows.{export_immutable, export_page, export_pages, export_token}
 use Rattle.flat_core.proofs.PageLists.{AreAbove, AreApart, arrivals_apart, MayTake, AllMayTake, still_take, locked_first}
 use Rattle.flat_core.proofs.BundleKeeps.{pages_exported}
 use Rattle.flat_core.proofs.ImportKeeps.{TakePassed, take_passed}
@@ -56,8 +54,8 @@ use Rattle.word_rules.specs.Spots.{spot, slot_spot, slot_of, page_spot, control_
 use Rattle.word_rules.specs.Permissions.{MayAt, Moves, Respects}
 use Rattle.word_rules.specs.CallUses.{HoldsTries}
 use Rattle.word_rules.proofs.Conflicts.{respects-compose}
-use Rattle.act_rules.specs.Acts.{SameTd, HoldsTd, RowsRespect}
-use Rattle.act_rules.proofs.Respected.{page-same, page-as, control-same, leaves, all-same, host-moves, at-end, effects-respect}
+use Rattle.act_rules.specs.Acts.{HoldsTd, RowsRespect}
+use Rattle.act_rules.proofs.Respected.{page-same, page-as, control-same, leaves, all-same, host-moves, at-end, leaves-all, then-leaves, spotted, effects-respect}
 
 owned : (k : PageKind) → (same_kind k kind.Nda ≡ true) ⊎ (same_kind k kind.Nda ≡ false)
 owned kind.Nda = inl refl
@@ -110,12 +108,6 @@ module _ (m : Machine) (g : Grip) (w : World) (t h : ℕ) (la : Lawful m w) (hos
     slot = λ x. by_test (x == h) (λ y. let is : x ≡ h = eqb-true x h y in inr (subst (λ (z : ℕ). MayAt g (slot_spot w z) moves) (sym is) free-slot)) (λ n. inl (rw n refl));
     life = λ u. by_test (u == t) (λ y. let is : u ≡ t = eqb-true u t y in inr (rw is page)) (λ n. inl (rw n refl));
   }
-
-stays : (g : Grip) (w : World) → Respects g w w
-stays g w = record { word = λ q. inl refl; slot = λ h. inl refl; life = λ t. inl refl }
-
-written : (g : Grip) (w : World) (p i v : ℕ) → Respects g w (set_word p i v w)
-written g w p i v = leaves g w (set_word p i v w) (all-same w (set_word p i v w) refl (λ u. record { op = refl; controls = refl; epoch = refl; empty = λ b. refl; named = λ n. refl })) (λ h. refl) refl
 
 -- PHYMEM.CACHE.WB: keys stay their TDs'
 marked : (k : KeyState) → key_owner (written_back k) ≡ key_owner k
@@ -205,23 +197,14 @@ module _ (m : Machine) (g : Grip) (w : World) (t p : ℕ) (la : Lawful m w) (hos
 
 -- acts of more words than one
 module _ (g : Grip) (w : World) where
-  -- an act that leaves what words are, before or after another
-  abbrev same-td : (w w' : World) (u : ℕ) → w'.tds.ops u ≡ w.tds.ops u → w'.tds.controls u ≡ w.tds.controls u → w'.tds.epochs u ≡ w.tds.epochs u → ((b : ℕ) → is_empty w' u b ≡ is_empty w u b)
-      → ((n : ℕ) → named_by (w'.tds.entries u 0 n) ≡ named_by (w.tds.entries u 0 n)) → SameTd w w' u
-  same-td _ _ _ a b c d e = record { op = a; controls = b; epoch = c; empty = d; named = e }
-
   -- PHYMEM.PAGE.RECLAIM
   given-back : (t p : ℕ) → is_host w p ≡ false → w.pages.owners p ≡ t → g.has (Locked (OfPage t)) ≡ true → g.sole (Locked (OfPage t)) ≡ true → g.sole (Locked (OfPage p)) ≡ true → Respects g w (give_back p (end_memory_in t p w))
   given-back t p no-host is has alone own =
       let w1 : World = end_memory_in t p w in
       let w2 : World = take_node p kind.Nda 0 0 0 w1 in
-      let w3 : World = clear_page p w2 in
-      let a : Respects g w w1 = leaves g w w1 (all-same w w1 refl (λ u. same-td w w1 u refl refl refl (λ b. refl) (λ n. refl))) (λ h. refl) refl in
       let has' : g.has (Locked (OfPage (w1.pages.owners p))) ≡ true = subst (λ (x : ℕ). g.has (Locked (OfPage x)) ≡ true) (sym is) has in
       let alone' : g.sole (Locked (OfPage (w1.pages.owners p))) ≡ true = subst (λ (x : ℕ). g.sole (Locked (OfPage x)) ≡ true) (sym is) alone in
-      let b : Respects g w1 w2 = (effects-respect g w1).reclaimed p kind.Nda 0 0 0 no-host has' alone' own in
-      let c : Respects g w2 w3 = leaves g w2 w3 (all-same w2 w3 refl (λ u. same-td w2 w3 u refl refl refl (λ b. refl) (λ n. refl))) (λ h. refl) refl in
-      respects-compose.both g w w2 w3 (respects-compose.both g w w1 w2 a b) c
+      then-leaves g w w2 (clear_page p w2) refl (respects-compose.both g w w1 w2 (leaves-all g w w1 refl) ((effects-respect g w1).reclaimed p kind.Nda 0 0 0 no-host has' alone' own))
 
   reclaimed : (m : Machine) (t p : ℕ) (b : Bool) → (p == t) ≡ b → Lawful m w → w.pages.kinds t ≡ kind.Tdr → g.has (Locked (OfPage t)) ≡ true → g.sole (Locked (OfPage t)) ≡ true
       → Passes (reclaim_conditions w t p b) → HoldsTries g (reclaim_conditions w t p b) → Respects g w (give_back p (end_memory_in t p w))
@@ -232,24 +215,6 @@ module _ (g : Grip) (w : World) where
   reclaimed m t p false e la root has alone ps h =
       given-back t p (not-true (is_host w p) (and_parts (not (is_host w p)) (w.pages.owners p == t) ps.0).0) (eqb-true _ t (and_parts (not (is_host w p)) (w.pages.owners p == t) ps.0).1) has alone h.0.1
 
-  -- MNG.INIT
-  initialized : (t : ℕ) → g.has (Locked (OfPage t)) ≡ true → g.sole (Locked (OfOp t)) ≡ true → Respects g w (begin_measurement t (set_epoch t 1 (set_op t op.Initialized w)))
-  initialized t has alone =
-      let w1 : World = set_op t op.Initialized w in
-      let w2 : World = set_epoch t 1 w1 in
-      let w3 : World = begin_measurement t w2 in
-      let a : Respects g w w1 = (effects-respect g w).op t op.Initialized has alone in
-      let b : Respects g w1 w2 = (effects-respect g w1).epoch_op t 1 has alone in
-      let c : Respects g w2 w3 = leaves g w2 w3 (all-same w2 w3 refl (λ u. same-td w2 w3 u refl refl refl (λ b. refl) (λ n. refl))) (λ h. refl) refl in
-      respects-compose.both g w w2 w3 (respects-compose.both g w w1 w2 a b) c
-
-  -- MR.FINALIZE
-  finalized : (t : ℕ) → g.has (Locked (OfPage t)) ≡ true → g.sole (Locked (OfOp t)) ≡ true → Respects g w (set_op t op.Runnable (end_measurement t w))
-  finalized t has alone =
-      let w1 : World = end_measurement t w in
-      let a : Respects g w w1 = leaves g w w1 (all-same w w1 refl (λ u. same-td w w1 u refl refl refl (λ b. refl) (λ n. refl))) (λ h. refl) refl in
-      respects-compose.both g w w1 (set_op t op.Runnable w1) a ((effects-respect g w1).op t op.Runnable has alone)
-
   -- MNG.VPFLUSHDONE and MNG.KEY.FREEID: a life, and the key of the TD's HKID
   ended : (t : ℕ) (s : LifeState) (k : KeyState) → key_owner (w.key_table.keys (w.tds.hkids t)) ≡ Some t → g.has (Locked (OfPage t)) ≡ true → g.sole (Locked (OfPage t)) ≡ true → Respects g w (set_key (w.tds.hkids t) k (set_life t s w))
   ended t s k own has alone =
@@ -257,12 +222,6 @@ module _ (g : Grip) (w : World) where
       let h : ℕ = w.tds.hkids t in
       let may : MayAt g (slot_spot w1 h) moves = subst (λ (x : Option ℕ). MayAt g (slot_of x) moves) (sym own) (inl (alone, tt)) in
       respects-compose.both g w w1 (set_key h k w1) ((effects-respect g w).life t s has alone) ((effects-respect g w1).key h k (inr may))
-
-  -- VP.INIT
-  vp-initialized : (v x : ℕ) → Respects g w (set_register v 0 x (set_vp_state v vcpu.Ready w))
-  vp-initialized v x =
-      let w' : World = set_register v 0 x (set_vp_state v vcpu.Ready w) in
-      leaves g w w' (all-same w w' refl (λ u. same-td w w' u refl refl refl (λ b. refl) (λ n. refl))) (λ h. refl) refl
 
   -- MEM.SEPT.ADD, MEM.PAGE.ADD and MEM.PAGE.AUG: a host page becomes the one that an entry names
   mapped : (p : ℕ) (k : PageKind) (s : EntryState) (t level number : ℕ) → is_host w p ≡ true → g.sole (Locked (OfPage p)) ≡ true → HoldsTd g t → g.sole (Locked (OfTree t)) ≡ true → Respects g w (map_page p k s t level number w)
@@ -275,36 +234,23 @@ module _ (g : Grip) (w : World) where
       → Respects g w (clear_page p (map_page p kind.Ept entry.NlMapped t level (number_at level gpa) w))
   sept-added t gpa level p host own td tree =
       let w1 : World = map_page p kind.Ept entry.NlMapped t level (number_at level gpa) w in
-      let w2 : World = clear_page p w1 in
-      respects-compose.both g w w1 w2 (mapped p kind.Ept entry.NlMapped t level (number_at level gpa) host own td tree)
-      (leaves g w1 w2 (all-same w1 w2 refl (λ u. same-td w1 w2 u refl refl refl (λ b. refl) (λ n. refl))) (λ h. refl) refl)
+      then-leaves g w w1 (clear_page p w1) refl (mapped p kind.Ept entry.NlMapped t level (number_at level gpa) host own td tree)
 
   pub page-added : (t gpa p : ℕ) (ws : ℕ → ℕ) (records : List ℕ) → is_host w p ≡ true → g.sole (Locked (OfPage p)) ≡ true → HoldsTd g t → g.sole (Locked (OfTree t)) ≡ true
       → Respects g w (measure t records (begin_memory t (page_of_gpa gpa) ws (set_page p ws (map_page p kind.Reg entry.Mapped t 0 (number_at 0 gpa) w))))
   page-added t gpa p ws records host own td tree =
       let w1 : World = map_page p kind.Reg entry.Mapped t 0 (number_at 0 gpa) w in
-      let w2 : World = measure t records (begin_memory t (page_of_gpa gpa) ws (set_page p ws w1)) in
-      respects-compose.both g w w1 w2 (mapped p kind.Reg entry.Mapped t 0 (number_at 0 gpa) host own td tree)
-      (leaves g w1 w2 (all-same w1 w2 refl (λ u. same-td w1 w2 u refl refl refl (λ b. refl) (λ n. refl))) (λ h. refl) refl)
+      then-leaves g w w1 (measure t records (begin_memory t (page_of_gpa gpa) ws (set_page p ws w1))) refl (mapped p kind.Reg entry.Mapped t 0 (number_at 0 gpa) host own td tree)
 
   pub page-augmented : (t gpa p : ℕ) → is_host w p ≡ true → g.sole (Locked (OfPage p)) ≡ true → HoldsTd g t → g.sole (Locked (OfTree t)) ≡ true
       → Respects g w (map_page p kind.Reg entry.Pending t 0 (number_at 0 gpa) w)
   page-augmented t gpa p host own td tree = mapped p kind.Reg entry.Pending t 0 (number_at 0 gpa) host own td tree
 
-  -- MEM.RANGE.BLOCK and EXPORT.BLOCKW: the epoch of a block
-  block-noted : (w1 : World) (t p : ℕ) → Respects g w w1 → Respects g w (block_page t p w1)
-  block-noted w1 t p before =
-      let w2 : World = block_page t p w1 in
-      respects-compose.both g w w1 w2 before
-      (leaves g w1 w2 (record { kinds = refl; owners = refl; levels = refl; numbers = refl; tds = λ u. same-td w1 w2 u refl refl refl (λ b. refl) (λ n. refl) }) (λ h. refl) refl)
-
   -- MIG.STREAM.CREATE
   stream-added : (t p : ℕ) → is_host w p ≡ true → g.sole (Locked (OfPage p)) ≡ true → Respects g w (add_stream t p (clear_page p (take_page p kind.Migsc t w)))
   stream-added t p host own =
       let w1 : World = take_page p kind.Migsc t w in
-      let w2 : World = add_stream t p (clear_page p w1) in
-      respects-compose.both g w w1 w2 ((effects-respect g w).taken p kind.Migsc t 0 0 host own)
-      (leaves g w1 w2 (all-same w1 w2 refl (λ u. same-td w1 w2 u refl refl refl (λ b. refl) (λ n. refl))) (λ h. refl) refl)
+      then-leaves g w w1 (add_stream t p (clear_page p w1)) refl ((effects-respect g w).taken p kind.Migsc t 0 0 host own)
 
   -- EXPORT.BLOCKW: an entry in use gets another such state
   blocks-write : (t number : ℕ) → let e : Entry = w.tds.entries t 0 number in Respects g w (restate t number (write_blocked e.state) e.mark w)
@@ -317,96 +263,29 @@ module _ (g : Grip) (w : World) where
       named entry.ExportedDirty p mark = refl
       named _ p mark = refl
 
-  -- EXPORT.UNBLOCKW and EXPORT.RESTORE: an entry's state, and counts
-  counted : (w1 w2 : World) → w2.pages ≡ w1.pages → ((u : ℕ) → SameTd w1 w2 u) → ((h : ℕ) → key_owner (w2.key_table.keys h) ≡ key_owner (w1.key_table.keys h)) → w2.tds.lives ≡ w1.tds.lives → Respects g w w1 → Respects g w w2
-  counted w1 w2 pages tds keys lives before = respects-compose.both g w w1 w2 before (leaves g w1 w2 (all-same w1 w2 pages tds) keys lives)
+  -- acts of another operation state, and of what leaves words as they are
+  op-goes : (t : ℕ) (s : OpState) (w' : World) → spotted w' ≡ spotted (set_op t s w) → g.has (Locked (OfPage t)) ≡ true → g.sole (Locked (OfOp t)) ≡ true → Respects g w w'
+  op-goes t s w' same has alone = then-leaves g w (set_op t s w) w' same ((effects-respect g w).op t s has alone)
 
-  unblocks-write : (t number mark : ℕ) (s : EntryState) (first : Bool) → HoldsTd g t → g.sole (Locked (OfTree t)) ≡ true → Respects g w (count_dirt t first (restate t number s mark w))
-  unblocks-write t number mark s first td tree =
-      let w1 : World = restate t number s mark w in
-      let w2 : World = count_dirt t first w1 in
-      counted w1 w2 refl (λ u. same-td w1 w2 u refl refl refl (λ b. refl) (λ n. refl)) (λ h. refl) refl ((effects-respect g w).entry t 0 number _ td tree)
+  -- and with it TD_EPOCH begins
+  begun-at : (t : ℕ) (s : OpState) (w' : World) → spotted w' ≡ spotted (set_epoch t 1 (set_op t s w)) → g.has (Locked (OfPage t)) ≡ true → g.sole (Locked (OfOp t)) ≡ true → Respects g w w'
+  begun-at t s w' same has alone =
+      let w1 : World = set_op t s w in
+      let w2 : World = set_epoch t 1 w1 in
+      then-leaves g w w2 w' same (respects-compose.both g w w1 w2 ((effects-respect g w).op t s has alone) ((effects-respect g w1).epoch_op t 1 has alone))
 
-  restored : (t number : ℕ) (s : EntryState) → HoldsTd g t → g.sole (Locked (OfTree t)) ≡ true → Respects g w (count_restored t s (restate t number entry.Mapped 0 w))
-  restored t number s td tree =
-      let w1 : World = restate t number entry.Mapped 0 w in
-      let w2 : World = count_restored t s w1 in
-      counted w1 w2 refl (λ u. same-td w1 w2 u refl refl refl (λ b. refl) (λ n. refl)) (λ h. refl) refl ((effects-respect g w).entry t 0 number _ td tree)
-
-  -- EXPORT.PAUSE
-  paused : (t : ℕ) → g.has (Locked (OfPage t)) ≡ true → g.sole (Locked (OfOp t)) ≡ true → Respects g w (set_op t op.PausedExport (note_pause t w))
-  paused t has alone =
-      let w1 : World = note_pause t w in
-      let a : Respects g w w1 = leaves g w w1 (all-same w w1 refl (λ u. same-td w w1 u refl refl refl (λ b. refl) (λ n. refl))) (λ h. refl) refl in
-      respects-compose.both g w w1 (set_op t op.PausedExport w1) a ((effects-respect g w1).op t op.PausedExport has alone)
-
-  -- calls that make a bundle: their streams count it
-  bundled : (t slot : ℕ) (told : About) (payload : List ℕ) (w1 : World) → Respects g w w1 → Respects g w (make_bundle t slot told payload w1)
-  bundled t slot told payload w1 before = let w2 : World = make_bundle t slot told payload w1 in counted w1 w2 refl (λ u. same-td w1 w2 u refl refl refl (λ b. refl) (λ n. refl)) (λ h. refl) refl before
-
-  noted : (w1 : World) → w1.pages ≡ w.pages → ((u : ℕ) → SameTd w w1 u) → ((h : ℕ) → key_owner (w1.key_table.keys h) ≡ key_owner (w.key_table.keys h)) → w1.tds.lives ≡ w.tds.lives → Respects g w w1
-  noted w1 pages tds keys lives = leaves g w w1 (all-same w w1 pages tds) keys lives
-
-  -- EXPORT.STATE.IMMUTABLE
   pub immutable-exported : (m : Machine) (t slot : ℕ) → g.has (Locked (OfPage t)) ≡ true → g.sole (Locked (OfOp t)) ≡ true → Respects g w ((export_immutable m t slot).act w)
-  immutable-exported m t slot has alone =
-      let w1 : World = set_op t op.LiveExport w in
-      let w2 : World = begin_session t w in
-      bundled t slot (record (about 0 1) { info = length (w.tds.vps t) }) (six_words (w.tds.mrtds t)) w2
-      (counted w1 w2 refl (λ u. same-td w1 w2 u refl refl refl (λ b. refl) (λ n. refl)) (λ h. refl) refl ((effects-respect g w).op t op.LiveExport has alone))
+  immutable-exported m t slot has alone = op-goes t op.LiveExport ((export_immutable m t slot).act w) refl has alone
+
+  pub token-exported : (m : Machine) (t slot start : ℕ) → g.has (Locked (OfPage t)) ≡ true → g.sole (Locked (OfOp t)) ≡ true → Respects g w ((export_token m t slot start).act w)
+  token-exported m t slot zero has alone = leaves-all g w ((export_token m t slot zero).act w) refl
+  token-exported m t slot (suc n) has alone = op-goes t op.PostExport ((export_token m t slot (suc n)).act w) refl has alone
 
   -- EXPORT.MEM: each entry in use gets another such state
   page-exported : (t k gpa : ℕ) → is_free (entry_at w t 0 gpa).state ≡ false → Respects g w (export_page t k gpa w)
   page-exported t k gpa used =
-      let e : Entry = entry_at w t 0 gpa in
-      let w1 : World = restate t (number_at 0 gpa) entry.ExportedBlockedW (w.tds.mig_epochs t) w in
-      let w2 : World = count_export t k e.state w1 in
-      let a : Respects g w w1 = (effects-respect g w).entry_state t 0 (number_at 0 gpa) (record { state = entry.ExportedBlockedW; page = e.page; mark = w.tds.mig_epochs t }) (rw used refl) in
-      counted w1 w2 refl (λ u. same-td w1 w2 u refl refl refl (λ b. refl) (λ n. refl)) (λ h. refl) refl a
-
-  -- EXPORT.TRACK
-  epoch-ended : (t e : ℕ) → Respects g w (set_mig_epoch t e w)
-  epoch-ended t e = let w1 : World = set_mig_epoch t e w in noted w1 refl (λ u. same-td w w1 u refl refl refl (λ b. refl) (λ n. refl)) (λ h. refl) refl
-
-  token-tracked : (t start : ℕ) → g.has (Locked (OfPage t)) ≡ true → g.sole (Locked (OfOp t)) ≡ true → Respects g w (track_export t start w)
-  token-tracked t zero has alone = epoch-ended t (w.tds.mig_epochs t + 1)
-  token-tracked t (suc n) has alone =
-      let w1 : World = set_mig_epoch t start_epoch w in
-      respects-compose.both g w w1 (set_op t op.PostExport w1) (epoch-ended t start_epoch) ((effects-respect g w1).op t op.PostExport has alone)
-
-  pub token-exported : (m : Machine) (t slot start : ℕ) → g.has (Locked (OfPage t)) ≡ true → g.sole (Locked (OfOp t)) ≡ true → Respects g w ((export_token m t slot start).act w)
-  token-exported m t slot start has alone =
-      bundled t slot (record (about (token_kind start) (token_epoch w t start)) { total = bundles_so_far w t }) [] (track_export t start w) (token-tracked t start has alone)
-
-  -- EXPORT.STATE.TD
-  pub td-exported : (m : Machine) (t slot : ℕ) → Respects g w ((export_td m t slot).act w)
-  td-exported m t slot =
-      let w1 : World = note_td_export t w in
-      bundled t slot (about 1 (w.tds.mig_epochs t)) (payload_words (w.hidden.rtmrs t) 24) w1 (noted w1 refl (λ u. same-td w w1 u refl refl refl (λ b. refl) (λ n. refl)) (λ h. refl) refl)
-
-  -- EXPORT.STATE.VP
-  pub vp-exported : (m : Machine) (t v slot : ℕ) → Respects g w ((export_vp m t v slot).act w)
-  vp-exported m t v slot =
-      let w1 : World = note_vp_export t v w in
-      bundled t slot (record (about 2 (w.tds.mig_epochs t)) { index = w.vps.indexes v; info = w.vps.positions v % 2 ^ 32 }) (payload_words (w.hidden.registers v) 8) w1
-      (noted w1 refl (λ u. same-td w w1 u refl refl refl (λ b. refl) (λ n. refl)) (λ h. refl) refl)
-
-  -- calls of an import: their streams count the bundle that has come in
-  taken-in : (t k : ℕ) (w1 : World) → Respects g w w1 → Respects g w (count_bundle t k w1)
-  taken-in t k w1 before = let w2 : World = count_bundle t k w1 in counted w1 w2 refl (λ u. same-td w1 w2 u refl refl refl (λ b. refl) (λ n. refl)) (λ h. refl) refl before
-
-  -- an operation state behind what leaves words as they are
-  op-then : (t : ℕ) (s : OpState) (w1 : World) → Respects g w w1 → g.has (Locked (OfPage t)) ≡ true → g.sole (Locked (OfOp t)) ≡ true → Respects g w (set_op t s w1)
-  op-then t s w1 before has alone = respects-compose.both g w w1 (set_op t s w1) before ((effects-respect g w1).op t s has alone)
-
-  -- IMPORT.STATE.IMMUTABLE
-  pub immutable-imported : (m : Machine) (b : Option Incoming) (t slot : ℕ) → g.has (Locked (OfPage t)) ≡ true → g.sole (Locked (OfOp t)) ≡ true → Respects g w ((import_immutable m b t slot).act w)
-  immutable-imported m b t slot has alone =
-      let w1 : World = set_op t op.MemoryImport w in
-      let w2 : World = set_epoch t 1 w1 in
-      let w3 : World = begin_import t (input_in b) w in
-      let a : Respects g w w2 = respects-compose.both g w w1 w2 ((effects-respect g w).op t op.MemoryImport has alone) ((effects-respect g w1).epoch_op t 1 has alone) in
-      taken-in t 0 w3 (counted w2 w3 refl (λ u. same-td w2 w3 u refl refl refl (λ c. refl) (λ n. refl)) (λ h. refl) refl a)
+      let e : Entry = record { state = entry.ExportedBlockedW; page = (entry_at w t 0 gpa).page; mark = w.tds.mig_epochs t } in
+      then-leaves g w (set_entry t 0 (number_at 0 gpa) e w) (export_page t k gpa w) refl ((effects-respect g w).entry_state t 0 (number_at 0 gpa) e (rw used refl))
 
   -- IMPORT.MEM: a host page becomes the one that the entry names, or words of a page are stored
   filled : (t gpa p : ℕ) (ws : ℕ → ℕ) (s : EntryState) → (s ≡ entry.Free → is_host w p ≡ true) → (s ≡ entry.Free → g.sole (Locked (OfPage p)) ≡ true)
@@ -414,58 +293,15 @@ module _ (g : Grip) (w : World) where
       → Respects g w (fill_page t gpa p ws s w)
   filled t gpa p ws entry.Free host own td tree =
       let w1 : World = map_page p kind.Reg entry.Mapped t 0 (number_at 0 gpa) w in
-      let w2 : World = set_page p ws w1 in
-      counted w1 w2 refl (λ u. same-td w1 w2 u refl refl refl (λ b. refl) (λ n. refl)) (λ k. refl) refl
-      (mapped p kind.Reg entry.Mapped t 0 (number_at 0 gpa) (host refl) (own refl) td tree)
-  filled t gpa p ws _ host own td tree = let w1 : World = set_page (entry_at w t 0 gpa).page ws w in noted w1 refl
-      (λ u. same-td w w1 u refl refl refl (λ b. refl) (λ n. refl)) (λ k. refl) refl
+      then-leaves g w w1 (set_page p ws w1) refl (mapped p kind.Reg entry.Mapped t 0 (number_at 0 gpa) (host refl) (own refl) td tree)
+  filled t gpa p ws _ host own td tree = leaves-all g w (set_page (entry_at w t 0 gpa).page ws w) refl
 
   page-taken : (t : ℕ) (locked : List ℕ) (a : Arrival) → MayTake w t locked a
       → ((entry_at w t 0 a.gpa).state ≡ entry.Free → g.sole (Locked (OfPage a.page)) ≡ true) → HoldsTd g t → g.sole (Locked (OfTree t)) ≡ true
       → Respects g w (take_in t a w)
   page-taken t locked a may own td tree =
-      let w1 : World = fill_page t a.gpa a.page a.words (entry_at w t 0 a.gpa).state w in
-      let w2 : World = take_in t a w in
-      counted w1 w2 refl (λ u. same-td w1 w2 u refl refl refl (λ c. refl) (λ n. refl)) (λ k. refl) refl
+      then-leaves g w (fill_page t a.gpa a.page a.words (entry_at w t 0 a.gpa).state w) (take_in t a w) refl
       (filled t a.gpa a.page a.words (entry_at w t 0 a.gpa).state may.host own td tree)
-
-  -- IMPORT.TRACK
-  pub token-imported : (m : Machine) (b : Option Incoming) (t slot : ℕ) → g.has (Locked (OfPage t)) ≡ true → g.sole (Locked (OfOp t)) ≡ true → Respects g w ((import_token m b t slot).act w)
-  token-imported m b t slot has alone =
-      let h : ClearHeader = (input_in b).header in
-      let w1 : World = set_mig_epoch t h.epoch w in
-      let s : OpState = op_then (is_start h) (w.tds.ops t) in
-      taken-in t 0 (set_op t s w1) (op-then t s w1 (epoch-ended t h.epoch) has alone)
-
-  -- IMPORT.STATE.TD
-  pub td-imported : (m : Machine) (b : Option Incoming) (t slot : ℕ) → g.has (Locked (OfPage t)) ≡ true → g.sole (Locked (OfOp t)) ≡ true → Respects g w ((import_td m b t slot).act w)
-  td-imported m b t slot has alone =
-      let w1 : World = give_rtmrs t (input_in b).words w in
-      taken-in t 0 (set_op t op.StateImport w1) (op-then t op.StateImport w1 (noted w1 refl (λ u. same-td w w1 u refl refl refl (λ c. refl) (λ n. refl)) (λ k. refl) refl) has alone)
-
-  -- IMPORT.STATE.VP
-  pub vp-imported : (m : Machine) (b : Option Incoming) (t v slot : ℕ) → Respects g w ((import_vp m b t v slot).act w)
-  vp-imported m b t v slot =
-      let x : Input = input_in b in
-      let w1 : World = give_vp_state v x.header.info x.words w in
-      taken-in t 0 w1 (noted w1 refl (λ u. same-td w w1 u refl refl refl (λ c. refl) (λ n. refl)) (λ k. refl) refl)
-
-  -- IMPORT.COMMIT
-  pub committed : (m : Machine) (t : ℕ) → g.has (Locked (OfPage t)) ≡ true → g.sole (Locked (OfOp t)) ≡ true → Respects g w ((commit_import m t).act w)
-  committed m t has alone =
-      let w1 : World = note_commit t w in
-      op-then t op.LiveImport w1 (noted w1 refl (λ u. same-td w w1 u refl refl refl (λ b. refl) (λ n. refl)) (λ k. refl) refl) has alone
-
-  -- IMPORT.ABORT
-  pub import-aborted : (m : Machine) (t slot : ℕ) → g.has (Locked (OfPage t)) ≡ true → g.sole (Locked (OfOp t)) ≡ true → Respects g w ((abort_import m t slot).act w)
-  import-aborted m t slot has alone =
-      let w1 : World = set_op t op.FailedImport w in
-      let w2 : World = (abort_import m t slot).act w in
-      counted w1 w2 refl (λ u. same-td w1 w2 u refl refl refl (λ b. refl) (λ n. refl)) (λ k. refl) refl ((effects-respect g w).op t op.FailedImport has alone)
-
-  -- VP.FLUSH
-  flushed : (v : ℕ) → Respects g w (end_association v w)
-  flushed v = let w' : World = end_association v w in leaves g w w' (all-same w w' refl (λ u. same-td w w' u refl refl refl (λ b. refl) (λ n. refl))) (λ h. refl) refl
 
   -- MEM.PAGE.REMOVE and MEM.SEPT.REMOVE: the words of a page that an entry names, which is held alone with its TD's tree
   node-moves : (t p level i : ℕ) → w.pages.kinds p ≡ kind_named level → w.pages.owners p ≡ t → HoldsTd g t → g.sole (Locked (OfTree t)) ≡ true → g.sole (Locked (OfPage p)) ≡ true → Moves g w (Word p i)
@@ -486,15 +322,9 @@ module _ (g : Grip) (w : World) where
       let p : ℕ = (w.tds.entries t level number).page in
       let w1 : World = take_node p kind.Nda 0 0 0 w in
       let w2 : World = set_entry t level number free_entry w1 in
-      let w3 : World = clear_page p w2 in
       let a : Respects g w w1 = (effects-respect g w).page p kind.Nda 0 0 0 (λ i. node-moves t p level i k o td tree own) in
       let b : Respects g w1 w2 = (effects-respect g w1).entry t level number free_entry td tree in
-      let c : Respects g w2 w3 = leaves g w2 w3 (all-same w2 w3 refl (λ u. same-td w2 w3 u refl refl refl (λ b. refl) (λ n. refl))) (λ h. refl) refl in
-      respects-compose.both g w w2 w3 (respects-compose.both g w w1 w2 a b) c
-
-  -- MR.EXTEND
-  pub measured : (t : ℕ) (records : List ℕ) → Respects g w (measure t records w)
-  measured t records = let w' : World = measure t records w in leaves g w w' (all-same w w' refl (λ u. same-td w w' u refl refl refl (λ b. refl) (λ n. refl))) (λ h. refl) refl
+      then-leaves g w w2 (clear_page p w2) refl (respects-compose.both g w w1 w2 a b)
 
 -- a walk is conditions alone
 held-behind : (g : Grip) (b : ℕ → Bool) (r : ℕ → Reply) (ls : List ℕ) (items : List (Item Reply)) → HoldsTries g (map (λ l. Check (b l) (r l)) ls ++ items) → HoldsTries g items
@@ -505,8 +335,7 @@ pub page-unmapped : (g : Grip) (w : World) (t gpa : ℕ) → w.pages.kinds (entr
     → g.sole (Locked (OfPage (entry_at w t 0 gpa).page)) ≡ true → Respects g w (unmap_page t 0 (number_at 0 gpa) (end_memory t (page_of_gpa gpa) w))
 page-unmapped g w t gpa k o td tree own =
     let w1 : World = end_memory t (page_of_gpa gpa) w in
-    let a : Respects g w w1 = leaves g w w1 (all-same w w1 refl (λ u. record { op = refl; controls = refl; epoch = refl; empty = λ b. refl; named = λ n. refl })) (λ h. refl) refl in
-    respects-compose.both g w w1 (unmap_page t 0 (number_at 0 gpa) w1) a (unmapped g w1 t 0 (number_at 0 gpa) k o td tree own)
+    respects-compose.both g w w1 (unmap_page t 0 (number_at 0 gpa) w1) (leaves-all g w w1 refl) (unmapped g w1 t 0 (number_at 0 gpa) k o td tree own)
 
 -- MEM.PAGE.RELOCATE: the page leaves the map, and another one enters it
 pub page-moved-on : (g : Grip) (w : World) (t gpa page : ℕ) → w.pages.kinds (entry_at w t 0 gpa).page ≡ kind.Reg → w.pages.owners (entry_at w t 0 gpa).page ≡ t → (page == (entry_at w t 0 gpa).page) ≡ false → is_host w page ≡ true
@@ -514,10 +343,9 @@ pub page-moved-on : (g : Grip) (w : World) (t gpa page : ℕ) → w.pages.kinds 
 page-moved-on g w t gpa page k o other host td tree own new =
     let w1 : World = unmap_page t 0 (number_at 0 gpa) w in
     let w2 : World = map_page page kind.Reg (unblocked_state (entry_at w t 0 gpa).state) t 0 (number_at 0 gpa) w1 in
-    let w3 : World = move_page t (number_at 0 gpa) page w in
     let a : Respects g w w1 = unmapped g w t 0 (number_at 0 gpa) k o td tree own in
     let b : Respects g w1 w2 = mapped g w1 page kind.Reg (unblocked_state (entry_at w t 0 gpa).state) t 0 (number_at 0 gpa) (rw other host) new td tree in
-    respects-compose.both g w w2 w3 (respects-compose.both g w w1 w2 a b) (leaves g w2 w3 (all-same w2 w3 refl (λ u. record { op = refl; controls = refl; epoch = refl; empty = λ z. refl; named = λ z. refl })) (λ z. refl) refl)
+    then-leaves g w w2 (move_page t (number_at 0 gpa) page w) refl (respects-compose.both g w w1 w2 a b)
 
 -- IMPORT.MEM, page after page: the lock of each page that is taken for a FREE entry is held alone
 tries-behind : (g : Grip) (xs ys : List (Item Reply)) → HoldsTries g (xs ++ ys) → HoldsTries g ys
@@ -573,7 +401,7 @@ pages-taken g t td tree (a ∷ pages) w locked apart may h =
 pages-sent : (g : Grip) (w : World) (m : Machine) (t gpa k slot : ℕ) (count : Option ℕ) → Lawful m w → Passes ((export_pages m t gpa k slot count).items w)
     → Respects g w ((export_pages m t gpa k slot count).act w)
 pages-sent g w m t gpa k slot count la ps =
-    (pages_exported m w t gpa k slot count la ps (λ n v. Respects g w v) (λ a words n e. bundled g w t slot a words w (stays g w))
+    (pages_exported m w t gpa k slot count la ps (λ n v. Respects g w v) (λ a words n e. leaves-all g w (make_bundle t slot a words w) refl)
     (λ n v q may before ok. respects-compose.both g w v (export_page t k q v) before
     (page-exported g v t k q (can_export (v.tds.ops t) (entry_at v t 0 q).state ok).used))).1
 
@@ -588,14 +416,11 @@ pages-imported g w m b t slot page count ps h =
     (tries-behind g (pages_argument m 4 page t count) said
     (tries-behind g (count_argument 4 count) (apart_argument 3 page t ∷ (pages_argument m 4 page t count ++ said)) h)) in
     let p : TakePassed m x w t page count = take_passed m b w t slot page count ps in
-    taken-in g w t x.header.stream (take_each t pages w)
+    then-leaves g w (take_each t pages w) (count_bundle t x.header.stream (take_each t pages w)) refl
     (pages-taken g t (record { tdr = k.0; op = k.1.0 }) k.1.1.0.1 pages w [] (arrivals_apart x.header.gpa page x.words (page_count count)) p.pages
     (holds-fills g w t pages [] (tag_holds x ∷ []) k.1.1.1))
 
 pub rows-respect : RowsRespect
-rows-respect o me (call.HostRead page word) g w la ps h = stays g w
-rows-respect o me (call.HostWrite page word value) g w la ps h = written g w page word value
-rows-respect o me (call.PhymemPageRdmd page) g w la ps h = stays g w
 rows-respect o me call.PhymemCacheWb g w la ps h = cached-back g w
 rows-respect o me (call.PhymemPageReclaim tdr page) g w la ps h =
     reclaimed g w o.machine tdr page (page == tdr) refl la (tdr_kind (w.pages.kinds tdr) (search)) h.0.0 h.0.1 (search) h.1
@@ -603,27 +428,22 @@ rows-respect o me (call.MngCreate tdr hkid) g w la ps h =
     created o.machine g w tdr hkid la (host_kind (w.pages.kinds tdr) (search)) (free-owner (w.key_table.keys hkid) (search)) h.0.1 h.1.0.1
 rows-respect o me (call.MngKeyConfig tdr) g w la ps h = (effects-respect g w).life tdr life.KeysConfigured h.0.0 h.0.1
 rows-respect o me (call.MngAddcx tdr page) g w la ps h = tdcx-added o.machine g w tdr page la (host_kind (w.pages.kinds page) (search)) (search) h.1.0.1
-rows-respect o me (call.MngInit tdr) g w la ps h = initialized g w tdr h.0 h.1.0.1
-rows-respect o me (call.MngRd tdr field) g w la ps h = stays g w
+rows-respect o me (call.MngInit tdr) g w la ps h = begun-at g w tdr op.Initialized _ refl h.0 h.1.0.1
 rows-respect o me (call.MngVpflushdone tdr) g w la ps h =
     ended g w tdr life.Blocked (FlushedOf tdr false) (la.keys.owner tdr (record { kind = tdr_kind (w.pages.kinds tdr) (search); life = live_of (life.HkidAssigned ∷ life.KeysConfigured ∷ []) (w.tds.lives tdr) refl (search) })) h.0.0 h.0.1
 rows-respect o me (call.MngKeyFreeid tdr) g w la ps h =
     ended g w tdr life.Teardown Unassigned (la.keys.owner tdr (record { kind = tdr_kind (w.pages.kinds tdr) (search); life = live_of (life.Blocked ∷ []) (w.tds.lives tdr) refl (search) })) h.0.0 h.0.1
-rows-respect o me (call.MrFinalize tdr) g w la ps h = finalized g w tdr h.0 h.1.0.1
+rows-respect o me (call.MrFinalize tdr) g w la ps h = op-goes g w tdr op.Runnable _ refl h.0 h.1.0.1
 rows-respect o me (call.VpCreate tdr page) g w la ps h =
     vp-added o.machine g w tdr page la (host_kind (w.pages.kinds page) (search)) (search)
-rows-respect o me (call.VpInit tdr vp value) g w la ps h = vp-initialized g w vp value
 rows-respect o me (call.VpEnter tdr vp most) g w la ps h =
     (effects-respect g w).enter o.machine me tdr vp la (vp_of w tdr vp (search)).owner h.0
-rows-respect o me (call.MrExtend tdr gpa) g w la ps h = measured g w tdr _
 rows-respect o me (call.MemSeptAdd tdr gpa level page) g w la ps h =
     let held = held-behind g (is_passed w tdr gpa) (λ l. Refused (EptWalkFailed l)) (levels_above level) _ h.1.1.1 in
     sept-added g w tdr gpa level page (sept_passed o.machine w tdr gpa level page ps).host held.0.1 (search) (search)
-rows-respect o me (call.MemSeptRd tdr gpa level) g w la ps h = stays g w
-rows-respect o me (call.VpFlush tdr vp) g w la ps h = flushed g w vp
 rows-respect o me (call.MemTrack tdr) g w la ps h = (effects-respect g w).epoch tdr (w.tds.epochs tdr + 1) (search) (search)
 rows-respect o me (call.MemRangeBlock tdr gpa level) g w la ps h =
-    block-noted g w _ tdr (entry_at w tdr level gpa).page ((effects-respect g w).entry tdr level (number_at level gpa) _ (search) (search))
+    then-leaves g w _ _ refl ((effects-respect g w).entry tdr level (number_at level gpa) _ (search) (search))
 rows-respect o me (call.MemRangeUnblock tdr gpa level) g w la ps h = (effects-respect g w).entry tdr level (number_at level gpa) _ (search) (search)
 rows-respect o me (call.MemPageRemove tdr gpa) g w la ps h =
     let rest = tracked_page w tdr (entry_at w tdr 0 gpa).page ∷ [] in
@@ -645,22 +465,20 @@ rows-respect o me (call.MemPageAdd tdr gpa page source) g w la ps h =
 rows-respect o me (call.MemPageAug tdr gpa page) g w la ps h =
     page-augmented g w tdr gpa page (search) (search) (search) (search)
 rows-respect o me (call.MigStreamCreate tdr page) g w la ps h = stream-added g w tdr page (search) (search)
-rows-respect o me (call.ExportBlockw tdr gpa) g w la ps h = block-noted g w _ tdr (entry_at w tdr 0 gpa).page (blocks-write g w tdr (number_at 0 gpa))
-rows-respect o me (call.ExportUnblockw tdr gpa) g w la ps h = unblocks-write g w tdr (number_at 0 gpa) _ _ _ (search) (search)
-rows-respect o me (call.ExportPause tdr) g w la ps h = paused g w tdr h.0 h.1.0.1
+rows-respect o me (call.ExportBlockw tdr gpa) g w la ps h = then-leaves g w _ _ refl (blocks-write g w tdr (number_at 0 gpa))
+rows-respect o me (call.ExportUnblockw tdr gpa) g w la ps h = then-leaves g w _ _ refl ((effects-respect g w).entry tdr 0 (number_at 0 gpa) _ (search) (search))
+rows-respect o me (call.ExportPause tdr) g w la ps h = op-goes g w tdr op.PausedExport _ refl h.0 h.1.0.1
 rows-respect o me (call.ExportAbort tdr) g w la ps h = (effects-respect g w).op tdr op.Runnable h.0 h.1.0.1
-rows-respect o me (call.ExportRestore tdr gpa) g w la ps h = restored g w tdr (number_at 0 gpa) (entry_at w tdr 0 gpa).state (search) (search)
+rows-respect o me (call.ExportRestore tdr gpa) g w la ps h = then-leaves g w _ _ refl ((effects-respect g w).entry tdr 0 (number_at 0 gpa) _ (search) (search))
 rows-respect o me (call.ExportStateImmutable tdr slot) g w la ps h = immutable-exported g w o.machine tdr slot h.0 h.1.0.1
 rows-respect o me (call.ExportMem tdr gpa stream slot) g w la ps h = pages-sent g w o.machine tdr gpa stream slot None la ps
 rows-respect o me (call.ExportTrack tdr slot start) g w la ps h = token-exported g w o.machine tdr slot start h.0 h.1.0.1
-rows-respect o me (call.ExportStateTd tdr slot) g w la ps h = td-exported g w o.machine tdr slot
-rows-respect o me (call.ExportStateVp tdr vp slot) g w la ps h = vp-exported g w o.machine tdr vp slot
 rows-respect o me (call.ExportAbortByToken tdr slot) g w la ps h = (effects-respect g w).op tdr op.Runnable h.0 h.1.0.1
-rows-respect o me (call.ImportStateImmutable tdr slot) g w la ps h = immutable-imported g w o.machine (o.bundles slot) tdr slot h.0 h.1.0.1
+rows-respect o me (call.ImportStateImmutable tdr slot) g w la ps h = begun-at g w tdr op.MemoryImport _ refl h.0 h.1.0.1
 rows-respect o me (call.ImportMem tdr slot page) g w la ps h = pages-imported g w o.machine (o.bundles slot) tdr slot page None ps h
-rows-respect o me (call.ImportTrack tdr slot) g w la ps h = token-imported g w o.machine (o.bundles slot) tdr slot h.0 h.1.0.1
-rows-respect o me (call.ImportStateTd tdr slot) g w la ps h = td-imported g w o.machine (o.bundles slot) tdr slot h.0 h.1.0.1
-rows-respect o me (call.ImportStateVp tdr vp slot) g w la ps h = vp-imported g w o.machine (o.bundles slot) tdr vp slot
-rows-respect o me (call.ImportCommit tdr) g w la ps h = committed g w o.machine tdr h.0 h.1.0.1
+rows-respect o me (call.ImportTrack tdr slot) g w la ps h = op-goes g w tdr (op_then (is_start (input_in (o.bundles slot)).header) (w.tds.ops tdr)) _ refl h.0 h.1.0.1
+rows-respect o me (call.ImportStateTd tdr slot) g w la ps h = op-goes g w tdr op.StateImport _ refl h.0 h.1.0.1
+rows-respect o me (call.ImportCommit tdr) g w la ps h = op-goes g w tdr op.LiveImport _ refl h.0 h.1.0.1
 rows-respect o me (call.ImportEnd tdr) g w la ps h = (effects-respect g w).op tdr op.Runnable h.0 h.1.0.1
-rows-respect o me (call.ImportAbort tdr slot) g w la ps h = import-aborted g w o.machine tdr slot h.0 h.1.0.1
+rows-respect o me (call.ImportAbort tdr slot) g w la ps h = op-goes g w tdr op.FailedImport _ refl h.0 h.1.0.1
+rows-respect o me c g w la ps h = leaves-all g w _ refl
