@@ -34,9 +34,9 @@ use Rattle.flat_core.proofs.Keeps.{row-keeps, first-lawful}
 use Rattle.flat_core.proofs.Induction.{counts_stay, play_append}
 use Rattle.flat_core.proofs.Ends.{drop_next}
 use Rattle.flat_alone.specs.Whole.{first_fault, reply_unless, world_unless, row_reply, row_world, replies_of, world_of, lines_at_once, world_at_once, EnterNone, CallsEnterNone, EachCallAtOnce, EndsInTheirWorld}
-use Rattle.flat_alone.proofs.Free.{shared_for, FreeTries, other_page, free_reclaim, free_read, free_walk, free_checks, apart_false, apart_named, free_named, has_use, free_opened}
+use Rattle.flat_alone.proofs.Free.{shared_for, FreeTries, free_by, other_page, free_reclaim, free_read, free_walk, free_checks, apart_false, apart_named, free_named, has_use, free_opened}
 use Rattle.flat_alone.proofs.PagesFree.{export_pages-free, import_pages-free}
-use Rattle.flat_alone.proofs.ImportFree.{import_immutable-free, import_token-free, import_td-free, import_vp-free, commit_import-free, end_import-free, abort_import-free, abort_by_token-free}
+use Rattle.flat_alone.proofs.ImportFree.{import_vp-free}
 
 -- it holds no lock, and is being refused none
 pub record Quiet (lp : Lp) : Type 0 where
@@ -68,24 +68,13 @@ nothing_cached o p (call.HostRead page word) w e = refl
 nothing_cached o p _ w e = refl
 
 free_row : (o : Opening) (p : ℕ) (c : Call) (w : World) → Lawful o.machine w → FreeTries [] ((row_of o p c).items w)
-free_row o p (call.HostRead page word) w la = λ a b. (refl, refl, tt)
-free_row o p (call.HostWrite page word value) w la = λ a b. (refl, refl, λ d. tt)
-free_row o p (call.PhymemPageRdmd page) w la = λ a. (refl, refl, tt)
-free_row o p call.PhymemCacheWb w la = (refl, refl, tt)
 free_row o p (call.PhymemPageReclaim tdr page) w la = λ a b. (refl, refl, λ d e. free_reclaim w tdr page (page == tdr) refl)
-free_row o p (call.MngCreate tdr hkid) w la = λ a b. (refl, refl, λ d. (refl, refl, λ e. tt))
-free_row o p (call.MngKeyConfig tdr) w la = λ a. (refl, refl, λ b d. tt)
 free_row o p (call.MngAddcx tdr page) w la = λ a b apart. (refl, refl, λ d e f. let n : (tdr == page) ≡ false = other_page page tdr apart in (rw n refl, refl, λ g. tt))
-free_row o p (call.MngInit tdr) w la = λ a. (refl, refl, λ b d e. (refl, refl, λ f. tt))
 free_row o p (call.MngRd tdr f) w la = λ a. free_read w tdr f
-free_row o p (call.MngVpflushdone tdr) w la = λ a. (refl, refl, λ b d e. (refl, refl, tt))
-free_row o p (call.MngKeyFreeid tdr) w la = λ a. (refl, refl, λ b d. (refl, refl, λ e. tt))
-free_row o p (call.MrFinalize tdr) w la = λ a. (refl, refl, λ b d e. (refl, refl, λ f g. tt))
 free_row o p (call.VpCreate tdr page) w la = λ a b apart. (refl, refl, λ d e f. (refl, refl, λ g h. let n : (tdr == page) ≡ false = other_page page tdr apart in (refl, rw n refl, λ i. tt)))
 free_row o p (call.VpInit tdr vp v) w la = λ a b apart. (refl, refl, λ d e f. (refl, refl, λ g. let n : (tdr == vp) ≡ false = other_page vp tdr apart in (refl, rw n refl, λ h i. tt)))
 free_row o p (call.VpEnter tdr vp most) w la =
     λ a b m apart. (refl, refl, λ d e f. (refl, refl, λ g. let n : (tdr == vp) ≡ false = other_page vp tdr apart in (refl, rw n refl, λ h i j. (refl, refl, tt))))
-free_row o p (call.MrExtend tdr gpa) w la = λ a b d. (refl, refl, λ e f g. (refl, refl, λ h. (refl, refl, λ i j k l. (refl, refl, tt))))
 free_row o p (call.MemSeptAdd tdr gpa level page) w la = λ a b d e apart f. (
   refl,
   refl,
@@ -127,7 +116,6 @@ free_row o p (call.MemRangeBlock tdr gpa level) w la =
     λ a b d e. free_named o.machine w la tdr gpa level open_states (λ s h. (block_restates s h).used) [] tt
 free_row o p (call.MemRangeUnblock tdr gpa level) w la =
     λ a b d e. free_named o.machine w la tdr gpa level blocked_states (λ s h. (unblock_restates s h).used) (tracked_page w tdr (entry_at w tdr level gpa).page ∷ []) (λ x. tt)
-free_row o p (call.MemTrack tdr) w la = λ a. (refl, refl, λ b d e. (refl, refl, λ f. (refl, refl, λ g h. tt)))
 free_row o p (call.VpFlush tdr vp) w la = λ a b apart. (refl, refl, λ d e. let n : (tdr == vp) ≡ false = other_page vp tdr apart in (refl, rw n refl, λ f g h. tt))
 free_row o p (call.MemPageAdd tdr gpa page source) w la = λ a b d e first second third f. (
   refl,
@@ -181,25 +169,15 @@ free_row o p (call.ExportBlockw tdr gpa) w la = λ a b d. (
   ),
 )
 free_row o p (call.ExportUnblockw tdr gpa) w la = λ a b d. free_opened o.machine w la tdr gpa live_ops write_blocked_states refl
-free_row o p (call.ExportPause tdr) w la = λ a. (refl, refl, λ b d e. (refl, refl, λ f. (refl, refl, tt)))
-free_row o p (call.ExportAbort tdr) w la = λ a. (refl, refl, λ b d e. (refl, refl, λ f. (refl, refl, tt)))
 free_row o p (call.ExportRestore tdr gpa) w la = λ a b d. free_opened o.machine w la tdr gpa restoring_ops restored_states refl
-free_row o p (call.ExportStateImmutable tdr slot) w la = λ a. (refl, refl, λ b d e. (refl, refl, λ f. (refl, refl, λ g h i. tt)))
 free_row o p (call.ExportMem tdr gpa stream slot) w la = export_pages-free o.machine tdr gpa stream slot None w la
-free_row o p (call.ExportTrack tdr slot zero) w la = λ a b. (refl, refl, λ d e f. (refl, refl, λ g. (refl, refl, λ h i. tt)))
-free_row o p (call.ExportTrack tdr slot (suc n)) w la = λ a b. (refl, refl, λ d e f. (refl, refl, λ g. (refl, refl, λ h i j. tt)))
-free_row o p (call.ExportStateTd tdr slot) w la = λ a. (refl, refl, λ b d e. (refl, refl, λ f g h. tt))
+free_row o p (call.ExportTrack tdr slot zero) w la = free_by [] ((row_of o p (call.ExportTrack tdr slot zero)).items w) refl
+free_row o p (call.ExportTrack tdr slot (suc n)) w la = free_by [] ((row_of o p (call.ExportTrack tdr slot (suc n))).items w) refl
 free_row o p (call.ExportStateVp tdr vp slot) w la =
     λ a b apart. (refl, refl, λ d e f. (refl, refl, λ g. let n : (tdr == vp) ≡ false = other_page vp tdr apart in (refl, rw n refl, λ h i j. tt)))
-free_row o p (call.ExportAbortByToken tdr slot) w la = abort_by_token-free o.machine (o.bundles slot) tdr slot w
-free_row o p (call.ImportStateImmutable tdr slot) w la = import_immutable-free o.machine (o.bundles slot) tdr slot w
 free_row o p (call.ImportMem tdr slot page) w la = import_pages-free o.machine (o.bundles slot) tdr slot page None w la
-free_row o p (call.ImportTrack tdr slot) w la = import_token-free o.machine (o.bundles slot) tdr slot w
-free_row o p (call.ImportStateTd tdr slot) w la = import_td-free o.machine (o.bundles slot) tdr slot w
 free_row o p (call.ImportStateVp tdr vp slot) w la = import_vp-free o.machine (o.bundles slot) tdr vp slot w
-free_row o p (call.ImportCommit tdr) w la = commit_import-free o.machine tdr w
-free_row o p (call.ImportEnd tdr) w la = end_import-free o.machine tdr w
-free_row o p (call.ImportAbort tdr slot) w la = abort_import-free o.machine tdr slot w
+free_row o p c w la = free_by [] ((row_of o p c).items w) refl
 
 -- and every world is lawful
 passes_of : (items : List (Item Reply)) → first_fault items ≡ None → Passes items

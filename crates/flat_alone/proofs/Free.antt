@@ -1,7 +1,7 @@
 -- Without others no try of a row is denied: what the parts that rows share try isn't held.
-use Rattle.std.proofs.Common.{◌≡◌, refl, sym, ◌∙◌, ap, subst, ℕ, List, [], ◌∷◌, ◌++◌, length, map, Bool, true, false, not, ◌==◌, nat_lt}
+use Rattle.std.proofs.Common.{◌≡◌, refl, sym, ◌∙◌, ap, subst, ℕ, List, [], ◌∷◌, ◌++◌, length, map, Bool, true, false, not, ◌==◌, ◌&&◌, nat_lt}
 use Rattle.std.specs.List.{list_any}
-use Rattle.std.proofs.lemmas.Bool.{ne_eqb, ltb-true}
+use Rattle.std.proofs.lemmas.Bool.{and_parts, eqb-true, ne_eqb, ltb-true}
 use Rattle.td_words.specs.declared.names.ReadField.{ReadField}
 use Rattle.td_words.specs.declared.names.ReadField.TheVariants as field
 use Rattle.td_words.specs.declared.names.Mode.{Mode}
@@ -45,6 +45,20 @@ abbrev pub FreeTries : List Held → List (Item Reply) → Type 0
 FreeTries hs [] = Unit {0}
 FreeTries hs (Check b r ∷ items) = b ≡ true → FreeTries hs items
 FreeTries hs (Try l m ∷ items) = (alone_in l hs ≡ 0) × (shared_for m l hs ≡ 0) × FreeTries (record { lock = l; mode = m } ∷ hs) items
+
+-- the same as a test, for rows whose locks tell it, whatever their conditions
+abbrev pub fits : List Held → List (Item Reply) → Bool
+fits hs [] = true
+fits hs (Check b r ∷ items) = fits hs items
+fits hs (Try l m ∷ items) = alone_in l hs == 0 && (shared_for m l hs == 0 && fits (record { lock = l; mode = m } ∷ hs) items)
+
+pub free_by : (hs : List Held) (items : List (Item Reply)) → fits hs items ≡ true → FreeTries hs items
+free_by hs [] h = tt
+free_by hs (Check b r ∷ items) h = λ e. free_by hs items h
+free_by hs (Try l m ∷ items) h =
+    let (alone, rest) = and_parts (alone_in l hs == 0) _ h in
+    let (shared, more) = and_parts (shared_for m l hs == 0) _ rest in
+    (eqb-true _ _ alone, eqb-true _ _ shared, free_by (record { lock = l; mode = m } ∷ hs) items more)
 
 -- a page that isn't the TDR page
 pub other_page : (page tdr : ℕ) → not (page == tdr) ≡ true → (tdr == page) ≡ false
