@@ -60,9 +60,7 @@ impl Measure {
         let Ok(hasher) = self.hasher.clone() else {
             unreachable!()
         };
-        Measure {
-            hasher,
-        }
+        Measure { hasher }
     }
 
     /// The SHA-384 of the records so far.
