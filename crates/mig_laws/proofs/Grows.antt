@@ -34,7 +34,7 @@ use Rattle.mig_laws.specs.WellMade.{is_on, AreWellMade}
 use Rattle.mig_laws.specs.Imported.{is_imported, last_imported, AreImported}
 use Rattle.mig_laws.specs.States.{in_32_bits}
 use Rattle.mig_laws.specs.Image.{IsComplete, IsMade, HaveCome, StartsAs, IsStarted, IsSource}
-use Rattle.mig_laws.specs.Imports.{counts_of, given_words, HasState, begins_epoch, IsBegunBy, ImportHolds, DestinationHolds}
+use Rattle.mig_laws.specs.Imports.{counts_of, HasState, begins_epoch, IsBegunBy, ImportHolds, DestinationHolds}
 use Rattle.mig_laws.specs.Grows.{IsLater, SourcesGoOn, DestinationsFollow, UnforgedStays}
 use Rattle.mig_laws.proofs.Places.{by_places, at_place, count-append, last-append, last_none}
 use Rattle.mig_laws.proofs.Joined.{placed, not_imported}
@@ -53,9 +53,9 @@ module _ (bundles more : List Made) (made : AreWellMade (bundles ++ more)) (s : 
 
   last_more : (n : ℕ) → last_imported s counts n (bundles ++ more) ≡ last_imported s counts n bundles
   last_more n =
-      let none : last_imported s counts n more ≡ None = last_none (λ b. is_imported s counts b && is_page_at s n b) more
+      let none : last_imported s counts n more ≡ None = last_none n (λ b. is_imported s counts b && is_page_at s n b) more
       (by_places (λ b. (is_imported s counts b && is_page_at s n b) ≡ false) more (λ f b y is. let off = at_place (λ x. is_imported s counts x ≡ false) f b y (subst (All (λ x. is_imported s counts x ≡ false)) is none_more) in rw off refl)) in
-      last-append (λ b. is_imported s counts b && is_page_at s n b) bundles more ∙ rw none refl
+      last-append n (λ b. is_imported s counts b && is_page_at s n b) bundles more ∙ rw none refl
 
   each_more : (P : Made → Type 0) → All (λ b. is_imported s counts b ≡ true → P b) bundles → All (λ b. is_imported s counts b ≡ true → P b) (bundles ++ more)
   each_more P h = All-append (λ b. is_imported s counts b ≡ true → P b) bundles more h
@@ -111,7 +111,7 @@ module _ (source later w : World) (src : IsSource later) (goes : IsLater source 
   import t i = record {
     have = have_more bundles more made (w.tds.sessions t) (counts_of w t) i.have.within (w.tds.mig_epochs t) i.have;
     tracked = λ first. some_then (begins_epoch (w.tds.sessions t) (counts_of w t) (w.tds.mig_epochs t)) bundles more (i.tracked first);
-    pages = λ n. i.pages n ∙ ap given_words (sym (last_more bundles more made (w.tds.sessions t) (counts_of w t) i.have.within n));
+    pages = λ n. i.pages n ∙ sym (last_more bundles more made (w.tds.sessions t) (counts_of w t) i.have.within n);
     begun = begun_more w t bundles more i.begun;
     states = each_more bundles more made (w.tds.sessions t) (counts_of w t) i.have.within (HasState w t) i.states;
     few = i.few;

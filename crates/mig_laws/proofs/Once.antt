@@ -47,7 +47,7 @@ use Rattle.mig_laws.proofs.Rest.{IsAtRest}
 use Rattle.mig_laws.proofs.Changes.{begins_import, ImportGoes, import_goes, each_counts}
 use Rattle.mig_laws.proofs.CallChanges.{counts_grow, one_higher, call-changes}
 use Rattle.mig_laws.proofs.RestRows.{operation_rests, reach_rests, left_rests}
-use Rattle.mig_laws.proofs.ImportsKeep.{is_due}
+use Rattle.mig_laws.proofs.Lists.{is_due}
 use Rattle.mig_laws.proofs.Source.{always_source}
 
 count_within : (f : ℕ → ℕ) (ps : List ℕ) (k : ℕ) → get_or (map f ps) k 0 ≤ f (get_or ps k 0)

@@ -11,7 +11,6 @@ use Rattle.td_words.specs.declared.names.PageKind.{PageKind}
 use Rattle.td_words.specs.declared.names.PageKind.TheVariants as kind
 use Rattle.td_words.specs.declared.names.OpState.{OpState}
 use Rattle.td_words.specs.declared.names.OpState.TheVariants as op
-use Rattle.td_words.specs.declared.names.EntryState.TheVariants as entry
 use Rattle.td_words.specs.declared.calls.Call.{Call}
 use Rattle.td_words.specs.declared.calls.Call.TheVariants as call
 use Rattle.td_words.specs.NameNumber.{op_number}
@@ -20,13 +19,13 @@ use Rattle.flat_core.specs.Opening.{Opening, Incoming}
 use Rattle.flat_core.specs.Row.{Passes}
 use Rattle.flat_core.specs.Conditions.{same_kind}
 use Rattle.flat_core.specs.Digests.{six_words}
-use Rattle.flat_core.specs.Tree.{page_of_gpa, number_at, entry_at}
-use Rattle.flat_core.specs.Effects.{set_op, restate, begin_memory, add_bundle, tell_words}
+use Rattle.flat_core.specs.Tree.{page_of_gpa, entry_at}
+use Rattle.flat_core.specs.Effects.{set_op, begin_memory, add_bundle, tell_words}
 use Rattle.flat_core.specs.Guest.{reach}
 use Rattle.flat_core.specs.Translations.{look_up}
-use Rattle.flat_core.specs.Sessions.{About, about, header_of, stream_page, stream_counter, bundles_so_far, payload_words, count_bundle, make_bundle, begin_session, set_mig_epoch, count_export, note_td_export, note_vp_export}
+use Rattle.flat_core.specs.Sessions.{About, about, header_of, stream_page, stream_counter, bundles_so_far, payload_words, count_bundle, make_bundle, begin_session, set_mig_epoch, note_td_export, note_vp_export}
 use Rattle.flat_core.specs.ExportRows.{live_ops, abortable_ops, vp_image, image_of, note_pause}
-use Rattle.flat_core.specs.BundleRows.{session_ops, paused_ops, start_epoch}
+use Rattle.flat_core.specs.BundleRows.{session_ops, paused_ops, start_epoch, about_pages, export_pages}
 use Rattle.flat_core.specs.Table.{row_of}
 use Rattle.flat_core.specs.Lawful.{IsAlive, Lawful, is_exporting}
 use Rattle.flat_core.specs.Event.{State, start, event}
@@ -40,7 +39,7 @@ use Rattle.flat_core.proofs.Acts.{event_world}
 use Rattle.flat_core.proofs.Induction.{in_runs}
 use Rattle.flat_core.proofs.Always.{occ-of}
 use Rattle.flat_core.proofs.Ranges.{live_exporting, paused_exporting, abortable_exporting}
-use Rattle.flat_core.proofs.Passed.{TdPassed, td_alive}
+use Rattle.flat_core.proofs.Passed.{TdPassed, td_alive, export_passed}
 use Rattle.flat_bundles.specs.Formed.{AreCodesShort, FormsHold}
 use Rattle.flat_bundles.proofs.Fills.{fill_either}
 use Rattle.flat_bundles.proofs.Formed.{forms_kept}
@@ -55,6 +54,7 @@ use Rattle.mig_laws.proofs.Ivs.{IsGiven, back_token, ivs_stay, session_same, beg
 use Rattle.mig_laws.proofs.Calm.{IsCalm, calm_over, row-calm}
 use Rattle.mig_laws.proofs.GuestChanges.{Fixed, operation_fixed, reach_fixed}
 use Rattle.mig_laws.proofs.Guests.{operation_beside, left_beside, reached_beside, never_stored}
+use Rattle.mig_laws.proofs.Lists.{exported_so, all_words, sent_as}
 use Rattle.mig_laws.proofs.Paused.{start_end, no_start_yet, not_post, only_live, abortable_stands, is_pausing, calm_of, operation_calm, reach_calm, pauses_kept}
 use Rattle.mig_laws.proofs.Still.{IsStill, image_stays, still_same, row-still, operation_still, reach_still}
 
@@ -359,15 +359,16 @@ module _ (o : Opening) (me : ℕ) (w : World) (l : Lawful o.machine w) (src : So
       (λ x a. session_same w v x (back x a) (λ e. ap (λ (f : ℕ → OpState). f x) (sym ops) ∙ e) (ap (λ (f : ℕ → ℕ). f x) sessions) (ap (λ (f : ℕ → List ℕ). f x) streams)
       (λ k. subst (λ (f : ℕ → ℕ). stream_counter w x k ≤ f (stream_page w x k)) (sym counters) (omega arith))) src.ivs
 
-  page_states : (t gpa k slot : ℕ) → Passes ((row_of o me (call.ExportMem t gpa k slot)).items w) → StatesHold (After (call.ExportMem t gpa k slot))
-  page_states t gpa k slot ps =
-      let td : TdPassed w t abortable_ops = search in
+  pages_states : (t gpa k slot : ℕ) (count : Option ℕ) → Passes ((export_pages o.machine t gpa k slot count).items w) → StatesHold ((export_pages o.machine t gpa k slot count).act w)
+  pages_states t gpa k slot count ps =
+      let td = (export_passed o.machine w t gpa k slot count ps).td in
       let exporting : IsExporting w t = record { alive = td_alive td; standing = abortable_exporting (w.tds.ops t) td.op } in
-      let v : World = count_export t k (entry_at w t 0 gpa).state (restate t (number_at 0 gpa) entry.ExportedBlockedW (w.tds.mig_epochs t) w) in
+      sent_as o.machine t gpa k slot count w StatesHold (λ e c f done.
+      let v : World = exported_so w e c f in
       let back = back_same v refl refl refl in
-      bundle_states t slot (record (about 3 (w.tds.mig_epochs t)) { stream = k; gpa = gpa }) (payload_words (w.words (entry_at w t 0 gpa).page) 512) v (ivs_as v refl refl refl refl refl refl back) (states_as w v refl back refl refl refl refl refl refl h)
+      bundle_states t slot (about_pages w t k gpa count) (all_words w t gpa count) v (ivs_as v refl refl refl refl refl refl back) (states_as w v refl back refl refl refl refl refl refl h)
       (record { alive = record { kind = exporting.alive.kind; life = exporting.alive.life }; standing = exporting.standing }) refl refl exporting (abortable_stands (w.tds.ops t) td.op) refl
-      (no_state v t _ (λ e. cc) (λ e. cc) (λ e. cc))
+      (no_state v t _ (λ e. cc) (λ e. cc) (λ e. cc)))
 
   token_states : (t slot start : ℕ) → Passes ((row_of o me (call.ExportTrack t slot start)).items w) → StatesHold (After (call.ExportTrack t slot start))
   token_states t slot zero ps =
@@ -422,7 +423,7 @@ module _ (o : Opening) (me : ℕ) (w : World) (l : Lawful o.machine w) (src : So
       let exporting : IsExporting w t = record { alive = td_alive td; standing = live_exporting (w.tds.ops t) td.op } in
       states_held t w src.ivs h exporting (not_post w t pauses exporting (λ e. let no : op.LiveExport ≡ op.PostExport = sym (only_live (w.tds.ops t) td.op) ∙ e in cc))
   row-states (call.ExportStateImmutable t slot) ps = immutable_states t slot ps
-  row-states (call.ExportMem t gpa k slot) ps = page_states t gpa k slot ps
+  row-states (call.ExportMem t gpa k slot) ps = pages_states t gpa k slot None ps
   row-states (call.ExportTrack t slot start) ps = token_states t slot start ps
   row-states (call.ExportStateTd t slot) ps = td_states t slot ps
   row-states (call.ExportStateVp t p slot) ps = vp_states t p slot ps
