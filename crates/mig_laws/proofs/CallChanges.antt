@@ -556,18 +556,25 @@ module _ (o : Opening) (me : ℕ) (w : World) (l : Lawful o.machine w) where
   call-changes c ps = by-call c ps (row_alive o me c w ps (λ u h e. cc))
 
   -- what is made and noted
+  export_keeps : (t gpa k slot : ℕ) (count : Option ℕ) → Kept (call.ExportMem t gpa k slot) w ((export_pages o.machine t gpa k slot count).act w)
+  export_keeps t gpa k slot count = sent_as o.machine t gpa k slot count w (Kept (call.ExportMem t gpa k slot) w) (λ e c f done. record { made = λ z. cc; paused = λ z. refl; given = λ z. refl })
+
+  pub import_keeps : (t slot page : ℕ) (count : Option ℕ) → Kept (call.ImportMem t slot page) w ((import_pages o.machine (o.bundles slot) t slot page count).act w)
+  import_keeps t slot page count =
+      let x : Input = input_in (o.bundles slot) in
+      taken_as t x.header.stream x.header.gpa page x.words (page_count count) w (Kept (call.ImportMem t slot page) w)
+      (λ v taken. record { made = λ k. (refl, refl, λ p. le_same _); paused = λ k. refl; given = λ k. refl })
+
   pub call-keeps : (c : Call) → Kept c w (After c)
   call-keeps (call.VpCreate t page) = record { made = λ k. (refl, refl, λ p. lower w.vps.exported page p); paused = λ k. refl; given = λ k. refl }
   call-keeps (call.ExportPause t) = record { made = λ k. (refl, refl, λ p. le_same _); paused = λ k. cc; given = λ k. refl }
   call-keeps (call.ExportStateImmutable t slot) = record { made = λ k. cc; paused = λ k. refl; given = λ k. refl }
-  call-keeps (call.ExportMem t gpa stream slot) = record { made = λ k. cc; paused = λ k. refl; given = λ k. refl }
+  call-keeps (call.ExportMem t gpa stream slot) = export_keeps t gpa stream slot None
   call-keeps (call.ExportTrack t slot zero) = record { made = λ k. cc; paused = λ k. refl; given = λ k. refl }
   call-keeps (call.ExportTrack t slot (suc n)) = record { made = λ k. cc; paused = λ k. refl; given = λ k. refl }
   call-keeps (call.ExportStateTd t slot) = record { made = λ k. cc; paused = λ k. refl; given = λ k. refl }
   call-keeps (call.ExportStateVp t p slot) = record { made = λ k. cc; paused = λ k. refl; given = λ k. refl }
-  call-keeps (call.ImportMem t slot page) =
-      let x : Input = input_in (o.bundles slot) in
-      taken_as t x.header.stream x.header.gpa page x.words 1 w (Kept (call.ImportMem t slot page) w) (λ v taken. record { made = λ k. (refl, refl, λ p. le_same _); paused = λ k. refl; given = λ k. refl })
+  call-keeps (call.ImportMem t slot page) = import_keeps t slot page None
   call-keeps (call.ImportCommit t) = record { made = λ k. (refl, refl, λ p. le_same _); paused = λ k. refl; given = λ k. cc }
   call-keeps (call.ImportAbort t slot) = record { made = λ k. cc; paused = λ k. refl; given = λ k. refl }
   call-keeps (call.HostRead page word) = record { made = λ k. (refl, refl, λ p. le_same _); paused = λ k. refl; given = λ k. refl }

@@ -19,11 +19,11 @@ use Rattle.flat_core.specs.Opening.{Opening, Incoming}
 use Rattle.flat_core.specs.Row.{Passes}
 use Rattle.flat_core.specs.Conditions.{same_kind}
 use Rattle.flat_core.specs.Digests.{six_words}
-use Rattle.flat_core.specs.Tree.{page_of_gpa, entry_at}
-use Rattle.flat_core.specs.Effects.{set_op, begin_memory, add_bundle, tell_words}
+use Rattle.flat_core.specs.Tree.{page_of_gpa}
+use Rattle.flat_core.specs.Effects.{set_op, add_bundle, tell_words}
 use Rattle.flat_core.specs.Guest.{reach}
 use Rattle.flat_core.specs.Translations.{look_up}
-use Rattle.flat_core.specs.Sessions.{About, about, header_of, stream_page, stream_counter, bundles_so_far, payload_words, count_bundle, make_bundle, begin_session, set_mig_epoch, note_td_export, note_vp_export}
+use Rattle.flat_core.specs.Sessions.{About, about, header_of, stream_page, stream_counter, bundles_so_far, payload_words, make_bundle, begin_session, set_mig_epoch, note_td_export, note_vp_export}
 use Rattle.flat_core.specs.ExportRows.{live_ops, abortable_ops, vp_image, image_of, note_pause}
 use Rattle.flat_core.specs.BundleRows.{session_ops, paused_ops, start_epoch, about_pages, export_pages}
 use Rattle.flat_core.specs.Table.{row_of}
@@ -41,7 +41,6 @@ use Rattle.flat_core.proofs.Always.{occ-of}
 use Rattle.flat_core.proofs.Ranges.{live_exporting, paused_exporting, abortable_exporting}
 use Rattle.flat_core.proofs.Passed.{TdPassed, td_alive, export_passed}
 use Rattle.flat_bundles.specs.Formed.{AreCodesShort, FormsHold}
-use Rattle.flat_bundles.proofs.Fills.{fill_either}
 use Rattle.flat_bundles.proofs.Formed.{forms_kept}
 use Rattle.mig_laws.specs.Ivs.{is_forward, IsExporting, IvsHold}
 use Rattle.mig_laws.specs.Source.{SourceHolds}
@@ -54,7 +53,9 @@ use Rattle.mig_laws.proofs.Ivs.{IsGiven, back_token, ivs_stay, session_same, beg
 use Rattle.mig_laws.proofs.Calm.{IsCalm, calm_over, row-calm}
 use Rattle.mig_laws.proofs.GuestChanges.{Fixed, operation_fixed, reach_fixed}
 use Rattle.mig_laws.proofs.Guests.{operation_beside, left_beside, reached_beside, never_stored}
-use Rattle.mig_laws.proofs.Lists.{exported_so, all_words, sent_as}
+use Rattle.flat_core.specs.PageLists.{page_count}
+use Rattle.flat_core.specs.ImportRows.{import_pages}
+use Rattle.mig_laws.proofs.Lists.{exported_so, all_words, sent_as, taken_as}
 use Rattle.mig_laws.proofs.Paused.{start_end, no_start_yet, not_post, only_live, abortable_stands, is_pausing, calm_of, operation_calm, reach_calm, pauses_kept}
 use Rattle.mig_laws.proofs.Still.{IsStill, image_stays, still_same, row-still, operation_still, reach_still}
 
@@ -483,6 +484,9 @@ all_short w [] h = All-nil (λ (v : VpImage). v.position ≤ 256)
 all_short w (p ∷ ps) h = All-cons (λ (v : VpImage). v.position ≤ 256) (vp_image w p) (map (vp_image w) ps) (h p) (all_short w ps h)
 
 module _ (o : Opening) (me : ℕ) (w : World) (forms : FormsHold w) (h : ArePausesShort w) where
+  pages_short : (t slot page : ℕ) (count : Option ℕ) → ArePausesShort ((import_pages o.machine (o.bundles slot) t slot page count).act w)
+  pages_short t slot page count = (let x : Input = input_in (o.bundles slot) in taken_as t x.header.stream x.header.gpa page x.words (page_count count) w ArePausesShort (λ v taken. h))
+
   row-pauses : (c : Call) (session : ℕ) (image : Image) → ((row_of o me c).act w).hidden.paused session ≡ Some image → All (λ v. v.position ≤ 256) image.vps
   row-pauses (call.ExportPause t) session image e = by_test (session == w.tds.sessions t)
       (λ y. (let same : Some (image_of w t) ≡ Some image = rw y at e in
@@ -490,9 +494,7 @@ module _ (o : Opening) (me : ℕ) (w : World) (forms : FormsHold w) (h : ArePaus
       (λ n. h session image (rw n at e))
   row-pauses (call.ExportTrack t slot zero) session image e = h session image e
   row-pauses (call.ExportTrack t slot (suc n)) session image e = h session image e
-  row-pauses (call.ImportMem t slot page) session image e =
-      let x : Input = input_in (o.bundles slot) in
-      fill_either (λ u. ArePausesShort (count_bundle t x.header.stream (begin_memory t (page_of_gpa x.header.gpa) x.words u))) t x.header.gpa page x.words (entry_at w t 0 x.header.gpa).state w h h session image e
+  row-pauses (call.ImportMem t slot page) session image e = pages_short t slot page None session image e
   row-pauses c session image e = h session image e
 
 same_pauses : (w v : World) → v.hidden.paused ≡ w.hidden.paused → ArePausesShort w → ArePausesShort v
