@@ -18,7 +18,7 @@ use Rattle.flat_core.specs.Laws.{with_bundles, IsKept, ArePagesKnown}
 use Rattle.flat_core.specs.Inputs.{Input, input_in}
 use Rattle.flat_core.specs.ExportRows.{abortable_ops}
 use Rattle.flat_core.specs.BundleRows.{paused_ops}
-use Rattle.flat_core.specs.ImportRows.{is_start, filling_ops, td_state_ops, vp_state_ops, commit_ops, given_up_ops, import_token_ops}
+use Rattle.flat_core.specs.ImportRows.{is_start, td_state_ops, vp_state_ops, commit_ops, given_up_ops, import_token_ops}
 use Rattle.flat_core.specs.Table.{row_of}
 use Rattle.flat_core.specs.Lawful.{Lawful}
 use Rattle.flat_core.specs.AccessLaw.{IsGuarded}

@@ -17,8 +17,7 @@ use Rattle.td_words.specs.NameNumber.{op_number}
 use Rattle.flat_core.specs.World.{World, Image, ClearHeader, Made, put}
 use Rattle.flat_core.specs.Opening.{Opening, Incoming}
 use Rattle.flat_core.specs.Row.{OperationRow, Passes}
-use Rattle.flat_core.specs.Tree.{page_of_gpa, entry_at}
-use Rattle.flat_core.specs.Effects.{set_op, begin_memory, pass_operation, tell_words, leave_guest}
+use Rattle.flat_core.specs.Effects.{set_op, pass_operation, tell_words, leave_guest}
 use Rattle.flat_core.specs.Guest.{ByRow, operation_of, is_pending_at, reach}
 use Rattle.flat_core.specs.PageLists.{page_count}
 use Rattle.flat_core.specs.Inputs.{Input, input_in, has_no_fault, fault_of_input, header_of_input}
