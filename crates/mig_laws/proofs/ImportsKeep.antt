@@ -64,7 +64,7 @@ abbrev with_memories : World → World → World
 with_memories w v = record w { hidden = record (w.hidden) { memories = v.hidden.memories } }
 
 -- A TD takes a bundle that is the next of stream k
-module _ (source : World) (src : IsSource source) (m : Machine) (w : World) (l : Lawful m w) (h : DestinationHolds source w) (t : ℕ) (alive : IsAlive w.pages w.tds t) (k : ℕ) (few : k < length (w.tds.streams t)) where
+module _ (source : World) (well : AreWellMade source.outgoing.bundles) (m : Machine) (w : World) (l : Lawful m w) (h : DestinationHolds source w) (t : ℕ) (alive : IsAlive w.pages w.tds t) (k : ℕ) (few : k < length (w.tds.streams t)) where
   abbrev bundles : List Made
   bundles = source.outgoing.bundles
 
@@ -88,7 +88,7 @@ module _ (source : World) (src : IsSource source) (m : Machine) (w : World) (l :
     list = tk.before ++ tk.bundle ∷ tk.after
 
     made : AreWellMade list
-    made = subst AreWellMade tk.place src.made
+    made = subst AreWellMade tk.place well
 
     own_of : (s : ℕ) → x.header.session ≡ s → is_of s b ≡ true
     own_of s e =
@@ -402,32 +402,20 @@ token_op : (b : Bool) (s : OpState) → list_any (λ a. op_number a == op_number
 token_op true s h = (token_fills true s h, λ e. cc, λ n e. cc, λ e. refl)
 token_op false s h = (token_fills false s h, begun_of filling_ops s refl h, λ n. n, λ e. absurd ((filling_fills s h).1 e))
 
-module _ (source : World) (o : Opening) (src : IsSource source) (unforged : Unforged o source.outgoing.bundles) where
+known_kind : (n m : ℕ) → n ≡ m → (m == 6) ≡ false → (n == 6) ≡ false
+known_kind n m is off = ap (λ (z : ℕ). z == 6) is ∙ off
+
+on_first : (bundles : List Made) (x : Input) (tk : IsTaken bundles x) → (x.header.kind == 3) ≡ false → counted_on tk.bundle ≡ 0
+on_first bundles x tk off = let kind : (tk.bundle.header.kind == 3) ≡ false = ap (λ (z : ClearHeader). z.kind == 3) tk.same ∙ off in rw kind refl
+
+-- pages, of any source whose bundles are well made: a call with COUNT takes lists, and as long as none without it asks for the version
+-- there must be none for it
+module _ (source : World) (o : Opening) (well : AreWellMade source.outgoing.bundles) (unforged : Unforged o source.outgoing.bundles) where
   abbrev made_there : List Made
   made_there = source.outgoing.bundles
 
-  known_kind : (n m : ℕ) → n ≡ m → (m == 6) ≡ false → (n == 6) ≡ false
-  known_kind n m is off = ap (λ (z : ℕ). z == 6) is ∙ off
-
-  on_first : (x : Input) (tk : IsTaken made_there x) → (x.header.kind == 3) ≡ false → counted_on tk.bundle ≡ 0
-  on_first x tk off = let kind : (tk.bundle.header.kind == 3) ≡ false = ap (λ (z : ClearHeader). z.kind == 3) tk.same ∙ off in rw kind refl
-
-  pub keeps_immutable : (t slot : ℕ) → KeepsDestination source o (import_immutable o.machine (o.bundles slot) t slot)
-  keeps_immutable t slot w l h ps =
-      let x : Input = input_in (o.bundles slot) in
-      let zero = only_kind 0 x.header.kind (search) in
-      let six = known_kind x.header.kind 0 zero refl in
-      let tk = taken o made_there unforged slot (search) (search) six in
-      let td : TdPassed w t first_ops = search in
-      let alive = td_alive td in
-      let few : 0 < length (w.tds.streams t) = ltb-true _ _ (search) in
-      let new = first_op (w.tds.ops t) td.op in
-      let none : stream_counter w t 0 ≡ 0 = l.streams.uncounted t (stream_page w t 0) alive new (stream_among (w.tds.streams t) 0 few) in
-      let due : x.header.counter ≡ stream_counter w t 0 = is_due 0 x.header.counter (search) ∙ sym none in
-      immutable_holds source src o.machine w l h t alive 0 few x tk six (on_first x tk (ap (λ (z : ℕ). z == 3) zero)) due zero (eqb-true x.header.epoch 1 (search)) new (record { back = λ y z a. record { kind = a.kind; life = a.life }; same = λ y z. counted l t 0 _ alive few refl refl y z (rw z refl) })
-
-  pub keeps_pages : (t slot page : ℕ) (count : Option ℕ) → KeepsDestination source o (import_pages o.machine (o.bundles slot) t slot page count)
-  keeps_pages t slot page count w l h ps =
+  pub keeps_pages : (t slot page : ℕ) (count : Option ℕ) → (count ≡ None → AreSingle made_there) → KeepsDestination source o (import_pages o.machine (o.bundles slot) t slot page count)
+  keeps_pages t slot page count single w l h ps =
       let x : Input = input_in (o.bundles slot) in
       let k : ℕ = x.header.stream in
       let p = take_asked o.machine (o.bundles slot) w t slot page count ps in
@@ -437,38 +425,56 @@ module _ (source : World) (o : Opening) (src : IsSource source) (unforged : Unfo
       let alive = td_alive p.td in
       let ops = filling_fills (w.tds.ops t) p.td.op in
       let on : counted_on tk.bundle ≡ k = (let kind : (tk.bundle.header.kind == 3) ≡ true = ap (λ (z : ClearHeader). z.kind == 3) tk.same ∙ eq-eqb x.header.kind 3 three in rw kind (ap (λ (z : ClearHeader). z.stream) tk.same)) in
-      let one : is_list x.header ≡ false = ap is_list (sym tk.same) ∙ at_place (λ b. is_list b.header ≡ false) tk.before tk.after tk.bundle (subst AreSingle tk.place src.single) in
+      let one : count ≡ None → is_list x.header ≡ false = λ e. ap is_list (sym tk.same) ∙ at_place (λ b. is_list b.header ≡ false) tk.before tk.after tk.bundle (subst AreSingle tk.place (single e)) in
       taken_as t k x.header.gpa page x.words (page_count count) w (DestinationHolds source) (λ v taken_in.
       destination_rests source (count_bundle t k (with_memories w v)) (count_bundle t k (TakenAs w v))
       (at_rest (count_bundle t k (with_memories w v)) (count_bundle t k (TakenAs w v)) refl (λ y a. record { kind = taken_in.roots y a.kind; life = a.life }))
-      (page_holds source src o.machine w l h t alive k p.few x tk six on p.counter ops.0 p.session ops.1 three p.epoch (page_count count) (p.many (λ e. one)) v taken_in))
+      (page_holds source well o.machine w l h t alive k p.few x tk six on p.counter ops.0 p.session ops.1 three p.epoch (page_count count) (p.many one) v taken_in))
+
+module _ (source : World) (o : Opening) (src : IsSource source) (unforged : Unforged o source.outgoing.bundles) where
+  abbrev all_made : List Made
+  all_made = source.outgoing.bundles
+
+  pub keeps_immutable : (t slot : ℕ) → KeepsDestination source o (import_immutable o.machine (o.bundles slot) t slot)
+  keeps_immutable t slot w l h ps =
+      let x : Input = input_in (o.bundles slot) in
+      let zero = only_kind 0 x.header.kind (search) in
+      let six = known_kind x.header.kind 0 zero refl in
+      let tk = taken o all_made unforged slot (search) (search) six in
+      let td : TdPassed w t first_ops = search in
+      let alive = td_alive td in
+      let few : 0 < length (w.tds.streams t) = ltb-true _ _ (search) in
+      let new = first_op (w.tds.ops t) td.op in
+      let none : stream_counter w t 0 ≡ 0 = l.streams.uncounted t (stream_page w t 0) alive new (stream_among (w.tds.streams t) 0 few) in
+      let due : x.header.counter ≡ stream_counter w t 0 = is_due 0 x.header.counter (search) ∙ sym none in
+      immutable_holds source src.made o.machine w l h t alive 0 few x tk six (on_first all_made x tk (ap (λ (z : ℕ). z == 3) zero)) due zero (eqb-true x.header.epoch 1 (search)) new (record { back = λ y z a. record { kind = a.kind; life = a.life }; same = λ y z. counted l t 0 _ alive few refl refl y z (rw z refl) })
 
   pub keeps_td : (t slot : ℕ) → KeepsDestination source o (import_td o.machine (o.bundles slot) t slot)
   keeps_td t slot w l h ps =
       let x : Input = input_in (o.bundles slot) in
       let one = only_kind 1 x.header.kind (search) in
       let six = known_kind x.header.kind 1 one refl in
-      let tk = taken o made_there unforged slot (search) (search) six in
+      let tk = taken o all_made unforged slot (search) (search) six in
       let td : TdPassed w t td_state_ops = search in
       let alive = td_alive td in
       let ops = td_state_fills (w.tds.ops t) td.op in
       let few : 0 < length (w.tds.streams t) = l.sessions.import_stream t (td_state_importing (w.tds.ops t) td.op) in
       let due : x.header.counter ≡ stream_counter w t 0 = is_due (stream_counter w t 0) x.header.counter (search) in
-      td_holds source src o.machine w l h t alive 0 few x tk six (on_first x tk (ap (λ (z : ℕ). z == 3) one)) due ops.0 (eqb-true _ _ (search)) one (eqb-true _ _ (search)) ops.1 (record { back = λ y z a. record { kind = a.kind; life = a.life }; same = λ y z. counted l t 0 _ alive few refl refl y z (rw z refl) })
+      td_holds source src.made o.machine w l h t alive 0 few x tk six (on_first all_made x tk (ap (λ (z : ℕ). z == 3) one)) due ops.0 (eqb-true _ _ (search)) one (eqb-true _ _ (search)) ops.1 (record { back = λ y z a. record { kind = a.kind; life = a.life }; same = λ y z. counted l t 0 _ alive few refl refl y z (rw z refl) })
 
   pub keeps_vp : (t p slot : ℕ) → KeepsDestination source o (import_vp o.machine (o.bundles slot) t p slot)
   keeps_vp t p slot w l h ps =
       let x : Input = input_in (o.bundles slot) in
       let two = only_kind 2 x.header.kind (search) in
       let six = known_kind x.header.kind 2 two refl in
-      let tk = taken o made_there unforged slot (search) (search) six in
+      let tk = taken o all_made unforged slot (search) (search) six in
       let td : TdPassed w t vp_state_ops = search in
       let alive = td_alive td in
       let ops = vp_state_fills (w.tds.ops t) td.op in
       let its = and_parts (same_kind (w.pages.kinds p) kind.Tdvpr) (w.pages.owners p == t) (search) in
       let few : 0 < length (w.tds.streams t) = l.sessions.import_stream t (vp_state_importing (w.tds.ops t) td.op) in
       let due : x.header.counter ≡ stream_counter w t 0 = is_due (stream_counter w t 0) x.header.counter (search) in
-      vp_holds source src o.machine w l h t alive 0 few x tk six (on_first x tk (ap (λ (z : ℕ). z == 3) two)) due ops.0 (eqb-true _ _ (search)) p two (eqb-true _ _ (search)) ops.1
+      vp_holds source src.made o.machine w l h t alive 0 few x tk six (on_first all_made x tk (ap (λ (z : ℕ). z == 3) two)) due ops.0 (eqb-true _ _ (search)) p two (eqb-true _ _ (search)) ops.1
       its.0 (eqb-true _ _ its.1) (is_created (w.vps.states p) (search)) (eqb-true _ _ (search)) (record { back = λ y z a. record { kind = a.kind; life = a.life }; same = λ y z. vp_counted l t p _ alive few (eqb-true _ _ its.1) refl refl (λ q off. rw off refl) refl y z refl })
 
   -- the start token is of a later migration epoch than the TD is in
@@ -482,25 +488,25 @@ module _ (source : World) (o : Opening) (src : IsSource source) (unforged : Unfo
       let token = token_kind x.header.kind (search) in
       let six : (x.header.kind == 6) ≡ false = off_kind x.header.kind 6 (no_token x.header.kind 6 refl token) in
       let three : (x.header.kind == 3) ≡ false = off_kind x.header.kind 3 (no_token x.header.kind 3 refl token) in
-      let tk = taken o made_there unforged slot (search) (search) six in
+      let tk = taken o all_made unforged slot (search) (search) six in
       let td : TdPassed w t (import_token_ops (is_start x.header)) = search in
       let alive = td_alive td in
       let st : OpState = op_then (is_start x.header) (w.tds.ops t) in
       let ops = token_op (is_start x.header) (w.tds.ops t) td.op in
       let few : 0 < length (w.tds.streams t) = l.sessions.import_stream t (fills_importing (w.tds.ops t) ops.0) in
       let due : x.header.counter ≡ stream_counter w t 0 = is_due (stream_counter w t 0) x.header.counter (search) in
-      let on = on_first x tk three in
+      let on = on_first all_made x tk three in
       let same_session = eqb-true x.header.session (w.tds.sessions t) (search) in
       let b_token : is_token tk.bundle ≡ true = ap (λ (z : ClearHeader). z.kind == 4 || z.kind == 5) tk.same ∙ token in
       let epoch = eqb-true x.header.epoch (epoch_due (is_start x.header) (w.tds.mig_epochs t)) (search) in
       let b_epoch : tk.bundle.header.epoch ≡ x.header.epoch = ap (λ (z : ClearHeader). z.epoch) tk.same in
-      let have = held source src o.machine w l h t alive 0 few x tk six on due ops.0 same_session in
-      let next = nexts source src o.machine w l h t alive 0 few x tk six on due ops.0 same_session in
+      let have = held source src.made o.machine w l h t alive 0 few x tk six on due ops.0 same_session in
+      let next = nexts source src.made o.machine w l h t alive 0 few x tk six on due ops.0 same_session in
       let later = token_later (is_start x.header) (w.tds.mig_epochs t) x.header.epoch epoch (l.sessions.mig_epoch t)
       (λ e le. let five : tk.bundle.header.kind ≡ 5 = ap (λ (z : ClearHeader). z.kind) tk.same ∙ start_is x.header e in
       let high : 1 < tk.bundle.header.epoch = start_high (is_start x.header) (w.tds.mig_epochs t) x.header.epoch tk.bundle.header.epoch e epoch b_epoch in
-      let less = start_later tk.before tk.after tk.bundle (made source src o.machine w l h t alive 0 few x tk six on due) w t have next five high (omega (arith, le, b_epoch)) in omega (arith, less, b_epoch)) in
-      token_holds source src o.machine w l h t alive 0 few x tk six on due ops.0 same_session st b_token later ops.1 ops.2 (λ e. start_is x.header (ops.3 e)) (sym (eqb-true _ _ (search))) (record { back = λ y z a. record { kind = a.kind; life = a.life }; same = λ y z. counted l t 0 _ alive few refl refl y z (rw z refl) })
+      let less = start_later tk.before tk.after tk.bundle (made source src.made o.machine w l h t alive 0 few x tk six on due) w t have next five high (omega (arith, le, b_epoch)) in omega (arith, less, b_epoch)) in
+      token_holds source src.made o.machine w l h t alive 0 few x tk six on due ops.0 same_session st b_token later ops.1 ops.2 (λ e. start_is x.header (ops.3 e)) (sym (eqb-true _ _ (search))) (record { back = λ y z a. record { kind = a.kind; life = a.life }; same = λ y z. counted l t 0 _ alive few refl refl y z (rw z refl) })
     where
       start_high : (b : Bool) (own epoch made_epoch : ℕ) → b ≡ true → epoch ≡ epoch_due b own → made_epoch ≡ epoch → 1 < made_epoch
       start_high true own epoch made_epoch e is same = omega (arith, is, same)
@@ -518,7 +524,7 @@ module _ (source : World) (o : Opening) (src : IsSource source) (unforged : Unfo
       let v : World = set_op t op.LiveImport (note_commit t w) in
       let alone : Alone w v t = record { back = λ y z a. record { kind = a.kind; life = a.life }; same = λ y z. stays_on refl (λ q. le_same _) (rw z refl) } in
       record {
-        imports = λ x a. (let stays = imports_alone w v t alone (λ k. absurd (let no : false ≡ true = rw self at k.standing in cc)) x a in import_stays made_there w v x stays (h.imports x stays.importing));
+        imports = λ x a. (let stays = imports_alone w v t alone (λ k. absurd (let no : false ≡ true = rw self at k.standing in cc)) x a in import_stays all_made w v x stays (h.imports x stays.importing));
         empty = λ x a e. empty_stays source w v x h (empty_alone w v t alone (λ k z. absurd (let no : op.LiveImport ≡ op.Uninitialized = rw self at z in cc)) x a e);
         given = λ s start e. by_test (s == w.tds.sessions t)
             (λ y. (let same : image_of w t ≡ start = same_start (image_of w t) start (rw y at e) in

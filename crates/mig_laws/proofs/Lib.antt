@@ -34,3 +34,4 @@ pub mod Destination
 pub mod Grows
 pub mod Hosts
 pub mod Once
+pub mod ListLaws

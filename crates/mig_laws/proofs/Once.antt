@@ -247,7 +247,7 @@ module _ (o : Opening) (me : ℕ) (w : World) (l : Lawful o.machine w) where
   first_never t slot ps s =
       let later : w.key_table.last_imported < (input slot).header.session = ltb-true _ _ (search) in let low = s.begun in omega (arith, later, low)
 
-  pages_spent : (t slot page : ℕ) (count : Option ℕ) → AbortsHold w → Passes ((taking t slot page count).items w) → IsSpent ((taking t slot page count).act w) (number_of (input slot).header)
+  pub pages_spent : (t slot page : ℕ) (count : Option ℕ) → AbortsHold w → Passes ((taking t slot page count).items w) → IsSpent ((taking t slot page count).act w) (number_of (input slot).header)
   pages_spent t slot page count a ps =
       let x : Input = input slot in
       let k : ℕ = x.header.stream in
@@ -293,6 +293,9 @@ module _ (o : Opening) (me : ℕ) (w : World) (l : Lawful o.machine w) where
           spent (call.ImportStateVp t p at) t at is f (row-stays (call.ImportStateVp t p at) ps) refl (counted_first t (input at).header first))
       by c e ps = cc
 
+  pub pages_never : (t slot page : ℕ) (count : Option ℕ) → Passes ((taking t slot page count).items w) → IsSpent w (number_of (input slot).header) → ⊥
+  pages_never t slot page count ps s = never t (input slot).header (pages_fit t slot page count ps) s
+
   row-never : (c : Call) (slot : ℕ) → input_slot c ≡ Some slot → ((input slot).header.kind == 6) ≡ false → Passes ((row_of o me c).items w)
       → IsSpent w (number_of (input slot).header) → ⊥
   row-never c slot e forward ps s = by c e ps
@@ -305,7 +308,7 @@ module _ (o : Opening) (me : ℕ) (w : World) (l : Lawful o.machine w) where
           let six = only_kind 6 (input at).header.kind (search) in
           let no : true ≡ false = sym (ap (λ (n : ℕ). n == 6) six) ∙ subst (λ (z : ℕ). ((input z).header.kind == 6) ≡ false) (sym is) forward in cc)
       by (call.ImportStateImmutable t at) e ps = first_never t at ps (at_slot at cc)
-      by (call.ImportMem t at page) e ps = never t (input at).header (pages_fit t at page None ps) (at_slot at cc)
+      by (call.ImportMem t at page) e ps = pages_never t at page None ps (at_slot at cc)
       by (call.ImportTrack t at) e ps = never t (input at).header (token_fits t at ps) (at_slot at cc)
       by (call.ImportStateTd t at) e ps = never t (input at).header (td_fits t at ps) (at_slot at cc)
       by (call.ImportStateVp t p at) e ps = never t (input at).header (vp_fits t p at ps) (at_slot at cc)

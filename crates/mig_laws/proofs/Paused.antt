@@ -301,7 +301,7 @@ module _ (o : Opening) (me : ℕ) (w : World) (l : Lawful o.machine w) (src : So
       started_pauses o.machine t slot (record (about 5 start_epoch) { total = bundles_so_far w t }) w l src.ivs src.sent h (record { alive = alive; standing = paused_exporting (w.tds.ops t) td.op })
       (is_pausing (w.tds.ops t) td.op) refl (none_dirty_here o.machine w l t alive (search))
 
-  sent_pauses : (t gpa k slot : ℕ) (count : Option ℕ) → Passes ((export_pages o.machine t gpa k slot count).items w) → PausesHold ((export_pages o.machine t gpa k slot count).act w)
+  pub sent_pauses : (t gpa k slot : ℕ) (count : Option ℕ) → Passes ((export_pages o.machine t gpa k slot count).items w) → PausesHold ((export_pages o.machine t gpa k slot count).act w)
   sent_pauses t gpa k slot count ps =
       let td = (export_passed o.machine w t gpa k slot count ps).td in
       sent_as o.machine t gpa k slot count w PausesHold (λ e c f done.

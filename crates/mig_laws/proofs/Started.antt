@@ -318,7 +318,7 @@ module _ (o : Opening) (me : ℕ) (w : World) (l : Lawful o.machine w) (src : So
       noted_stays w v x (rw y refl) (rw y refl) (λ p e. refl) (other_states (w.tds.sessions x) w.outgoing.bundles _ (rw self (ne_eqb (w.key_table.last_exported + 1) (w.tds.sessions x) (omega (arith, low)))))
       (h.noted x exporting))))
 
-  pages_starts : (t gpa k slot : ℕ) (count : Option ℕ) → Passes ((export_pages o.machine t gpa k slot count).items w) → StartsHold ((export_pages o.machine t gpa k slot count).act w)
+  pub pages_starts : (t gpa k slot : ℕ) (count : Option ℕ) → Passes ((export_pages o.machine t gpa k slot count).items w) → StartsHold ((export_pages o.machine t gpa k slot count).act w)
   pages_starts t gpa k slot count ps =
       let td = (export_passed o.machine w t gpa k slot count ps).td in
       let exporting : IsExporting w t = record { alive = td_alive td; standing = abortable_exporting (w.tds.ops t) td.op } in

@@ -360,7 +360,7 @@ module _ (o : Opening) (me : ℕ) (w : World) (l : Lawful o.machine w) (src : So
       (λ x a. session_same w v x (back x a) (λ e. ap (λ (f : ℕ → OpState). f x) (sym ops) ∙ e) (ap (λ (f : ℕ → ℕ). f x) sessions) (ap (λ (f : ℕ → List ℕ). f x) streams)
       (λ k. subst (λ (f : ℕ → ℕ). stream_counter w x k ≤ f (stream_page w x k)) (sym counters) (omega arith))) src.ivs
 
-  pages_states : (t gpa k slot : ℕ) (count : Option ℕ) → Passes ((export_pages o.machine t gpa k slot count).items w) → StatesHold ((export_pages o.machine t gpa k slot count).act w)
+  pub pages_states : (t gpa k slot : ℕ) (count : Option ℕ) → Passes ((export_pages o.machine t gpa k slot count).items w) → StatesHold ((export_pages o.machine t gpa k slot count).act w)
   pages_states t gpa k slot count ps =
       let td = (export_passed o.machine w t gpa k slot count ps).td in
       let exporting : IsExporting w t = record { alive = td_alive td; standing = abortable_exporting (w.tds.ops t) td.op } in

@@ -368,7 +368,7 @@ module _ (o : Opening) (me : ℕ) (w : World) (l : Lawful o.machine w) (i : IvsH
       let exporting : IsExporting w t = record { alive = td_alive td; standing = paused_exporting (w.tds.ops t) td.op } in
       start_well o w l i h t exporting slot td.op
 
-  sent_well : (t gpa k slot : ℕ) (count : Option ℕ) → Passes ((export_pages o.machine t gpa k slot count).items w) → WellHolds ((export_pages o.machine t gpa k slot count).act w)
+  pub sent_well : (t gpa k slot : ℕ) (count : Option ℕ) → Passes ((export_pages o.machine t gpa k slot count).items w) → WellHolds ((export_pages o.machine t gpa k slot count).act w)
   sent_well t gpa k slot count ps =
       let p = export_passed o.machine w t gpa k slot count ps in
       let exporting : IsExporting w t = record { alive = td_alive p.td; standing = abortable_exporting (w.tds.ops t) p.td.op } in
