@@ -31,9 +31,9 @@ pub fn image_law()
 /// image; before the token there is a bundle with the TD state, and one with the state of each virtual
 /// processor of the image; behind it nothing of the session comes. So the last payload of each page
 /// before the token is that page of the image, and each state is the image's. One event keeps it,
-/// whatever bundles have come in; and each state that is so, with bundles that are well made, is a
-/// source. Until then the token's row counts as missing just those states, of the TD and of its virtual
-/// processors, that have no bundle of the session.
+/// whatever bundles have come in; and each state that is so, with bundles that are well made and as yet
+/// no list among them, is a source. Until then the token's row counts as missing just those states, of
+/// the TD and of its virtual processors, that have no bundle of the session.
 pub fn start_law()
     ensures kept { StartsAreKept }
     ensures started { SourcesAreStarted }
