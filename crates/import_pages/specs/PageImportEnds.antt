@@ -104,7 +104,7 @@ neither false false none = (refl, refl)
 neither true d none = cc
 neither false true none = cc
 
-append-again : (xs ys zs : List Change) → (xs ++ ys) ++ zs ≡ xs ++ (ys ++ zs)
+pub append-again : (xs ys zs : List Change) → (xs ++ ys) ++ zs ≡ xs ++ (ys ++ zs)
 append-again [] ys zs = refl
 append-again (x ∷ xs) ys zs = ap (λ (cs : List Change). x ∷ cs) (append-again xs ys zs)
 
