@@ -72,19 +72,23 @@ module _ (m : Machine) (x : Input) (t slot page : ℕ) (o : Option Importing) (t
     -- a condition stops
     module _ (left : List ℕ) (e : Stop) (goes : Goes {A = Importing} m.pages (λ f. page_import_asked m x t slot page None (for_one f)) told left (Err e)) where
       pub stop-gives : Wants m.pages (settle here) (need_for (Err e))
+      unfolding page_import_tree
       stop-gives = subst (λ (u : Tree). Wants m.pages (settle u) (need_for (Err e))) (sym asks) (decided m.pages whole told (Err e) (goes (one_end m x t page)))
 
       pub stop-then : (after : List ℕ) → after ≡ told_then told e → rest_of m x t slot page o after ≡ passed (settle here)
+      unfolding page_import_tree
       stop-then after is =
           subst (λ (z : Option Importing). rest_of m x t slot page z after ≡ passed (settle (rest_of m x t slot page z told))) (sym none)
           (ap (feed whole) is ∙ decided-then m.pages whole told e (goes (one_end m x t page)))
 
       pub stop-ends : EndsAs m x t page here None
+      unfolding page_import_tree
       stop-ends = subst (λ (u : Tree). changes_of u ≡ []) (sym asks) (decided-none m.pages whole told e (goes (one_end m x t page)))
 
     -- all of them hold
     module _ (left : List ℕ) (y : Importing) (shown : Feeds (λ (f : Importing → Tree). page_import_asked m x t slot page None (for_one f)) told left (Ok y)) where
       found : here ≡ one_end m x t page y
+      unfolding page_import_tree
       found = asks ∙ (shown (one_end m x t page) ∙ one-fed m x t page y left)
 
       pub found-gives : Wants m.pages (settle here) (need.Verdict (Done value.Nothing))

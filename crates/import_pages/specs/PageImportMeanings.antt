@@ -178,6 +178,7 @@ items-first m b t slot page None w = refl
 items-first m b t slot page (Some n) w = refl
 
 pub page_import-means : (p : Place) (b : Option Incoming) (t slot page : ℕ) (count : Option ℕ) → IsMachine p.machine → MeansRow (page_import_task p b t slot page count)
+unfolding page_import_tree
 page_import-means p b t slot page count limits = record {
   means = λ c at.
       (let m : Machine = p.machine in

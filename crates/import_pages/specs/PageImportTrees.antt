@@ -161,7 +161,7 @@ end_where false words behind = done [] (words ++ behind)
 abbrev pub page_import_end : Machine → (tdr : ℕ) → List Arrival → Room → List Filling → Tree
 page_import_end m tdr more room fs = end_where (any_taken fs) (all_words more fs) (changes_behind m.pages tdr more room fs)
 
-abbrev pub page_import_tree : Machine → Input → (tdr slot page : ℕ) → Option ℕ → Tree
+unfoldable pub page_import_tree : Machine → Input → (tdr slot page : ℕ) → Option ℕ → Tree
 page_import_tree m x tdr slot page count = page_import_asked m x tdr slot page count (page_import_end m tdr (arriving x page count))
 
 abbrev pub page_import_task : Place → Option Incoming → (tdr slot page : ℕ) → Option ℕ → Task
