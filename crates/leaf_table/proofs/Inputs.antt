@@ -57,7 +57,7 @@ td-same b k l call slot far = λ i. record {
 
 pub page-same : (b : Option Incoming) (k l : PageImport) → (k.place ≡ l.place) × (k.tdr ≡ l.tdr) × (k.page ≡ l.page) → k.slot ≡ l.slot → (k.told ≡ l.told) × (k.importing ≡ l.importing) × (k.written ≡ l.written) × (k.waits ≡ l.waits) → page_seen b k ≡ page_seen b l
 page-same b k l call slot far = λ i. record {
-  task = page_import_task (call.0 i) b (call.1 i) (slot i) (call.2 i);
+  task = page_import_task (call.0 i) b (call.1 i) (slot i) (call.2 i) None;
   rest = rest_of (call.0 i).machine (input_in b) (call.1 i) (slot i) (call.2 i) (far.1 i) (far.0 i).items;
   written = far.2 i;
   waits = far.3 i;
