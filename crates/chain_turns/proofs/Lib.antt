@@ -1,0 +1,2 @@
+mod Tasks
+mod Modules
