@@ -63,9 +63,9 @@ has-events o s p c cs timely some =
     omega (arith, less)
 
 -- Of items that rise and suffice, that of the first processor with a line is due.
-pub due-first : (o : Opening) (s : State) (items : List ℕ) (p : ℕ) (c : Call) (cs : List Call) → AreTimely o s → Rising items → Suffice o s items → ((q : ℕ) → q < p → lines_left o q (s.lps q) ≡ []) → lines_left o p (s.lps p) ≡ c ∷ cs
+pub due-first : (o : Opening) (s : State) (items : List ℕ) (p : ℕ) (c : Call) (cs : List Call) → AreTimely o s → Rising items → Suffice o s (items_due o s items) → ((q : ℕ) → q < p → lines_left o q (s.lps q) ≡ []) → lines_left o p (s.lps p) ≡ c ∷ cs
     → (rest : List ℕ) × (items_due o s items ≡ p ∷ rest)
-due-first o s items p c cs timely rise enough before some = by (items_due o s items) refl (due-rising o s items rise) (due_suffice o s items enough)
+due-first o s items p c cs timely rise enough before some = by (items_due o s items) refl (due-rising o s items rise) enough
   where
     by : (xs : List ℕ) → items_due o s items ≡ xs → Rising xs → Suffice o s xs → (rest : List ℕ) × (items_due o s items ≡ p ∷ rest)
     by [] e r f = (let one = f p in let least = has-events o s p c cs timely some in absurd (omega (arith, one, least)))
@@ -103,3 +103,14 @@ same-rising (suc k) p more above rise = (All-append (λ q. p ≤ q) (replicate k
 pub ends-rise : (p : ℕ) (css : List (List Call)) → Rising (to_the_end p css)
 ends-rise p [] = tt
 ends-rise p (cs ∷ css) = same-rising (events_in cs) p (to_the_end (suc p) css) (ends-above (suc p) css p (omega arith)) (ends-rise (suc p) css)
+
+-- at every moment what is due suffices
+module _ (c : Chain) (turns : List ℕ) (i : ℕ) where
+  abbrev now : State
+  now = state_of (at_moment c turns) i
+
+  pub timely-now : AreTimely (c.openings i) now
+  timely-now = (turns_on_way c i turns (first_modules c) _ (first_on_way c i)).timely
+
+  pub enough-now : Suffice (c.openings i) now (items_due (c.openings i) now ((at_moment c turns).modules i).items)
+  enough-now = due_suffice (c.openings i) now ((at_moment c turns).modules i).items (turns_on_way c i turns (first_modules c) _ (first_on_way c i)).suffice

@@ -1,2 +1,2 @@
 mod Tasks
-mod Modules
+pub mod Modules

@@ -58,7 +58,7 @@ module _ (law : TurnsKeepAll) (leaves : CallsHaveLeaves) (c : Chain) where
   own-inputs ms i m = λ j. λ slot. in_slot (own-forward ms i m j ++ own-back ms i m j) slot
 
   module _ (turns : List ℕ) (i : ℕ) where
-    abbrev r : Running
+    abbrev pub r : Running
     r = at_moment c turns
 
     abbrev s : State
@@ -73,14 +73,20 @@ module _ (law : TurnsKeepAll) (leaves : CallsHaveLeaves) (c : Chain) where
     abbrev later : Running
     later = chain_event c r i
 
-    later-is : at_moment c (turns ++ i ∷ []) ≡ later
+    pub later-is : at_moment c (turns ++ i ∷ []) ≡ later
     later-is = chain_append c turns (i ∷ []) (first_modules c)
 
-    own-opening : opening_now c later.modules i ≡ o
+    pub own-opening : opening_now c later.modules i ≡ o
     own-opening = ap (with_bundles base) (own-inputs r.modules i (turn o (r.modules i)))
 
-    own-state : (items : List ℕ) → items_due o s (r.modules i).items ≡ items → state_of later i ≡ (go_on o s items).state
+    pub own-state : (items : List ℕ) → items_due o s (r.modules i).items ≡ items → state_of later i ≡ (go_on o s items).state
     own-state items due = ap (λ (m : Module). m.state) (put-own r.modules i i (turn o (r.modules i)) refl) ∙ ap (λ (xs : List ℕ). (go_on o s xs).state) due
+
+    pub own-items : (p : ℕ) (items : List ℕ) → items_due o s (r.modules i).items ≡ p ∷ items → (later.modules i).items ≡ items
+    own-items p items due = ap (λ (m : Module). m.items) (put-own r.modules i i (turn o (r.modules i)) refl) ∙ ap (λ (xs : List ℕ). (go_on o s xs).items) due
+
+    pub none-left : items_due o s (r.modules i).items ≡ [] → (later.modules i).items ≡ []
+    none-left due = ap (λ (m : Module). m.items) (put-own r.modules i i (turn o (r.modules i)) refl) ∙ ap (λ (xs : List ℕ). (go_on o s xs).items) due
 
     -- with the leaves of that moment
     at-later : (now : ℕ → WordLp) (u : Table) (items : List ℕ) → items_due o s (r.modules i).items ≡ items → StandsIn now u o (go_on o s items).state → ((p : ℕ) → p < length base.calls → HasBegun (now p).run (now p).guest)
