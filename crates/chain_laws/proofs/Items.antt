@@ -1,9 +1,8 @@
 -- The items that are left of a module, as who walks over its schedule, and then over its processors, has them.
-use Rattle.std.proofs.Common.{◌≡◌, ◌≢◌, ◌⊎◌, inl, inr, refl, sym, ◌∙◌, ap, subst, ℕ, zero, suc, ◌+◌, ◌<◌, ◌≤◌, List, [], ◌∷◌, ◌++◌, length, drop, get_or, replicate, Option, Bool, true, false, ◌==◌, if◌then◌else◌, arith}
+use Rattle.std.proofs.Common.{◌≡◌, ◌⊎◌, inl, inr, refl, sym, ◌∙◌, ap, ℕ, zero, suc, ◌<◌, ◌≤◌, List, [], ◌∷◌, ◌++◌, get_or, replicate, Option, Bool, true, false, ◌==◌, if◌then◌else◌, arith}
 use Rattle.std.specs.List.{All}
 use Rattle.std.proofs.lemmas.Bool.{cases_lt, ne_eqb}
 use Rattle.std.proofs.lemmas.List.Elements.{All-nil, All-cons, All-head, All-tail, All-append, All-weaker}
-use Rattle.std.proofs.Math.Seq.{drop-cons}
 use Rattle.td_words.specs.declared.calls.Call.{Call}
 use Rattle.flat_core.specs.Opening.{Opening, Incoming}
 use Rattle.flat_core.specs.Locks.{one_if}
@@ -12,16 +11,12 @@ use Rattle.flat_core.specs.Event.{State, lines_left, line_event, event_for}
 use Rattle.flat_core.specs.Inside.{AreTimely}
 use Rattle.flat_core.proofs.Ends.{timely_run_out}
 use Rattle.flat_core.specs.Run.{events_in, to_the_end}
-use Rattle.flat_core.specs.Bounds.{left_of, events_left}
+use Rattle.flat_core.specs.Bounds.{events_left}
 use Rattle.flat_core.specs.Laws.{with_bundles, own_items}
 use Rattle.flat_core.proofs.Tests.{by_test}
 use Rattle.chain_laws.specs.Chains.{Chain, state_of, has_line, items_due, at_moment, first_modules}
+use Rattle.chain_laws.specs.Items.{Rising}
 use Rattle.chain_laws.proofs.Ends.{Suffice, due_suffice, turns_on_way, first_on_way}
-
--- numbers that rise, or stay
-abbrev pub Rising : List ℕ → Type 0
-Rising [] = Unit {0}
-Rising (p ∷ ps) = All (λ q. p ≤ q) ps × Rising ps
 
 -- the bundles that come in don't matter
 pub due-rebundled : (o : Opening) (bundles : ℕ → Option Incoming) (s : State) (items : List ℕ) → items_due (with_bundles o bundles) s items ≡ items_due o s items

@@ -1,14 +1,13 @@
 -- The processors of a chain's modules, turn by turn.
-use Rattle.std.proofs.Common.{◌≡◌, ◌≢◌, ◌⊎◌, inl, inr, refl, sym, ◌∙◌, ap, subst, ℕ, zero, suc, ◌<◌, List, [], ◌∷◌, ◌++◌, length, Option, Some, None, Bool, true, false, ◌==◌, not, arith}
+use Rattle.std.proofs.Common.{◌≡◌, ◌≢◌, ◌⊎◌, inl, inr, refl, sym, ◌∙◌, ap, subst, ℕ, zero, suc, ◌<◌, List, [], ◌∷◌, ◌++◌, length, Option, Some, None, true, false, ◌==◌, not, arith}
 use Rattle.std.specs.List.{All, filter}
 use Rattle.std.proofs.lemmas.Bool.{eq-eqb, ne_eqb}
 use Rattle.std.proofs.lemmas.Bool.Decides.{eqb_tells}
 use Rattle.std.proofs.lemmas.List.Elements.{All-head, All-tail}
 use Rattle.td_words.specs.declared.calls.Call.{Call}
-use Rattle.td_words.specs.Slots.{input_slot}
-use Rattle.flat_core.specs.World.{Made, put}
-use Rattle.flat_core.specs.Opening.{Opening, Incoming}
-use Rattle.flat_core.specs.Event.{State, start, calls_of, event}
+use Rattle.flat_core.specs.World.{put}
+use Rattle.flat_core.specs.Opening.{Opening}
+use Rattle.flat_core.specs.Event.{State, calls_of}
 use Rattle.flat_core.specs.Laws.{with_bundles}
 use Rattle.flat_bundles.specs.Ended.{ended_bundles}
 use Rattle.mig_laws.specs.Ivs.{is_forward}
@@ -16,9 +15,9 @@ use Rattle.step_core.specs.Items.{Table, PlaysTo}
 use Rattle.leaf_engine.specs.declared.events.Event.{Event}
 use Rattle.leaf_engine.specs.Turns.{Standing}
 use Rattle.leaf_engine.specs.Guests.{WordGuest}
-use Rattle.leaf_engine.specs.OwnLists.{Piece, taken_in, LeafTable, WordLp, first_lp, LpTurns}
-use Rattle.leaf_engine.specs.Merges.{no_table, AreLeaves, AreCodes}
-use Rattle.leaf_table.specs.Given.{Given, given_of}
+use Rattle.leaf_engine.specs.OwnLists.{Piece, taken_in, WordLp, first_lp, LpTurns}
+use Rattle.leaf_engine.specs.Merges.{no_table, AreLeaves}
+use Rattle.leaf_table.specs.Given.{given_of}
 use Rattle.leaf_table.specs.Table.{leaf_table}
 use Rattle.leaf_table.specs.Laws.{CallsHaveLeaves}
 use Rattle.chain_laws.specs.Chains.{Module, Chain, Running, state_of, comes_forward, comes_back, in_slot, inputs, opening_now, items_due, go_on, turn, chain_event, play_chain, first_modules, at_moment}

@@ -1,5 +1,5 @@
 -- What a leaf has to do hangs on the bundle of its call's own slot alone, and what a guest's step does on no bundle.
-use Rattle.std.proofs.Common.{◌≡◌, refl, ap, sym, ℕ, Option, Some}
+use Rattle.std.proofs.Common.{◌≡◌, refl, ap, ℕ, Option, Some}
 use Rattle.td_words.specs.declared.calls.Call.{Call}
 use Rattle.td_words.specs.declared.calls.Call.TheVariants as call
 use Rattle.td_words.specs.declared.calls.GuestOp.{GuestOp}
