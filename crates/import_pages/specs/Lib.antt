@@ -1,4 +1,7 @@
 pub mod PageImportTrees
-pub mod PageImportStages
+pub mod PageImportLoop
 pub mod PageImportShows
+pub mod PageImportWorlds
+pub mod PageImportStages
+pub mod PageImportEnds
 pub mod PageImportMeanings

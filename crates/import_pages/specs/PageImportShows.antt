@@ -1,38 +1,24 @@
 -- The words that the import of a page leaves show its act.
-use Rattle.std.proofs.Common.{◌≡◌, ◌⊎◌, ℕ, zero, suc, ◌+◌, ◌^◌, ◌<◌, ◌≤◌, true, false, ◌==◌, Some, ◌++◌, refl, ap, sym, ◌∙◌, subst, inl, inr, arith}
+use Rattle.std.proofs.Common.{◌≡◌, ◌⊎◌, ℕ, zero, suc, ◌+◌, ◌<◌, ◌≤◌, true, false, ◌==◌, refl, ap, sym, ◌∙◌, subst, inl, inr, arith}
 use Rattle.std.proofs.lemmas.Bool.{eq-eqb, eqb-true, ne_eqb, cases_lt}
 use Rattle.td_words.specs.declared.names.PageKind.TheVariants as kind
-use Rattle.td_words.specs.declared.names.EntryState.TheVariants as entry
 use Rattle.td_words.specs.declared.names.LifeState.TheVariants as life
 use Rattle.td_words.specs.declared.machines.Machine.{Machine}
-use Rattle.td_words.specs.declared.places.TheConstants.{TDR_CHILDREN}
 use Rattle.td_words.specs.NameNumber.{life_number}
-use Rattle.td_words.specs.Packing.{Entry, entry_word, pamt_word}
 use Rattle.td_words.specs.Place.{WordPlace}
 use Rattle.td_words.specs.Place as place
 use Rattle.flat_core.specs.World.{World, put}
-use Rattle.flat_core.specs.Conditions.{is_host, children}
-use Rattle.flat_core.specs.Effects.{set_page, set_entry, take_node, begin_memory}
+use Rattle.flat_core.specs.Effects.{set_page}
 use Rattle.flat_core.specs.Event.{State}
-use Rattle.flat_core.specs.Lawful.{Lawful, IsAlive, IsNodeOf, IsPageOf}
+use Rattle.flat_core.specs.Lawful.{IsPageOf}
 use Rattle.flat_core.specs.Sessions.{stream_page, stream_counter, count_bundle}
-use Rattle.flat_core.specs.Tree.{number_at}
-use Rattle.flat_core.proofs.Tests.{by_test, host_kind}
-use Rattle.sept_walk.specs.SecureEpt.{index_at}
+use Rattle.flat_core.proofs.Tests.{by_test}
 use Rattle.word_rules.specs.Cells.{Shows, IsAs, cell, page_cell, lock_word}
 use Rattle.leaf_engine.specs.Changes.{Hand, Memory, Put, changed, changed_all}
-use Rattle.leaf_engine.proofs.Showing.{changed-append}
-use Rattle.leaf_parts.specs.Words.{raised}
-use Rattle.leaf_parts.proofs.Aside.{AllShown, IsOff, aside, apart, back, words-but, untold}
-use Rattle.leaf_parts.proofs.Begun.{TwoControls}
-use Rattle.sept_parts.specs.SeptPages.{HasEntry}
-use Rattle.sept_parts.proofs.Filled.{set-lawful}
-use Rattle.sept_parts.proofs.Nodes.{node-taken}
-use Rattle.sept_parts.proofs.SeptPut.{entry-put}
+use Rattle.leaf_parts.proofs.Aside.{AllShown, IsOff, aside, back, words-but}
 use Rattle.stream_parts.proofs.Counted.{stream-stored}
 use Rattle.stream_parts.specs.declared.rooms.Room.{Room}
-use Rattle.import_pages.specs.declared.page_imports.Importing.{Importing}
-use Rattle.import_pages.specs.PageImportTrees.{word_puts, counter_changes, changes_behind}
+use Rattle.import_pages.specs.PageImportTrees.{word_puts, counter_changes}
 
 -- the words of a page are stored one after another
 module _ (p : ℕ) (ws : ℕ → ℕ) where
@@ -99,12 +85,9 @@ module _ (p : ℕ) (ws : ℕ → ℕ) where
     pub words-stored : Shows m after.words after.slots (record s { world = filled })
     words-stored = subst (λ (f : ℕ → Hand). Shows m after.words f (record s { world = filled })) (sym (same-slots 0 512 mem)) (record { word = filled-words; hasher = sh.hasher })
 
--- the guest may know the words from then on, which no word tells; and the stream counts the bundle
-module _ (m : Machine) (s : State) (mem : Memory) (t g k : ℕ) (ws : ℕ → ℕ) (sh : Shows m mem.words mem.slots s) (alive : (life_number (s.world.tds.lives t) == life_number life.Teardown) ≡ false)
+-- and where the stream counts the bundle
+module _ (m : Machine) (s : State) (mem : Memory) (t k : ℕ) (sh : Shows m mem.words mem.slots s) (alive : (life_number (s.world.tds.lives t) == life_number life.Teardown) ≡ false)
     (its : IsPageOf s.world.pages t (stream_page s.world t k) kind.Migsc) (in_page : stream_page s.world t k < m.pages) where
-  abbrev begun : World
-  begun = begin_memory t g ws s.world
-
   abbrev room : Room
   room = record { page = stream_page s.world t k; counter = stream_counter s.world t k }
 
@@ -112,35 +95,10 @@ module _ (m : Machine) (s : State) (mem : Memory) (t g k : ℕ) (ws : ℕ → �
   counted = changed_all (counter_changes room) mem
 
   abbrev later : World
-  later = count_bundle t k begun
-
-  begun-shown : Shows m mem.words mem.slots (record s { world = begun })
-  begun-shown = record { word = untold m mem.words s s.world.tds.measured begun.hidden.memories sh.word; hasher = sh.hasher }
+  later = count_bundle t k s.world
 
   its-own : (stream_page s.world t k == stream_page s.world t k) ≡ true
   its-own = eq-eqb (stream_page s.world t k) (stream_page s.world t k) refl
 
   pub counted-shown : Shows m counted.words counted.slots (record s { world = later })
-  counted-shown = stream-stored m (record s { world = begun }) mem.words mem.slots t (stream_page s.world t k) begun-shown alive its in_page later.streams later.outgoing 0 (stream_counter s.world t k + 1) (rw its-own refl) (λ i n. rw n refl) (λ q i o. rw o refl)
-
--- where a page that is mapped gets other words
-module _ (m : Machine) (s : State) (mem : Memory) (t p g k : ℕ) (ws : ℕ → ℕ) (sh : Shows m mem.words mem.slots s) (alive : IsAlive s.world.pages s.world.tds t) (private : s.world.pages.kinds p ≡ kind.Reg)
-    (its : IsPageOf s.world.pages t (stream_page s.world t k) kind.Migsc) (in_stream : stream_page s.world t k < m.pages) where
-  abbrev stream_room : Room
-  stream_room = record { page = stream_page s.world t k; counter = stream_counter s.world t k }
-
-  abbrev replaced : Memory
-  replaced = changed_all (word_puts p ws 0 512) mem
-
-  abbrev ended : Memory
-  ended = changed_all (word_puts p ws 0 512 ++ counter_changes stream_room) mem
-
-  abbrev with_words : World
-  with_words = set_page p ws s.world
-
-  replaced-shown : Shows m replaced.words replaced.slots (record s { world = with_words })
-  replaced-shown = words-stored p ws m s mem sh (λ i. rw (private, eq-eqb p p refl) refl)
-
-  pub mapped-shown : Shows m ended.words ended.slots (record s { world = count_bundle t k (begin_memory t g ws with_words) })
-  mapped-shown = subst (λ (x : Memory). Shows m x.words x.slots (record s { world = count_bundle t k (begin_memory t g ws with_words) })) (sym (changed-append (word_puts p ws 0 512) (counter_changes stream_room) mem))
-      (counted-shown m (record s { world = with_words }) replaced t g k ws replaced-shown alive.life its in_stream)
+  counted-shown = stream-stored m s mem.words mem.slots t (stream_page s.world t k) sh alive its in_page later.streams later.outgoing 0 (stream_counter s.world t k + 1) (rw its-own refl) (λ i n. rw n refl) (λ q i o. rw o refl)

@@ -1,15 +1,15 @@
 //! The conditions of IMPORT.MEM, and what they tell.
 
-ghost use Rattle.std.specs.Prelude.{◌≡◌, ℕ, ◌+◌, ◌-◌, ◌^◌, ◌<◌, ◌≤◌, length, MatchResult};
+ghost use Rattle.std.specs.Prelude.{◌≡◌, ℕ, ◌+◌, ◌-◌, ◌^◌, ◌<◌, ◌≤◌, [], None, length, MatchResult};
 ghost use Rattle.flat_core.specs.Opening.{clear_header};
 ghost use Rattle.flat_core.specs.Inputs.{input_in};
 ghost use Rattle.leaf_engine.specs.Inside.{StopIn, StopEarly};
 ghost use Rattle.leaf_parts.specs.Arguments.{checked};
 ghost use Rattle.leaf_parts.specs.Parts.{Goes, Feeds, Uses};
-ghost use Rattle.import_pages.specs.PageImportStages.{IsShown};
-ghost use Rattle.import_pages.specs.PageImportTrees.{page_import_arguments, stream_there_tree, due_bundle_tree, taken_tree, named_tree, found_rest, td_rest, td_import_tree, page_import_asked};
+ghost use Rattle.import_pages.specs.PageImportStages.{IsShown, for_one, one_page};
+ghost use Rattle.import_pages.specs.PageImportTrees.{arriving, page_import_arguments, stream_there_tree, due_bundle_tree, taken_tree, named_tree, found_rest, td_rest, td_import_tree, page_import_asked};
 
-use crate::page_imports::Importing;
+use crate::page_imports::{Filling, Importing};
 use import_parts::{counter_due, epoch_same, header_of, input_of, session_same, tag_holds};
 use incoming::Incoming;
 use leaf_engine::{Place, Stop, Told};
@@ -41,8 +41,8 @@ pub fn to_import(
     page: u64,
     input: &Option<Incoming<'_>>,
 ) -> Result<Importing, Stop>
-    ensures goes { Goes place.machine.pages (λ f. page_import_asked place.machine (input_in input.now) tdr slot page f) told.old.left.now told.new.left.now result }
-    ensures feeds { Feeds (λ f. page_import_asked place.machine (input_in input.now) tdr slot page f) told.old.left.now told.new.left.now result }
+    ensures goes { Goes place.machine.pages (λ f. page_import_asked place.machine (input_in input.now) tdr slot page None (for_one f)) told.old.left.now told.new.left.now result }
+    ensures feeds { Feeds (λ f. page_import_asked place.machine (input_in input.now) tdr slot page None (for_one f)) told.old.left.now told.new.left.now result }
     ensures early { MatchResult result (λ y. length told.old.left.now ≤ 21 + length told.new.left.now) (λ e. StopEarly 21 (length told.old.left.now) e) }
     ensures inside { MatchResult result (λ y. IsShown place.machine tdr y) (λ e. StopIn place.machine e) }
 {
@@ -53,8 +53,8 @@ pub fn to_import(
 
 /// The arguments: a TDR page, and another page of the machine.
 fn are_in_range(told: &Told, machine: Machine, tdr: u64, page: u64) -> Result<(), Stop>
-    ensures goes { Goes machine.pages (λ f. checked (page_import_arguments machine tdr page) (f tt)) told.now.left.now told.now.left.now result }
-    ensures feeds { Feeds (λ f. checked (page_import_arguments machine tdr page) (f tt)) told.now.left.now told.now.left.now result }
+    ensures goes { Goes machine.pages (λ f. checked (page_import_arguments machine tdr page None) (f tt)) told.now.left.now told.now.left.now result }
+    ensures feeds { Feeds (λ f. checked (page_import_arguments machine tdr page None) (f tt)) told.now.left.now told.now.left.now result }
     ensures uses { Uses 0 told.now.left.now told.now.left.now result }
     ensures inside { MatchResult result (λ u. (tdr < machine.pages) × (page < machine.pages)) (λ e. StopIn machine e) }
 {
@@ -74,8 +74,8 @@ fn td_import(
     input: &Option<Incoming<'_>>,
 ) -> Result<Importing, Stop>
     requires { (tdr < place.machine.pages) × (page < place.machine.pages) × IsMemory (input_in input.now) }
-    ensures goes { Goes place.machine.pages (λ f. td_import_tree place.machine.pages tdr page (input_in input.now) f) told.old.left.now told.new.left.now result }
-    ensures feeds { Feeds (λ f. td_import_tree place.machine.pages tdr page (input_in input.now) f) told.old.left.now told.new.left.now result }
+    ensures goes { Goes place.machine.pages (λ f. td_import_tree place.machine.pages tdr (arriving (input_in input.now) page None) (input_in input.now) (for_one f)) told.old.left.now told.new.left.now result }
+    ensures feeds { Feeds (λ f. td_import_tree place.machine.pages tdr (arriving (input_in input.now) page None) (input_in input.now) (for_one f)) told.old.left.now told.new.left.now result }
     ensures early { MatchResult result (λ y. length told.old.left.now ≤ 21 + length told.new.left.now) (λ e. StopEarly 21 (length told.old.left.now) e) }
     ensures inside { MatchResult result (λ y. IsShown place.machine tdr y) (λ e. StopIn place.machine e) }
 {
@@ -97,15 +97,16 @@ fn page_to_fill(
     header: &Header,
 ) -> Result<Importing, Stop>
     requires { (tdr < place.machine.pages) × (page < place.machine.pages) × (tdcs < place.machine.pages) × (header.now.stream < 4) }
-    ensures goes { Goes place.machine.pages (λ f. td_rest place.machine.pages tdr page (clear_header header.now) tdcs f) told.old.left.now told.new.left.now result }
-    ensures feeds { Feeds (λ f. td_rest place.machine.pages tdr page (clear_header header.now) tdcs f) told.old.left.now told.new.left.now result }
+    ensures goes { Goes place.machine.pages (λ f. td_rest place.machine.pages tdr (one_page header.now.gpa page) (clear_header header.now) tdcs (for_one f)) told.old.left.now told.new.left.now result }
+    ensures feeds { Feeds (λ f. td_rest place.machine.pages tdr (one_page header.now.gpa page) (clear_header header.now) tdcs (for_one f)) told.old.left.now told.new.left.now result }
     ensures early { MatchResult result (λ y. length told.old.left.now ≤ 14 + length told.new.left.now) (λ e. StopEarly 14 (length told.old.left.now) e) }
     ensures inside { MatchResult result (λ y. IsShown place.machine tdr y) (λ e. StopIn place.machine e) }
 {
     tree_lock(told, place, tdcs, Mode::Exclusive)?;
     let room = due_bundle(told, place.machine, tdcs, header)?;
     let found = find(told, place, tdr, header.gpa, 0)?;
-    found_import(told, place, tdr, page, room, laid_out(found))
+    let filling = found_import(told, place, tdr, page, laid_out(found))?;
+    Ok(Importing { filling, room })
 }
 
 /// The bundle is the next one of its stream, in the session and the epoch of the TD. It tells the stream.
@@ -170,68 +171,52 @@ fn found_import(
     place: Place,
     tdr: u16,
     page: u16,
-    room: Room,
     entry: PageEntry,
-) -> Result<Importing, Stop>
-    requires { (tdr < place.machine.pages) × (page < place.machine.pages) × (room.page < place.machine.pages) × (room.counter < 2 ^ 32 - 1) × (entry.at < place.machine.pages) × (entry.page < place.machine.pages) }
-    ensures goes { Goes place.machine.pages (λ f. found_rest tdr page room (found_of entry) f) told.old.left.now told.new.left.now result }
-    ensures feeds { Feeds (λ f. found_rest tdr page room (found_of entry) f) told.old.left.now told.new.left.now result }
+) -> Result<Filling, Stop>
+    requires { (tdr < place.machine.pages) × (page < place.machine.pages) × (entry.at < place.machine.pages) × (entry.page < place.machine.pages) }
+    ensures goes { Goes place.machine.pages (λ f. found_rest tdr [] page (found_of entry) f) told.old.left.now told.new.left.now result }
+    ensures feeds { Feeds (λ f. found_rest tdr [] page (found_of entry) f) told.old.left.now told.new.left.now result }
     ensures early { MatchResult result (λ y. length told.old.left.now ≤ 3 + length told.new.left.now) (λ e. StopEarly 3 (length told.old.left.now) e) }
-    ensures inside { MatchResult result (λ y. IsShown place.machine tdr y) (λ e. StopIn place.machine e) }
+    ensures inside { MatchResult result (λ y. (y.at < place.machine.pages) × (y.page < place.machine.pages)) (λ e. StopIn place.machine e) }
 {
     told.check(
         is_state_among(entry.state, &IMPORTABLE),
         Status::EptEntryStateIncorrect(entry.state),
     )?;
     match entry.state {
-        EntryState::Free => page_taken(told, place, tdr, page, entry.at, room),
-        _ => page_named(told, place, entry.page, entry.at, room),
+        EntryState::Free => page_taken(told, place, tdr, page, entry.at),
+        _ => page_named(told, place, entry.page, entry.at),
     }
 }
 
 /// Where the entry is FREE: PAGE is held alone, and is the host's; and the child count is told.
-fn page_taken(
-    told: &mut Told,
-    place: Place,
-    tdr: u16,
-    page: u16,
-    at: u16,
-    room: Room,
-) -> Result<Importing, Stop>
+fn page_taken(told: &mut Told, place: Place, tdr: u16, page: u16, at: u16) -> Result<Filling, Stop>
     requires { (tdr < place.machine.pages) × (page < place.machine.pages) }
-    ensures goes { Goes place.machine.pages (λ f. taken_tree tdr page at room f) told.old.left.now told.new.left.now result }
-    ensures feeds { Feeds (λ f. taken_tree tdr page at room f) told.old.left.now told.new.left.now result }
+    ensures goes { Goes place.machine.pages (λ f. taken_tree tdr [] page at f) told.old.left.now told.new.left.now result }
+    ensures feeds { Feeds (λ f. taken_tree tdr [] page at f) told.old.left.now told.new.left.now result }
     ensures uses { Uses 3 told.old.left.now told.new.left.now result }
-    ensures inside { MatchResult result (λ y. (y.at ≡ at) × (y.page ≡ page) × (y.room ≡ room)) (λ e. StopIn place.machine e) }
+    ensures inside { MatchResult result (λ y. (y.at ≡ at) × (y.page ≡ page)) (λ e. StopIn place.machine e) }
 {
     let children = taken_page(told, place, tdr, page)?;
-    Ok(Importing {
+    Ok(Filling {
         at,
         page,
         children: Some(children),
-        room,
     })
 }
 
 /// Where it is MAPPED: the page that it names is held alone.
-fn page_named(
-    told: &mut Told,
-    place: Place,
-    page: u16,
-    at: u16,
-    room: Room,
-) -> Result<Importing, Stop>
+fn page_named(told: &mut Told, place: Place, page: u16, at: u16) -> Result<Filling, Stop>
     requires { page < place.machine.pages }
-    ensures goes { Goes place.machine.pages (λ f. named_tree page at room f) told.old.left.now told.new.left.now result }
-    ensures feeds { Feeds (λ f. named_tree page at room f) told.old.left.now told.new.left.now result }
+    ensures goes { Goes place.machine.pages (λ f. named_tree page at f) told.old.left.now told.new.left.now result }
+    ensures feeds { Feeds (λ f. named_tree page at f) told.old.left.now told.new.left.now result }
     ensures uses { Uses 1 told.old.left.now told.new.left.now result }
-    ensures inside { MatchResult result (λ y. (y.at ≡ at) × (y.page ≡ page) × (y.room ≡ room)) (λ e. StopIn place.machine e) }
+    ensures inside { MatchResult result (λ y. (y.at ≡ at) × (y.page ≡ page)) (λ e. StopIn place.machine e) }
 {
     told.lock(LockName::Page(page), lock_address(page), Mode::Exclusive)?;
-    Ok(Importing {
+    Ok(Filling {
         at,
         page,
         children: None,
-        room,
     })
 }

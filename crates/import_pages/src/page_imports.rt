@@ -19,13 +19,18 @@ use td_words::{EntryState, Machine, PageKind, Reply, Value, word_address};
 const WORDS: usize = 512;
 
 /// What the conditions have shown of a page that comes in: the secure EPT page in which its entry
-/// stands; itself; where it is taken, how many pages the TD has so far; and the stream that counts the
-/// bundle.
+/// stands; itself; and where it is taken, how many pages the TD has so far.
 #[derive(Clone, Copy, Debug, PartialEq, Eq)]
-pub struct Importing {
+pub struct Filling {
     pub at: u16,
     pub page: u16,
     pub children: Option<u64>,
+}
+
+/// What they have shown of all: that, and the stream that counts the bundle.
+#[derive(Clone, Copy, Debug, PartialEq, Eq)]
+pub struct Importing {
+    pub filling: Filling,
     pub room: Room,
 }
 
@@ -49,7 +54,7 @@ pub struct PageImport<'a> {
 }
 
 impl<'a> PageImport<'a> {
-    ghost use Rattle.std.specs.Prelude.{◌≡◌};
+    ghost use Rattle.std.specs.Prelude.{◌≡◌, None};
     ghost use Rattle.td_words.specs.Limits.{IsMachine};
     ghost use Rattle.flat_core.specs.Inputs.{input_in};
     ghost use Rattle.leaf_engine.specs.Turns.{IsFresh};
@@ -65,7 +70,7 @@ impl<'a> PageImport<'a> {
         input: Option<Incoming<'a>>,
     ) -> PageImport<'a>
         requires { IsMachine place.machine }
-        ensures task { ⟦<PageImport<'a> as Leaf>⟧.task result ≡ page_import_task place input.entry tdr slot page }
+        ensures task { ⟦<PageImport<'a> as Leaf>⟧.task result ≡ page_import_task place input.entry tdr slot page None }
         ensures fresh { let leaf = ⟦<PageImport<'a> as Leaf>⟧ in IsFresh (leaf.task result).tree (leaf.rest result) (leaf.tries result) (leaf.written result) (leaf.waits result) }
         ensures input { (result.slot ≡ slot) × (result.input ≡ input.entry) }
     {
@@ -121,7 +126,7 @@ impl<'a> PageImport<'a> {
 
     /// What is imported, once the conditions have passed.
     fn ended(&self) -> Option<Importing>
-        ensures { let l = self.now in EndsAs l.place.machine (input_in l.input) l.tdr (rest_of l.place.machine (input_in l.input) l.tdr l.slot l.page l.importing l.told.items) result }
+        ensures { let l = self.now in EndsAs l.place.machine (input_in l.input) l.tdr l.page (rest_of l.place.machine (input_in l.input) l.tdr l.slot l.page l.importing l.told.items) result }
     {
         match self.importing {
             Some(importing) => Some(importing),
@@ -146,14 +151,14 @@ impl<'a> PageImport<'a> {
 }
 
 impl<'a> Leaf for PageImport<'a> {
-    ghost use Rattle.std.specs.Prelude.{◌≡◌, ℕ, ◌+◌, ◌-◌, ◌*◌, length, if◌then◌else◌, Option};
+    ghost use Rattle.std.specs.Prelude.{◌≡◌, ℕ, ◌+◌, ◌-◌, ◌*◌, length, if◌then◌else◌, Option, None};
     ghost use Rattle.flat_core.specs.Opening.{Incoming as Arrived};
     ghost use Rattle.flat_core.specs.Inputs.{input_in};
     ghost use Rattle.import_pages.specs.PageImportTrees.{page_import_task};
     ghost use Rattle.import_pages.specs.PageImportStages.{rest_of};
     ghost use Rattle.import_pages.specs.PageImportMeanings.{page_import-means};
 
-    ghost task = { λ l. page_import_task l.place l.input l.tdr l.slot l.page };
+    ghost task = { λ l. page_import_task l.place l.input l.tdr l.slot l.page None };
 
     ghost rest = { λ l. rest_of l.place.machine (input_in l.input) l.tdr l.slot l.page l.importing l.told.items };
 
@@ -213,7 +218,7 @@ impl<'a> Leaf for PageImport<'a> {
         Some(write)
     }
 
-    ghost means = { λ l. page_import-means l.place l.input l.tdr l.slot l.page l.machine };
+    ghost means = { λ l. page_import-means l.place l.input l.tdr l.slot l.page None l.machine };
 }
 
 impl Importing {
@@ -221,8 +226,8 @@ impl Importing {
     ghost use Rattle.mrtd_measure.specs.declared.measures.Measure.{Measure};
     ghost use Rattle.flat_core.specs.Inputs.{input_in};
     ghost use Rattle.leaf_engine.specs.Decides.{HandsAt};
-    ghost use Rattle.import_pages.specs.PageImportTrees.{counter_changes, page_import_changes, changes_behind};
-    ghost use Rattle.import_pages.specs.PageImportStages.{IsShown};
+    ghost use Rattle.import_pages.specs.PageImportTrees.{counter_changes};
+    ghost use Rattle.import_pages.specs.PageImportStages.{IsShown, one_behind, one_changes};
 
     /// The write of that number: first the words of the page, as the payload has them, and what comes
     /// behind them.
@@ -235,12 +240,12 @@ impl Importing {
         number: usize,
     ) -> Option<Write>
         requires { IsShown machine tdr self }
-        ensures hands { (h : Option Measure) → HandsAt machine (page_import_changes machine.pages tdr gpa (input_in input.now).words self) number h h result }
+        ensures hands { (h : Option Measure) → HandsAt machine (one_changes machine.pages tdr gpa (input_in input.now).words self) number h h result }
         ensures few { MatchOption result Unit (λ w. number < 516) }
     {
         if number < WORDS {
             let word = word_of(input, number);
-            Some(Write::store(word_address(self.page, number as u16), word))
+            Some(Write::store(word_address(self.filling.page, number as u16), word))
         } else {
             self.write_behind(machine, tdr, gpa, number - WORDS)
         }
@@ -250,21 +255,21 @@ impl Importing {
     /// of the stream.
     fn write_behind(self, machine: Machine, tdr: u16, gpa: u64, number: usize) -> Option<Write>
         requires { IsShown machine tdr self }
-        ensures hands { (h : Option Measure) → HandsAt machine (changes_behind machine.pages tdr gpa self self.children) number h h result }
+        ensures hands { (h : Option Measure) → HandsAt machine (one_behind machine.pages tdr gpa self) number h h result }
         ensures few { MatchOption result Unit (λ w. number < 4) }
     {
-        match self.children {
+        match self.filling.children {
             Some(children) => {
                 if number < 3 {
                     let mapping = Mapping {
                         tdr,
                         gpa,
                         level: 0,
-                        page: self.page,
+                        page: self.filling.page,
                         kind: PageKind::Reg,
                         state: EntryState::Mapped,
                     };
-                    map_write(machine, mapping, self.at, children, number)
+                    map_write(machine, mapping, self.filling.at, children, number)
                 } else {
                     self.count(machine, number - 3)
                 }
