@@ -1,5 +1,5 @@
 -- What a leaf has to do hangs on the bundle of its call's own slot alone, and what a guest's step does on no bundle.
-use Rattle.std.proofs.Common.{◌≡◌, refl, ap, ℕ, Option, Some}
+use Rattle.std.proofs.Common.{◌≡◌, refl, ap, ℕ, Option, Some, None}
 use Rattle.td_words.specs.declared.calls.Call.{Call}
 use Rattle.td_words.specs.declared.calls.Call.TheVariants as call
 use Rattle.td_words.specs.declared.calls.GuestOp.{GuestOp}
@@ -20,7 +20,7 @@ use Rattle.leaf_table.specs.Table.{task_of, operation_task, step_task}
 pub tasks-take : (g h : Given) (p : Place) (c : Call) → ((slot : ℕ) → input_slot c ≡ Some slot → h.bundles slot ≡ g.bundles slot) → task_of h p c ≡ task_of g p c
 tasks-take g h p (call.ExportAbortByToken tdr slot) same = ap (λ (b : Option Incoming). abort_by_token_task p b tdr slot) (same slot refl)
 tasks-take g h p (call.ImportStateImmutable tdr slot) same = ap (λ (b : Option Incoming). import_immutable_task p b tdr slot) (same slot refl)
-tasks-take g h p (call.ImportMem tdr slot page) same = ap (λ (b : Option Incoming). page_import_task p b tdr slot page) (same slot refl)
+tasks-take g h p (call.ImportMem tdr slot page) same = ap (λ (b : Option Incoming). page_import_task p b tdr slot page None) (same slot refl)
 tasks-take g h p (call.ImportTrack tdr slot) same = ap (λ (b : Option Incoming). import_token_task p b tdr slot) (same slot refl)
 tasks-take g h p (call.ImportStateTd tdr slot) same = ap (λ (b : Option Incoming). import_td_task p b tdr slot) (same slot refl)
 tasks-take g h p (call.ImportStateVp tdr vp slot) same = ap (λ (b : Option Incoming). import_vp_task p b tdr vp slot) (same slot refl)
