@@ -5,7 +5,7 @@ of the program that its words and its script decide, and the ways of writing a c
 
 import command_lines
 import features
-from features import LISTS
+from features import LATE_PAGES, LISTS
 from scripts import BY_TOKEN, CALLS, REASONS, form_of
 
 TD = "PAGE_METADATA_INCORRECT 1"
@@ -164,6 +164,12 @@ REFUSALS = {
     "IMPORT.END": ((1, 2), (*EARLY, RUNNABLE, *SESSION, *FILLING, ALL_IN, FAILED_IN)),
     "IMPORT.ABORT": ((1, 2), (*EARLY, RUNNABLE, *SESSION, LIVE_IN, FAILED_IN)),
 }
+if features.has(LATE_PAGES):
+    tries, refusals = REFUSALS["EXPORT.MEM"]
+    REFUSALS["EXPORT.MEM"] = tries, tuple(its for its in refusals if its != POST)
+    tries, refusals = REFUSALS["IMPORT.MEM"]
+    late = *(its for its in refusals if its not in (ALL_IN, LIVE_IN)), *states("MAPPED")
+    REFUSALS["IMPORT.MEM"] = tries, late
 # Of a list: the tries of its pages, by their places in it, and of the stream behind them; and what becomes of lists alone.
 OF_PAGES = ("its first page", "a page between", "its last page")
 EXPORTS, IMPORTS = "EXPORT.MEM of a list", "IMPORT.MEM of a list"
@@ -172,6 +178,7 @@ if features.has(LISTS):
     REFUSALS[EXPORTS] = (1, 2, 3, 4, *OF_PAGES, "its stream"), refusals
     tries, refusals = REFUSALS["IMPORT.MEM"]
     third = ("PAGE_METADATA_INCORRECT of its first page", "PAGE_METADATA_INCORRECT of a later page", "BUNDLE_HEADER COUNT")
+    third += (LIVE_IN,) * features.has(LATE_PAGES)
     REFUSALS[IMPORTS] = (1, 2, 3, *OF_PAGES), (*(its for its in refusals if its != THIRD), *third)
 SHOWN_WITHOUT_NUMBER = (
     "SUCCESS", "PAGES_EXIST", "FLUSHVP_NOT_DONE", "VCPU_ASSOCIATED", "PREVIOUS_TLB_EPOCH_BUSY", "SEPT_NOT_EMPTY",
@@ -237,9 +244,15 @@ IMPORTING = {
     "IMPORT.ABORT": tuple(f"SUCCESS in {op}" for op in ("MEMORY_IMPORT", "STATE_IMPORT", "POST_IMPORT")),
     "VP.ENTER": tuple(f"entered in {op}" for op in ("RUNNABLE", "LIVE_EXPORT", "LIVE_IMPORT")),
 }
+if features.has(LATE_PAGES):
+    EXPORTING["EXPORT.MEM"] += tuple(f"SUCCESS at {state} in POST_EXPORT" for state in ("MAPPED", "BLOCKEDW"))
+    IMPORTING["IMPORT.MEM"] += tuple(f"SUCCESS at FREE in {op}" for op in ("POST_IMPORT", "LIVE_IMPORT"))
+    OPERATIONS["load private"] += ("completed by a walk whose page came meanwhile",)
+    OPERATIONS["store private"] += ("completed by a walk whose page came meanwhile",)
 if features.has(LISTS):
     EXPORTING[EXPORTS] = EXPORTING["EXPORT.MEM"]
-    IMPORTING[IMPORTS] = (*IMPORTING["IMPORT.MEM"], "PAGE_METADATA_INCORRECT of a page that it holds")
+    came = *IMPORTING["IMPORT.MEM"], "PAGE_METADATA_INCORRECT of a page that it holds"
+    IMPORTING[IMPORTS] = tuple(its for its in came if not its.endswith("LIVE_IMPORT"))
 # Beside which guests of the TD memory is blocked and taken, and why a block isn't tracked.
 BESIDES = ("SUCCESS without a guest", "SUCCESS beside a guest")
 BEFORE = "SUCCESS beside a guest of the epoch before"

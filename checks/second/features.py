@@ -6,11 +6,12 @@ on what isn't built yet."""
 import os
 
 LISTS = "lists of pages"  # COUNT of EXPORT.MEM and IMPORT.MEM, and bundles of version 2
+LATE_PAGES = "late pages"  # pages that go out and come in behind the start token
 
-ALL = (LISTS,)
+ALL = (LISTS, LATE_PAGES)
 BUILT = ()
 ASKED = os.environ.get("TDX_PROFILE", ",".join(BUILT))
-HAS = ALL if ASKED == "whole" else ASKED.split(",")
+HAS = ALL if ASKED == "whole" else [name for name in ASKED.split(",") if name]
 
 
 def has(*features):

@@ -34,7 +34,7 @@ from scripts import (
 SIZES = (8, 12, 16, 24, 40, 40, 1024)
 ROOMY = (24, 40, 1024)
 LARGE = (40, 1024)
-HAS_LISTS = features.has(features.LISTS)
+HAS_LISTS, HAS_LATE_PAGES = features.has(features.LISTS), features.has(features.LATE_PAGES)
 LEVEL_BYTES = [PAGE_BYTES << 9 * level for level in range(4)]
 
 # Calls that lead a TD on so far that little can be done with it then.
@@ -323,7 +323,11 @@ class Life:
         if starts:
             late = chance.random() < 0.3
             paused = [call for call in paused if not late or not call.startswith("EXPORT.MEM")]
-            return live, paused, [self.token(1), self.token(0), *self.rest(chance)] * late + [self.token(1)]
+            end = [self.token(1), self.token(0), *self.rest(chance)] * late + [self.token(1)]
+            if HAS_LATE_PAGES and chance.random() < 0.6:
+                paused, behind = self.held_back(chance, live, paused)
+                return live, paused, end + behind
+            return live, paused, end
         names = [("MEM.RANGE.BLOCK", " 0"), ("MEM.RANGE.UNBLOCK", " 0"), ("MEM.PAGE.REMOVE", "")]
         names += [("MEM.PAGE.RELOCATE", f" {page}") for page in self.frames]
         left = [f"{name} {self.td} {gpa}{level}" for gpa in self.gpas or [self.gpa] for name, level in names]
@@ -331,6 +335,15 @@ class Life:
         again = [call for part in self.export(chance, chance.random() < 0.5) for call in part]
         others = left * chance.choice((0, 1, 1)) + [begins] * chance.choice((0, 0, 1)) + restores + again * chance.choice((0, 1))
         return live, paused, [self.token(1)] * chance.choice((0, 1)) + [f"EXPORT.ABORT {self.td}", *others]
+
+    def held_back(self, chance, live, paused):
+        """The calls from the pause on without the exports of some pages that nothing has blocked or exported before, and those that
+        come behind the start token: these, and a few others."""
+        touched = {gpa for call in live if call.startswith("EXPORT.") for gpa in addresses_of(call)}
+        back = [call.startswith("EXPORT.MEM") and not touched & set(addresses_of(call)) and chance.random() < 0.7 for call in paused]
+        behind = [call for call, its in zip(paused, back) if its]
+        others = [self.memory(chance, gpa) for gpa in self.gpas if chance.random() < 0.2]
+        return [call for call, its in zip(paused, back) if not its], riffle(chance, behind, others)
 
     def export_round(self, chance):
         """An export, perhaps in a wrong order, or not to its end."""
@@ -394,6 +407,14 @@ class Life:
         calls += [f"MNG.VPFLUSHDONE {self.td}", "PHYMEM.CACHE.WB", f"MNG.KEY.FREEID {self.td}"]
         calls += [f"PHYMEM.PAGE.RECLAIM {self.td} {page}" for page in pages + [self.td]]
         return calls + [f"HOST.READ {page} {a_word(chance)}" for page in pages]
+
+
+def addresses_of(call):
+    """The GPAs of the pages that a call on a private page or on a list names."""
+    words = call.split()
+    if CALLS[call_of(call)][1:2] != ("gpa",):
+        return []
+    return [int(words[2], 0) + place * PAGE_BYTES for place in range(count_of(call) or 1)]
 
 
 def a_run(chance, pages, count):
@@ -815,8 +836,11 @@ def crowd(chance, scene, _turn):
     life = scene.lives[0]
     scene.lps = chance.choice((2, 3, 3, 4, 8))
     build = life.build(chance, scene.host[-1])
+    late = []
     if scene.source is not None:
-        build = [*joined(Arrival(chance, scene, 0).parts(False)[:4]), f"IMPORT.COMMIT {life.td}"]
+        parts = Arrival(chance, scene, 0).parts(False)
+        build = [*joined(parts[:4]), f"IMPORT.COMMIT {life.td}"]
+        late = [call for call in parts[4] if call.startswith("IMPORT.MEM")]
     blocks = [build[:]]
     for lp in range(scene.lps):
         calls = []
@@ -826,6 +850,8 @@ def crowd(chance, scene, _turn):
                 calls += host_calls(chance, scene, life)
             else:
                 calls += guest_calls(chance, scene, life, life.vcpus[lp % len(life.vcpus)])
+        if late:
+            calls = riffle(chance, calls, late * (lp == 0 or chance.random() < 0.2))
         if scene.source is not None:
             calls[len(calls) // 2 : len(calls) // 2] = [f"IMPORT.END {life.td}"]
         if lp == 0:
@@ -1118,6 +1144,7 @@ class Source:
     def is_whole(self):
         """Whether a destination can end the last session: it has a start token, and the TD state before all VCPU states."""
         types = [header.type for _, header in self.sessions.get(max(self.sessions, default=0), [])]
+        types = types[: types.index(START_TOKEN) + 1] if START_TOKEN in types else []
         states = [kind for kind in types if kind in (TD_STATE, VCPU_STATE)]
         return types[-1:] == [START_TOKEN] and states[:1] == [TD_STATE]
 
@@ -1160,11 +1187,14 @@ class Arrival:
     def parts(self, is_hostile):
         """Its calls by the state that they lead to: before the session, while memory comes in, from the TD state on, from
         the start token on, committed, and ended."""
-        td, parts, at = self.life.td, [[] for _ in range(6)], 1
+        td, parts, at, late = self.life.td, [[] for _ in range(6)], 1, []
         parts[0] = self.life.waits(self.chance, 4 if self.chance.random() < 0.9 else self.chance.randrange(2))
         for slot, header in self.in_order():
             at = {TD_STATE: 2, START_TOKEN: 3}.get(header.type, at)
             calls = self.taken(slot, header, is_hostile)
+            if at == 3 and header.type == MEMORY:
+                late.append(calls)
+                continue
             if header.type in (IMMUTABLE, TD_STATE, START_TOKEN) and not parts[at]:
                 *before, last = calls
                 parts[at - 1] += before
@@ -1173,8 +1203,20 @@ class Arrival:
             if header.type == IMMUTABLE:
                 parts[at] += self.life.frame(self.chance)
         parts[4] = [f"IMPORT.COMMIT {td}", *self.life.entries(self.chance)]
+        if late:
+            self.come_late(parts, late)
         parts[5] = [f"IMPORT.END {td}", *self.life.run(self.chance), *self.life.flushes(), *self.life.end(self.chance)]
         return parts
+
+    def come_late(self, parts, late):
+        """Puts the calls by which pages come behind the start token before the commit, or among entries behind it; or leaves some of
+        them out."""
+        count = len(late)
+        before = self.chance.choice((0, 0, count, self.chance.randint(0, count)))
+        last = self.chance.choice((count, count, count, self.chance.randint(before, count)))
+        parts[3] += joined(late[:before])
+        for calls in late[before:last]:
+            parts[4] += [*calls, *self.life.entries(self.chance)]
 
     def in_order(self):
         """The bundles of the session, those of a migration epoch by any order of its streams."""
@@ -1200,6 +1242,8 @@ class Arrival:
         if chance.random() < 0.15:
             calls.append(self.life.takes(chance, chance.choice(list(self.scene.inputs)), header))
         calls += self.on_itself(slot, header, before)
+        if header.type == MEMORY and header.epoch == hostile.LAST_EPOCH and before and chance.random() < 0.7:
+            calls.append(self.over_a_page(slot, header, before))
         if chance.random() < 0.02:
             return calls or [self.turned(slot, header)]
         return [*calls, *[call] * chance.choice((1, 1, 1, 1, 1, 1, 2)), call][1:] if calls else [call]
@@ -1213,11 +1257,23 @@ class Arrival:
         page = self.life.page_at(gpas_of(header)[first]) - came.index(False, first)
         return [f"IMPORT.MEM {self.life.td} {slot} {page} {header.info}"] * (page >= 0)
 
+    def over_a_page(self, slot, header, before):
+        """The call that would take a page in behind the start token, where one has come in before, by a bundle that somebody with its
+        keys has made."""
+        at, gpa = self.free_slot(), self.chance.choice(sorted(before))
+        self.scene.inputs[at] = hostile.with_header(self.scene.keys, self.scene.inputs[slot], header._replace(gpa=gpa))
+        return self.life.takes(self.chance, at, header)
+
+    def free_slot(self):
+        """A slot that has no bundle yet."""
+        at = self.chance.choice(SLOTS)
+        while at in self.scene.inputs:
+            at = self.chance.choice(SLOTS)
+        return at
+
     def turned(self, slot, header):
         """The call that would take a bundle in, on that bundle as somebody has turned it."""
-        inputs, at = self.scene.inputs, self.chance.choice(SLOTS)
-        while at in inputs:
-            at = self.chance.choice(SLOTS)
+        inputs, at = self.scene.inputs, self.free_slot()
         is_sealed = self.chance.random() < 0.25
         inputs[at] = hostile.turned(self.chance, self.scene.keys, inputs[slot], self.way % hostile.WAYS, is_sealed)
         self.way += 1
@@ -1276,6 +1332,28 @@ def import_states(chance, scene, turn):
 def arrived(chance, scene, turn):
     """A crowd at a TD that has come in."""
     return crowd(chance, scene, turn)
+
+
+def late_meeting(chance, scene, turn):
+    """A page comes in behind the commit while a guest is on its way to it. Behind so many events of its walk, or before it, the page
+    comes, or begins to come; then the guest goes on, and enters again."""
+    life, met = scene.lives[0], Arrival(chance, scene, turn)
+    parts = met.parts(False)
+    late = [call for call in [*parts[3], *parts[4]] if call.startswith("IMPORT.MEM") and "count" not in CALLS[call_of(call)]]
+    headers = {slot: header for slot, header in met.sent}
+    if not (late and life.vcpus):
+        return arrived(chance, scene, turn)
+    build = [call for call in joined(parts[:4]) if call not in late] + [f"IMPORT.COMMIT {life.td}"]
+    gpas = [headers[number(call.split()[2])].gpa for call in late if number(call.split()[2]) in headers]
+    positions = {header.index: header.info for header in headers.values() if header.type == VCPU_STATE}
+    for index in range(len(life.vcpus)):
+        begins(scene, life, index, ["set 0 1"] * positions.get(index, 0) + [f"{('load', 'store')[turn % 2]} 1 {gpa}" for gpa in gpas])
+    scene.lps = max(2, min(3, len(life.vcpus) + 1))
+    enters = [[f"VP.ENTER {life.td} {page} 65535"] * (len(late) + 2) for page in life.vcpus]
+    blocks = [[*build, *late, f"IMPORT.END {life.td}"], *enters[: scene.lps - 1]]
+    comes = chance.choice((9, 9, 11, chance.randint(1, 11)))
+    turns = [(0, exact_events(scene, build)), (1, 6 + turn // 2 % 6), (0, comes), (1, chance.randint(1, 12))]
+    return blocks, turns + bursts(chance, range(scene.lps), 40)
 
 
 def gives_back(chance, scene, turn):
@@ -1438,7 +1516,7 @@ def scene_of(chance, make, turn):
     _, due = visit_of(make, turn)
     if make is gives_back or due == BY_TOKEN:
         return Source(chance).scene
-    if make in (arrival, import_states, arrived) or due.startswith("IMPORT"):
+    if make in (arrival, import_states, arrived, late_meeting) or due.startswith("IMPORT"):
         return Scene(chance, LARGE, has_two=make is arrival and turn % 2 == 0, source=Source(chance))
     return Scene(chance, ROOMY if make in (race, race_of_lists, crowd, session) else SIZES, CROWDED if make is crowd else FEW)
 
@@ -1772,5 +1850,6 @@ def script_of(chance, round_, kind):
 MAKES = {
     8: (story, 3), 11: (race, 8), 19: (crowd, 4), 23: (meeting, 4), 27: (noise, 1), 28: (session, 2), 30: (arrival, 3),
     33: (import_states, 2), 35: (gives_back, 1), 36: (arrived, 1),
-} | ({37: (race_of_lists, 2)} if HAS_LISTS else {})
-KINDS_OF_A_ROUND, RACES, MIGRATIONS = 37 + 2 * HAS_LISTS, (*range(11, 19), *(37, 38) * HAS_LISTS), range(30, 37)
+} | ({37: (race_of_lists, 2)} if HAS_LISTS else {}) | ({39: (late_meeting, 1)} if HAS_LATE_PAGES else {})
+KINDS_OF_A_ROUND = 40 if HAS_LATE_PAGES else 39 if HAS_LISTS else 37
+RACES, MIGRATIONS = (*range(11, 19), *(37, 38) * HAS_LISTS), (*range(30, 37), *(39,) * HAS_LATE_PAGES)

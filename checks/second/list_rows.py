@@ -30,10 +30,10 @@ FIRST = [*WAITS, *COMES, "SUCCESS | IMPORT.MEM 1 1 8 | IMPORT.TRACK 1 2 | IMPORT
 RUNS, NOTES = [ENDS, "EXIT VMCALL 33 | VP.ENTER 1 4 10", "SUCCESS | IMPORT.END 1"], ("load 0x0 44", "load 0x1000 22", "load 0x2000 33")
 
 
-def played(name, groups, comes=None, others=(), schedule="", code=CODE, notes=(), made=None):
+def played(name, groups, comes=None, others=(), schedule="", code=CODE, notes=(), made=None, noted=()):
     """A case: its name, words and files, and what is wanted of it. Groups of calls are processor 0's, others those of further ones;
-    what is noted is so at the last entry."""
-    processors, lines, wanted, guest = [groups, *others], [f"machine {1 + len(others)} 64 1"], [], []
+    what is noted is so at the last entry, or in these lines."""
+    processors, lines, wanted, guest = [groups, *others], [f"machine {1 + len(others)} 64 1"], [], [*noted]
     for number, its in enumerate(processors):
         lines.append(f"lp {number}")
         calls = [(reply, call) for group in its for reply, *some in [group.split(" | ")] for call in some]
@@ -49,7 +49,7 @@ def played(name, groups, comes=None, others=(), schedule="", code=CODE, notes=()
     saved = {"guest": text_of(guest)}
     if made is not None:
         words, saved = [*words, "--out-bundles", "made"], {**saved, "made": container_of(made)}
-    return f"lists: {name}", words, files, built.Answer(0, built.whole_text("".join(f"{line}\n" for line in wanted), saved))
+    return name, words, files, built.Answer(0, built.whole_text("".join(f"{line}\n" for line in wanted), saved))
 
 
 def text_of(lines):
@@ -57,9 +57,9 @@ def text_of(lines):
     return "".join(f"{line}\n" for line in lines).encode()
 
 
-def sent_by(groups, code=CODE):
+def sent_by(groups, code=CODE, comes=None):
     """The bundles that these calls make on processor 0 alone."""
-    _, words, files, _ = played("", groups, code=code)
+    _, words, files, _ = played("", groups, comes, code=code)
     *_, saved, _ = program.answer([*words, "--out-bundles", "made"], files.get)
     return bundles_of(saved["made"])
 

@@ -12,6 +12,9 @@ from rows import (
 )
 
 FILLING = ("MEMORY_IMPORT", "STATE_IMPORT")
+# The further op states in which pages go out and come in. A list doesn't come in while guests run: no walk finds half of one.
+LATE_EXPORT = ("POST_EXPORT",) * features.has(features.LATE_PAGES)
+LATE_IMPORT = ("POST_IMPORT", "LIVE_IMPORT") * features.has(features.LATE_PAGES)
 COUNTER_END = 2**32 - 1
 LAST_EPOCH = 2**32 - 1
 SESSION_END = 65_535
@@ -196,8 +199,7 @@ def entry_alone(td, td_page, gpa, *states):
 
 def export_mem(machine, td_page, gpa, stream, slot, count=None):
     """EXPORT.MEM TDR GPA STREAM SLOT [COUNT]"""
-    ops = ("LIVE_EXPORT", "PAUSED_EXPORT", *("POST_EXPORT",) * machine.outside.late_pages)
-    td = yield from td_with_op(machine, td_page, SHARED, *ops)
+    td = yield from td_with_op(machine, td_page, SHARED, "LIVE_EXPORT", "PAUSED_EXPORT", *LATE_EXPORT)
     live, name = td.op == "LIVE_EXPORT", "EXPORT.MEM" if count is None else OF_A_LIST.format("EXPORT.MEM")
     need_stream(td, stream)
     yield ("T", td_page), SHARED
@@ -359,8 +361,7 @@ def import_mem(machine, td_page, slot, page, count=None):
     bundle, header = take_input(machine, slot, MEMORY)
     need(header.version == (1 if count is None else 2), "BUNDLE_HEADER VERSION")
     need(count in (None, header.info), "BUNDLE_HEADER COUNT")
-    late = ("POST_IMPORT", "LIVE_IMPORT") if machine.outside.late_pages else ()
-    td = yield from td_with_op(machine, td_page, SHARED, *FILLING, *late)
+    td = yield from td_with_op(machine, td_page, SHARED, *FILLING, *(LATE_IMPORT if count is None else LATE_IMPORT[:1]))
     yield ("T", td_page), EXCLUSIVELY
     need(header.stream < len(td.streams), "BUNDLE_HEADER STREAM")
     need_header(header, session=td.session, epoch=td.migration_epoch)

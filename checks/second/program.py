@@ -1,5 +1,4 @@
-"""The program's command line, statuses and texts of docs/profile.md: its five commands, as they are built and with
-what is to come."""
+"""The program's command line, statuses and texts of docs/profile.md: its five commands."""
 
 import re
 import struct
@@ -59,13 +58,12 @@ def run_threads(script, outside=None):
     return processors
 
 
-def answer(words, load, late_pages=False):
+def answer(words, load):
     """The status and the text of the command line with these words, the files that it saves, and the
-    processors of the run where there was one. A file's bytes come from `load`, or None where it can't be read.
-    With late pages it is the finished program's."""
+    processors of the run where there was one. A file's bytes come from `load`, or None where it can't be read."""
     try:
         command, word, options = asked(words)
-        return 0, *COMMANDS[command](word, options, load, late_pages)
+        return 0, *COMMANDS[command](word, options, load)
     except FAULTS as fault:
         return *end_of(fault), {}, []
 
@@ -84,11 +82,6 @@ def file_at(name):
             return file.read()
     except (OSError, ValueError):
         return None
-
-
-def whole_answer(words, load):
-    """The status and the text of the finished program for these words, and the files that it saves."""
-    return answer(words, load, True)[:3]
 
 
 def need_usage(holds):
@@ -137,7 +130,7 @@ def asked(words):
     return words[0], rest[0], options
 
 
-def outside_of(script, files, late_pages=False):
+def outside_of(script, files):
     """What a run is given by these input files, by option."""
     if len(files.get("--keys", bytes(0 if script.seals else 64))) != 64:
         raise Ended(7, "key file\n")
@@ -147,15 +140,15 @@ def outside_of(script, files, late_pages=False):
         raise Ended(7, "report key file\n")
     secrets = struct.unpack(SECRETS, files.get("--secrets", bytes(4096)))
     keys, report_key = files.get("--keys", bytes(64)), files.get("--report-key", bytes(KEY_BYTES))
-    return Outside(script.code, files["--bundles"], keys, secrets, late_pages=late_pages, report_key=report_key)
+    return Outside(script.code, files["--bundles"], keys, secrets, report_key=report_key)
 
 
-def run_of(runs, name, options, load, late_pages):
+def run_of(runs, name, options, load):
     """The text of `replay` or `run`, by what runs the script, the files that it saves, and its processors."""
     script = read(loaded(name, load))
     files = {name: loaded(options[name], load) for name in INPUTS if name in options}
     files["--bundles"] = bundles_of(files["--bundles"]) if "--bundles" in files else {}
-    processors = runs(script, outside_of(script, files, late_pages))
+    processors = runs(script, outside_of(script, files))
     made = {
         "--out-bundles": container_of(processors[0].machine.outside.outputs),
         "--guest-out": "".join(f"{line}\n" for at in processors for line in at.guest_lines).encode(),
@@ -164,19 +157,19 @@ def run_of(runs, name, options, load, late_pages):
     return reply_lines(processors), saved, processors
 
 
-def check(name, _options, load, _late_pages):
+def check(name, _options, load):
     """The text of `check`, which saves no file and runs nothing."""
     script = read(loaded(name, load))
     counts = [sum(map(len, blocks.values())) for blocks in (script.calls, script.code)]
     return f"ok {script.machine[0]} {counts[0]} {counts[1]} {len(script.schedule)}\n", {}, []
 
 
-def soak(number, _options, _load, _late_pages):
+def soak(number, _options, _load):
     """The text of `soak`, which reads and saves no file."""
     return soak_line(int(number), read, replay), {}, []
 
 
-def verify(names, _options, load, _late_pages):
+def verify(names, _options, load):
     """The text of `verify`, which saves no file and runs nothing."""
     report, key = (loaded(name, load) for name in names)
     if len(key) != KEY_BYTES:

@@ -185,12 +185,31 @@ def sent_by_lists():
     return processor.machine.outside.outputs
 
 
+def a_page_comes_late(chance):
+    """A page comes in behind the commit while a guest walks to it."""
+    begin = [*BUILD[:4], "MIG.STREAM.CREATE 1 11", "IMPORT.STATE.IMMUTABLE 1 0", "VP.CREATE 1 4", *BUILD[7:10]]
+    begin += ["IMPORT.STATE.TD 1 1", "IMPORT.STATE.VP 1 4 2", "IMPORT.TRACK 1 3", "IMPORT.COMMIT 1"]
+    code = chance.choice((["load 1 0"], ["store 1 0", "load 1 0"], ["load 1 0", "store 1 0"]))
+    return {0: code}, [[*begin, "IMPORT.MEM 1 4 8"], [ENTERS]]
+
+
+@functools.lru_cache(1)
+def sent_late():
+    """What comes in then: the states, the start token, and a page behind it, whose first word is 5."""
+    calls = [
+        "HOST.WRITE 0 0 5", *BUILD, "MIG.STREAM.CREATE 1 11", "MR.FINALIZE 1", "EXPORT.STATE.IMMUTABLE 1 0", "EXPORT.PAUSE 1",
+        "EXPORT.STATE.TD 1 1", "EXPORT.STATE.VP 1 4 2", "EXPORT.TRACK 1 3 1", "EXPORT.MEM 1 0 0 4",
+    ]
+    (processor,) = replay(read(text_of({}, [calls])), Outside(keys=KEYS))
+    return processor.machine.outside.outputs
+
+
 KINDS = (
     takes, stores_before_loads, uses_host_pages, passes_a_message, takes_memory_away, shares_a_word, extends_and_accepts,
     talks_with_the_host, exports, exports_memory, imports,
-    *(exports_a_list, imports_a_list) * features.has(features.LISTS),
+    *(exports_a_list, imports_a_list) * features.has(features.LISTS), *(a_page_comes_late,) * features.has(features.LATE_PAGES),
 )
-SENT = {imports: sent, imports_a_list: sent_by_lists}
+SENT = {imports: sent, imports_a_list: sent_by_lists, a_page_comes_late: sent_late}
 
 
 def text_of(lists, blocks):
