@@ -353,8 +353,8 @@ def of_answer(words, status, text, processors):
         yield f"verify: {'yes' if text.startswith('yes ') else text.strip()}"
     if status == 2:
         yield f"reason {text.split()[-1]}"
-    if processors:
-        yield from processors[0].machine.met
+    for machine in {id(processor.machine): processor.machine for processor in processors}.values():
+        yield from machine.met
     for processor in processors:
         for (name, arguments), (reply, locks) in zip(processor.calls, processor.replies):
             yield of_reply(name, arguments, reply, locks)

@@ -7,8 +7,9 @@ import os
 
 LISTS = "lists of pages"  # COUNT of EXPORT.MEM and IMPORT.MEM, and bundles of version 2
 LATE_PAGES = "late pages"  # pages that go out and come in behind the start token
+PAIRS = "pairs"  # `pair`: two modules that hand each other bundles
 
-ALL = (LISTS, LATE_PAGES)
+ALL = (LISTS, LATE_PAGES, PAIRS)
 BUILT = ()
 ASKED = os.environ.get("TDX_PROFILE", ",".join(BUILT))
 HAS = ALL if ASKED == "whole" else [name for name in ASKED.split(",") if name]

@@ -23,7 +23,7 @@ import features
 import hostile
 from bundles import ABORT_TOKEN, EPOCH_TOKEN, IMMUTABLE, MEMORY, START_TOKEN, TD_STATE, VCPU_STATE, Header
 from machine import Outside, run
-from program import processors_of
+from program import SIDES, processors_of
 from reports import KEY_BYTES, MOST_OF_A_LIST, report_of
 from migration_rows import LISTS
 from rows import FIELDS, GPA_END, PAGE_BYTES, alignment
@@ -427,10 +427,10 @@ def a_run(chance, pages, count):
     return run
 
 
-def with_slots(chance, lines):
-    """The lines with a slot of its own in the place of each word SLOT."""
+def with_slots(chance, lines, others=()):
+    """The lines with a slot of its own, and none of the others, in the place of each word SLOT."""
     count = sum("SLOT" in line for line in lines)
-    named = {number(word) for word in slots_of(lines) if word != "SLOT"}
+    named = {*others, *(number(word) for word in slots_of(lines) if word != "SLOT")}
     slots = iter(chance.sample(free_slots(named), count))
     return [line.replace("SLOT", chance.choice(("{}", "{:#x}", "0{}")).format(next(slots))) if "SLOT" in line else line
             for line in lines]
@@ -1118,12 +1118,18 @@ class Source:
     """A module that has exported a TD, in most cases as far as the start token: its scene and the TD's life, its calls, and
     the bundles that it made, by slot, in that order."""
 
-    def __init__(self, chance):
+    def __init__(self, chance, before=None, others=()):
+        """It has the TD of the source before it, where there is one; and none of the other slots."""
         for _ in range(4):
-            self.scene = Scene(chance, ROOMY)
-            self.scene.source, self.scene.lps, self.life = self, 1, self.scene.lives[0]
-            give_stream(self.scene, self.life)
-            self.calls = with_slots(chance, self.exports(chance))
+            self.scene = Scene(chance, ROOMY if before is None else LARGE, source=before)
+            self.scene.lps, self.life = 1, self.scene.lives[0]
+            if before is None:
+                self.scene.source = self
+                give_stream(self.scene, self.life)
+                first = self.life.build(chance, self.scene.host[-1])
+            else:
+                first = joined([*Arrival(chance, self.scene, 0).parts(False)[:5], [f"IMPORT.END {self.life.td}"]])
+            self.calls = with_slots(chance, first + self.exports(chance), others)
             processor, self.sessions = alone(self.scene, self.calls), {}
             run([processor], [])
             self.made = processor.machine.outside.outputs
@@ -1134,8 +1140,8 @@ class Source:
                 break
 
     def exports(self, chance):
-        """Its calls: perhaps an export that is aborted, and one that is whole."""
-        calls = self.life.build(chance, self.scene.host[-1])
+        """The calls that send its TD: perhaps an export that is aborted, and one that is whole."""
+        calls = []
         if chance.random() < 0.3:
             calls += [*joined(self.life.export(chance, False)[:2]), f"EXPORT.ABORT {self.life.td}"]
             calls += [f"EXPORT.RESTORE {self.life.td} {gpa}" for gpa in self.life.gpas]
@@ -1524,10 +1530,14 @@ def scene_of(chance, make, turn):
 def script_lines(chance, make, turn):
     """The lines of a script without a fault, and its scene."""
     scene = scene_of(chance, make, turn)
-    blocks, turns = make(chance, scene, turn)
+    return lines_of(chance, scene, *make(chance, scene, turn)), scene
+
+
+def lines_of(chance, scene, blocks, turns, others=()):
+    """The lines of a script of that scene with these calls and turns, which names none of the other slots."""
     blocks = [block[:CALLS_OF_A_PROCESSOR] for block in blocks]
     blocks = [[f"lp {lp}", *block, "end"] for lp, block in enumerate(blocks) if block or chance.random() < 0.5]
-    slotted = iter(with_slots(chance, [line for block in blocks for line in block]))
+    slotted = iter(with_slots(chance, [line for block in blocks for line in block], others))
     parts = [[next(slotted) for _ in block] for block in blocks]
     parts += scene.code
     chance.shuffle(parts)
@@ -1535,7 +1545,7 @@ def script_lines(chance, make, turn):
     lines = [f"machine {scene.lps} {scene.size} {scene.hkids}"]
     for part in riffle(chance, parts, schedule):
         lines += part
-    return decorated(chance, lines), scene
+    return decorated(chance, lines)
 
 
 def decorated(chance, lines):
@@ -1714,7 +1724,15 @@ COMMANDS = (
     "replay script --report-key none --keys short", "replay reporting --keys short", "check reporting --report-key rkey",
     "replay --report-key rkey script --report-key rkey", "replay reporting --secrets none", "verify report --report-key rkey",
     "replay script --secrets secrets --report-key rkey47 --guest-out guest", "run reporting --report-key", "soak 1 --report-key rkey",
-)
+) + (
+    "pair", "pair script script plan", "pair script script plan keys", "pair script script plan keys keys", "pair script bad plan keys",
+    "pair script script cutplan keys", "pair script script plan short", "pair script script plan keys --keys keys",
+    "pair script script plan keys --secrets secrets --guest-out guest", "pair --guest-out=guest script script -- plan keys",
+    "pair none bad cutplan short", "pair bad none cutplan short", "pair script none plan keys", "pair script script none short",
+    "pair script script cutplan none", "pair script script plan none", "pair reporting script plan keys", "pair script reporting plan keys",
+    "pair reporting script plan keys --secrets short", "pair script script plan keys --secrets none", "pair script script far keys",
+    "pair script script empty keys --secrets secrets --secrets secrets", "pair script script plan keys --out-bundles out",
+) * ("pair" in SIDES)
 # A report and its key, of facts of any bytes.
 REPORT_KEY = bytes(range(7, 7 + KEY_BYTES))
 MEASURED = bytes((7 * at) % 256 for at in range(240))
@@ -1745,6 +1763,7 @@ OTHERS = {
     "other": REPORT_KEY[::-1],
     "rkey47": REPORT_KEY[1:],
     "rkey49": REPORT_KEY + b"\0",
+    **({"plan": b"A 1\nB 2\n", "cutplan": b"A 1\nB 2"} if SIDES else {}),
     **dict.fromkeys(command_lines.DASHED, b"machine 1 8 1\nlp 0\nPHYMEM.CACHE.WB\nend\n"),
 }
 LINES = 12 + 4 * HAS_LISTS  # random ones beside three of COMMANDS

@@ -59,7 +59,7 @@ def make(machine, td, slot, kind, payload=b"", stream=0, version=1, **fields):
     counter = td.streams[stream].counter
     shown = {"epoch": td.migration_epoch, "index": 0, "info": 0, "gpa": 0, "total": 0} | fields
     header = Header(64, version, stream, kind, 0, counter, iv=counter, session=td.session, **shown)
-    machine.outside.outputs[slot] = bundles.seal(machine.outside.keys, header, payload)
+    machine.outside.outputs[slot] = bundles.seal(machine.outside.export_keys, header, payload)
     machine.met.append(f"bundles: made of type {kind}")
     td.streams[stream].counter += 1
 
@@ -313,7 +313,7 @@ def export_abort(machine, td_page, slot=None):
     yield ("T", td_page), EXCLUSIVELY
     need_header(header, session=td.session)
     need_counter(header, 0)
-    bundles.unseal(machine.outside.keys, bundle)
+    bundles.unseal(machine.outside.export_keys, bundle)
 
     def effect():
         td.op = "RUNNABLE"

@@ -1,19 +1,24 @@
-"""The program's command line, statuses and texts of docs/profile.md: its five commands."""
+"""The program's command line, statuses and texts of docs/profile.md: its commands."""
 
 import re
 import struct
 from functools import partial
 
+import features
 from bundles import BadContainer, bundles_of, container_of
 from calls import row
 from machine import Machine, Outside, Processor, run
+from modules import KEY_BYTES as LINK_BYTES
+from modules import LETTERS, BadPlan, Coming, Module, link_keys, plan_of, run_modules, wrong_sides
 from reports import KEY_BYTES, verdict
 from scripts import Fault, read
 from soak import soak_line
 
 USAGE = (
     "usage: tdx replay|run SCRIPT [--bundles F] [--keys F] [--secrets F] [--out-bundles F] [--guest-out F] [--report-key F]"
-    " | tdx check SCRIPT | tdx soak N | tdx verify FILE KEY"
+    " | tdx check SCRIPT | tdx soak N"
+    + " | tdx pair SOURCE DEST PLAN KEYS [--secrets F] [--guest-out F]" * features.has(features.PAIRS)
+    + " | tdx verify FILE KEY"
 )
 INPUTS = ("--bundles", "--keys", "--secrets", "--report-key")
 OPTIONS = ("--bundles", "--keys", "--secrets", "--out-bundles", "--guest-out", "--report-key")
@@ -120,9 +125,9 @@ def asked(words):
     """The command that words ask for, the one word that it has or both, and its options with their values."""
     need_usage(words and words[0] in COMMANDS)
     rest, options = options_of(words[1:])
-    need_usage(words[0] in RUNS or not options)
-    if words[0] == "verify":
-        need_usage(len(rest) == 2)
+    need_usage(all(name in OPTIONS_OF.get(words[0], ()) for name in options))
+    if words[0] in WORDS:
+        need_usage(len(rest) in WORDS[words[0]])
         return words[0], rest, options
     need_usage(len(rest) == 1)
     if words[0] == "soak":
@@ -177,5 +182,66 @@ def verify(names, _options, load):
     return f"{verdict(report, key)}\n", {}, []
 
 
+def script_at(name, load):
+    """The script of that name, whose fault has it."""
+    try:
+        return read(loaded(name, load))
+    except Fault as fault:
+        raise Ended(2, f"{name} line {fault.line} {fault.reason}\n") from None
+
+
+def plan_at(name, load, modules):
+    """The plan of that name for so many modules."""
+    try:
+        return plan_of(loaded(name, load), modules)
+    except BadPlan as bad:
+        raise Ended(2, f"{name} line {bad} PLAN\n") from None
+
+
+def keys_at(name, load, modules):
+    """The keys of that name for the links of so many modules."""
+    keys = loaded(name, load)
+    if len(keys) != LINK_BYTES * (modules - 1):
+        raise Ended(7, "key file\n")
+    return keys
+
+
+def pair(words, options, load):
+    """The text of `pair`, the file that it saves, and the processors of both modules."""
+    *names, plan, keys = words
+    scripts = [script_at(name, load) for name in names]
+    return run_side_by_side(names, scripts, plan_at(plan, load, 2), keys_at(keys, load, 2), options, load)
+
+
+def run_side_by_side(names, scripts, plan, keys, options, load):
+    """The text of a run of modules with these scripts, the file that it saves, and their processors. What can't stand side by side
+    is looked at behind all files, and reports last."""
+    secrets = loaded(options["--secrets"], load) if "--secrets" in options else bytes(4096)
+    if len(secrets) != 4096:
+        raise Ended(7, "secrets file\n")
+    wrong = wrong_sides(scripts)
+    if wrong is not None:
+        at, (processor, place), why = wrong
+        raise Ended(2, f"{names[at]} call {processor}.{place} {why}\n")
+    if any(script.reports for script in scripts):
+        raise Ended(7, "report key file\n")
+    modules = []
+    for at, script in enumerate(scripts):
+        its, exports = link_keys(keys, at, len(scripts))
+        words = struct.unpack(SECRETS, secrets if at == 0 else bytes(4096))
+        outside = Outside(script.code, Coming(modules, at), its, words, export_keys=exports)
+        modules.append(Module(processors_of(script, outside), script.schedule))
+    run_modules(modules, plan)
+    sides = [(f"{letter.lower()} ", module.processors) for letter, module in zip(LETTERS, modules)]
+    text = "".join(f"{side}{line}\n" for side, processors in sides for line in reply_lines(processors).splitlines())
+    noted = "".join(f"{side}{line}\n" for side, processors in sides for at in processors for line in at.guest_lines)
+    saved = {options["--guest-out"]: noted.encode()} if "--guest-out" in options else {}
+    return text, saved, [processor for module in modules for processor in module.processors]
+
+
 RUNS = {"replay": partial(run_of, replay), "run": partial(run_of, run_threads)}
-COMMANDS = {**RUNS, "check": check, "soak": soak, "verify": verify}
+SIDES = {"pair": pair} if features.has(features.PAIRS) else {}
+COMMANDS = {**RUNS, "check": check, "soak": soak, **SIDES, "verify": verify}
+# How many words beside the options a command has, where it isn't one; and the options that it may have.
+WORDS = {"pair": (4,), "verify": (2,)}
+OPTIONS_OF = {**dict.fromkeys(RUNS, OPTIONS), **dict.fromkeys(SIDES, ("--secrets", "--guest-out"))}
