@@ -8,8 +8,9 @@ import os
 LISTS = "lists of pages"  # COUNT of EXPORT.MEM and IMPORT.MEM, and bundles of version 2
 LATE_PAGES = "late pages"  # pages that go out and come in behind the start token
 PAIRS = "pairs"  # `pair`: two modules that hand each other bundles
+CHAINS = "chains"  # `chain`: two to eight modules that do, with keys of each link
 
-ALL = (LISTS, LATE_PAGES, PAIRS)
+ALL = (LISTS, LATE_PAGES, PAIRS, CHAINS)
 BUILT = ()
 ASKED = os.environ.get("TDX_PROFILE", ",".join(BUILT))
 HAS = ALL if ASKED == "whole" else [name for name in ASKED.split(",") if name]

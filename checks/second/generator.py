@@ -1732,7 +1732,14 @@ COMMANDS = (
     "pair script script cutplan none", "pair script script plan none", "pair reporting script plan keys", "pair script reporting plan keys",
     "pair reporting script plan keys --secrets short", "pair script script plan keys --secrets none", "pair script script far keys",
     "pair script script empty keys --secrets secrets --secrets secrets", "pair script script plan keys --out-bundles out",
-) * ("pair" in SIDES)
+) * ("pair" in SIDES) + (
+    "chain", "chain keys plan", "chain keys plan script", "chain keys plan script script", "chain twokeys plan script script script",
+    "chain keys plan script script script", "chain keys plan" + " script" * 8, "chain keys plan" + " script" * 9, "chain none none none none",
+    "chain short cutplan bad none", "chain keys cutplan bad none", "chain keys plan bad none", "chain keys plan script none",
+    "chain keys plan script reporting --secrets short", "chain keys plan script reporting", "chain keys cplan script script",
+    "chain twokeys cplan script script script --guest-out guest --secrets secrets", "chain keys plan script script --keys keys",
+    "chain -- keys plan script script", "chain far plan script script", "chain keys far script script",
+) * ("chain" in SIDES)
 # A report and its key, of facts of any bytes.
 REPORT_KEY = bytes(range(7, 7 + KEY_BYTES))
 MEASURED = bytes((7 * at) % 256 for at in range(240))
@@ -1763,7 +1770,7 @@ OTHERS = {
     "other": REPORT_KEY[::-1],
     "rkey47": REPORT_KEY[1:],
     "rkey49": REPORT_KEY + b"\0",
-    **({"plan": b"A 1\nB 2\n", "cutplan": b"A 1\nB 2"} if SIDES else {}),
+    **({"plan": b"A 1\nB 2\n", "cutplan": b"A 1\nB 2", "cplan": b"C 1\n", "twokeys": bytes(128)} if SIDES else {}),
     **dict.fromkeys(command_lines.DASHED, b"machine 1 8 1\nlp 0\nPHYMEM.CACHE.WB\nend\n"),
 }
 LINES = 12 + 4 * HAS_LISTS  # random ones beside three of COMMANDS

@@ -180,6 +180,15 @@ def case(chance, count):
     return files, options
 
 
+def chain(seed, place):
+    """The same of a chain of two to eight modules."""
+    chance = Chance(f"chain {seed} {place}")
+    count = chance.choice((2, 3, 3, 3, 4, 4, 5, 8))
+    files, options = case(chance, count)
+    names = NAMES[:count] if chance.random() < 0.99 else NAMES[: chance.choice((0, 1, count - 1))]
+    return [["chain", "keys", "plan", *names, *options]], files
+
+
 def pair(seed, place):
     """The pair at that place: the words of its command line, and its files by name."""
     files, options = case(Chance(f"pair {seed} {place}"), 2)

@@ -19,6 +19,7 @@ USAGE = (
     " | tdx check SCRIPT | tdx soak N"
     + " | tdx pair SOURCE DEST PLAN KEYS [--secrets F] [--guest-out F]" * features.has(features.PAIRS)
     + " | tdx verify FILE KEY"
+    + " | tdx chain KEYS PLAN SCRIPT.. [--secrets F] [--guest-out F]" * features.has(features.CHAINS)
 )
 INPUTS = ("--bundles", "--keys", "--secrets", "--report-key")
 OPTIONS = ("--bundles", "--keys", "--secrets", "--out-bundles", "--guest-out", "--report-key")
@@ -213,6 +214,13 @@ def pair(words, options, load):
     return run_side_by_side(names, scripts, plan_at(plan, load, 2), keys_at(keys, load, 2), options, load)
 
 
+def chain(words, options, load):
+    """The same of `chain`, of all modules."""
+    keys, plan, *names = words
+    links, plan = keys_at(keys, load, len(names)), plan_at(plan, load, len(names))
+    return run_side_by_side(names, [script_at(name, load) for name in names], plan, links, options, load)
+
+
 def run_side_by_side(names, scripts, plan, keys, options, load):
     """The text of a run of modules with these scripts, the file that it saves, and their processors. What can't stand side by side
     is looked at behind all files, and reports last."""
@@ -240,8 +248,9 @@ def run_side_by_side(names, scripts, plan, keys, options, load):
 
 
 RUNS = {"replay": partial(run_of, replay), "run": partial(run_of, run_threads)}
-SIDES = {"pair": pair} if features.has(features.PAIRS) else {}
+ALL_SIDES = {"pair": (features.PAIRS, pair), "chain": (features.CHAINS, chain)}
+SIDES = {name: runs for name, (feature, runs) in ALL_SIDES.items() if features.has(feature)}
 COMMANDS = {**RUNS, "check": check, "soak": soak, **SIDES, "verify": verify}
 # How many words beside the options a command has, where it isn't one; and the options that it may have.
-WORDS = {"pair": (4,), "verify": (2,)}
+WORDS = {"pair": (4,), "chain": range(4, 11), "verify": (2,)}
 OPTIONS_OF = {**dict.fromkeys(RUNS, OPTIONS), **dict.fromkeys(SIDES, ("--secrets", "--guest-out"))}
