@@ -4,7 +4,7 @@ use Rattle.td_words.specs.Address.{word_at}
 use Rattle.leaf_engine.specs.declared.plans.Stop.TheVariants as stop
 use Rattle.leaf_engine.specs.Decides.{Decides}
 use Rattle.leaf_engine.specs.Trees.{Tree, feed}
-use Rattle.export_pages.specs.PageExportTrees.{words_tree}
+use Rattle.export_pages.specs.ListTrees.{words_tree}
 
 stops-from : (n page from left : ℕ) (f : List ℕ → Tree) (xs : List ℕ) → length xs < left → Decides n (words_tree page from left f) xs (Err (stop.Load (word_at page (from + length xs))))
 unfolding words_tree

@@ -1,5 +1,7 @@
-pub mod PageExportTrees
-pub mod PageExportShows
+pub mod ListTrees
 pub mod PageExportWords
-pub mod PageExportMeanings
-pub mod PageExportStages
+pub mod ListPages
+pub mod ListBlocks
+pub mod ListActs
+pub mod ListShows
+pub mod ListMeanings

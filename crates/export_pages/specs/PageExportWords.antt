@@ -26,7 +26,7 @@ use Rattle.leaf_engine.specs.Trees.{Tree}
 use Rattle.leaf_engine.specs.Means.{Instant, Work, Means, Loads, hold, grasp_of}
 use Rattle.stream_parts.proofs.StreamMeans.{HoldsHead}
 use Rattle.mem_remove.proofs.Clear.{unchanged-is-clear, private-reads}
-use Rattle.export_pages.specs.PageExportTrees.{words_tree}
+use Rattle.export_pages.specs.ListTrees.{words_tree}
 
 -- nobody may write to the page: the TD is paused, or no other processor's guest has a translation for it
 abbrev pub IsStill : Instant → (t p : ℕ) → Type 0

@@ -1,4 +1,4 @@
-//! Room for the words of a page.
+//! Room for the words of pages.
 
 use std::alloc::Global;
 use std::marker::Model;
@@ -7,7 +7,13 @@ use td_words::OutOfMemory;
 /// How many words a page has.
 pub const WORDS: usize = 512;
 
-/// Words of a page, as far as they are told, and room for just all of them.
+/// At most how many pages a call has.
+pub const PAGES: usize = 16;
+
+/// How many words those have.
+const MOST: usize = 8192;
+
+/// Words of pages, one page's behind another's, as far as they are told, and room for just all of them.
 #[derive(Drop)]
 pub struct PageWords {
     words: Vec<u64>,
@@ -20,7 +26,7 @@ impl Model for PageWords {
 
     ghost view = { λ p. p.words.items };
 
-    ghost invariant = { λ p. vec_capacity p.words ≡ 512 };
+    ghost invariant = { λ p. vec_capacity p.words ≡ 8192 };
 }
 
 impl PageWords {
@@ -30,7 +36,7 @@ impl PageWords {
     pub fn new(alloc: Global) -> Result<PageWords, OutOfMemory>
         ensures { IfOk result (λ ws. ws ≡ []) }
     {
-        let Ok(words) = Vec::with_capacity(alloc, WORDS) else {
+        let Ok(words) = Vec::with_capacity(alloc, MOST) else {
             return Err(OutOfMemory);
         };
         Ok(PageWords { words })
@@ -59,7 +65,7 @@ impl PageWords {
 
     /// One more is told.
     pub(crate) fn push(&mut self, word: u64)
-        requires { length self.old < 512 }
+        requires { length self.old < 8192 }
         ensures { self.new ≡ self.old ++ word ∷ [] }
     {
         self.words.push_reserved(word);
@@ -67,7 +73,7 @@ impl PageWords {
 
     /// These are told as well.
     pub(crate) fn append(&mut self, words: &[u64])
-        requires { length self.old + length words.now ≤ 512 }
+        requires { length self.old + length words.now ≤ 8192 }
         ensures { self.new ≡ self.old ++ words.now }
     {
         for word in words {
