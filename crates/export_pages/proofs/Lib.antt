@@ -1,2 +1,4 @@
 pub mod WordSteps
 pub mod Asked
+pub mod LocksDue
+pub mod Going

@@ -5,3 +5,4 @@ pub mod ListBlocks
 pub mod ListActs
 pub mod ListShows
 pub mod ListMeanings
+pub mod ExportStages

@@ -11,7 +11,11 @@
 #![tactic(auto)]
 
 mod page_conditions;
+mod page_exports;
+mod page_stages;
 mod page_words;
 
-pub use page_conditions::{Heading, Listed, Said, Sending, to_heading, to_listed, to_said};
+pub use page_conditions::{Heading, Listed, Said, Sending};
+pub use page_exports::{PageExport, Sent};
+pub use page_stages::{Finding, Part, Stage};
 pub use page_words::PageWords;

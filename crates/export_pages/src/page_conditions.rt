@@ -1,6 +1,7 @@
 //! The conditions of EXPORT.MEM, and what they tell: of the TD, of each page, and of the stream.
 
 ghost use Rattle.std.specs.Prelude.{◌≡◌, ℕ, ◌+◌, ◌^◌, ◌<◌, ◌≤◌, length, MatchResult};
+ghost use Rattle.flat_core.specs.PageLists.{page_count};
 ghost use Rattle.flat_core.specs.BundleRows.{exportable};
 ghost use Rattle.leaf_engine.specs.Inside.{StopIn, StopEarly};
 ghost use Rattle.leaf_parts.specs.Arguments.{checked};
@@ -91,7 +92,7 @@ pub fn to_heading(told: &mut Told, place: Place, call: Sending) -> Result<Headin
     ensures goes { Goes place.machine.pages (λ f. heading_tree place.machine call.tdr call.gpa call.stream call.count f) told.old.left.now told.new.left.now result }
     ensures feeds { Feeds (λ f. heading_tree place.machine call.tdr call.gpa call.stream call.count f) told.old.left.now told.new.left.now result }
     ensures uses { Uses 12 told.old.left.now told.new.left.now result }
-    ensures inside { MatchResult result (λ h. (call.stream < 4) × (h.td.tdcs < place.machine.pages) × (h.root < place.machine.pages)) (λ e. StopIn place.machine e) }
+    ensures inside { MatchResult result (λ h. (call.gpa < 2 ^ 47) × (1 ≤ page_count call.count) × (call.stream < 4) × (h.td.tdcs < place.machine.pages) × (h.root < place.machine.pages)) (λ e. StopIn place.machine e) }
 {
     are_in_range(told, place.machine, call)?;
     let tdr = call.tdr as u16;
@@ -104,7 +105,7 @@ fn are_in_range(told: &Told, machine: Machine, call: Sending) -> Result<(), Stop
     ensures goes { Goes machine.pages (λ f. checked (export_arguments machine call.tdr call.gpa call.stream call.count) (f tt)) told.now.left.now told.now.left.now result }
     ensures feeds { Feeds (λ f. checked (export_arguments machine call.tdr call.gpa call.stream call.count) (f tt)) told.now.left.now told.now.left.now result }
     ensures uses { Uses 0 told.now.left.now told.now.left.now result }
-    ensures inside { MatchResult result (λ u. (call.tdr < machine.pages) × (call.stream < 4)) (λ e. StopIn machine e) }
+    ensures inside { MatchResult result (λ u. (call.gpa < 2 ^ 47) × (1 ≤ page_count call.count) × (call.tdr < machine.pages) × (call.stream < 4)) (λ e. StopIn machine e) }
 {
     told.check(call.tdr < u64::from(machine.pages), Status::OperandInvalid(1))?;
     told.check(call.gpa < GPAS, Status::OperandInvalid(2))?;
@@ -118,7 +119,7 @@ fn is_list(told: &Told, machine: Machine, gpa: u64, count: Option<u64>) -> Resul
     ensures goes { Goes machine.pages (λ f. checked (listed_rules gpa count) (f tt)) told.now.left.now told.now.left.now result }
     ensures feeds { Feeds (λ f. checked (listed_rules gpa count) (f tt)) told.now.left.now told.now.left.now result }
     ensures uses { Uses 0 told.now.left.now told.now.left.now result }
-    ensures inside { MatchResult result (λ u. Unit {0}) (λ e. StopIn machine e) }
+    ensures inside { MatchResult result (λ u. 1 ≤ page_count count) (λ e. StopIn machine e) }
 {
     match count {
         None => told.check(is_aligned(0, gpa), Status::OperandInvalid(2)),
@@ -126,6 +127,22 @@ fn is_list(told: &Told, machine: Machine, gpa: u64, count: Option<u64>) -> Resul
             told.check(1 <= n && n <= PAGES as u64, Status::OperandInvalid(5))?;
             told.check(is_aligned(0, gpa), Status::OperandInvalid(2))?;
             told.check(gpa + 4096 * n <= GPAS, Status::OperandInvalid(5))
+        }
+    }
+}
+
+/// How many pages the call has; none where COUNT is out of its range.
+pub fn page_count(count: Option<u64>) -> u64
+    ensures { (result ≡ page_count count) × (result ≤ 16) }
+{
+    match count {
+        None => 1,
+        Some(n) => {
+            if n <= PAGES as u64 {
+                n
+            } else {
+                0
+            }
         }
     }
 }
