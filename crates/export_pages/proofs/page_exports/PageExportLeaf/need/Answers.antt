@@ -1,9 +1,7 @@
-use Rattle.std.proofs.Common.{◌≡◌, Some, subst, ◌∙◌}
+use Rattle.std.proofs.Common.{rules, ◌∙◌}
 use Rattle.td_words.specs.declared.replies.Value.TheVariants as value
 use Rattle.td_words.specs.declared.replies.Reply.TheVariants.{Done}
-use Rattle.leaf_engine.specs.declared.plans.Stop.{Stop}
-use Rattle.leaf_engine.specs.declared.plans.Stop.TheVariants as stop
-use Rattle.export_pages.proofs.Going.{wants-next, wants-end, kept-load, kept-end, kept-lock}
+use Rattle.export_pages.proofs.Going.{wants-end, kept-load, kept-end, kept-lock}
 use Rattle.export_pages.proofs.page_exports.PageExportLeaf.need.Goals as goal
 
 pub returns-in-None-clause-gives : goal.returns-in-None-clause-gives
@@ -17,15 +15,15 @@ returns-in-None-clause-rest c =
 pub returns-in-Some-Refused-clause-rest : goal.returns-in-Some-Refused-clause-rest
 returns-in-Some-Refused-clause-rest c =
     let l = c.args.self.now in let f = c.args.self.now.finding in let w = c.in-Some-Refused in
-    kept-end l.place l.call f.stage f.found.items f.told.items f.words w.reply (wants-next l.place l.call l.finding l.next (stop.Refused w.reply) l.next_is (subst (λ (z : Stop). l.next ≡ Some z) w.field-0-is w.is))
+    kept-end l.place l.call f.stage f.found.items f.told.items f.words w.reply (search rules)
 
 pub returns-in-Some-Load-clause-rest : goal.returns-in-Some-Load-clause-rest
 returns-in-Some-Load-clause-rest c =
     let l = c.args.self.now in let f = c.args.self.now.finding in let w = c.in-Some-Load in
-    kept-load l.place l.call f.stage f.found.items f.told.items f.words w.at (wants-next l.place l.call l.finding l.next (stop.Load w.at) l.next_is (subst (λ (z : Stop). l.next ≡ Some z) w.field-0-is w.is))
+    kept-load l.place l.call f.stage f.found.items f.told.items f.words w.at (search rules)
 
 pub returns-in-Some-Lock-clause-rest : goal.returns-in-Some-Lock-clause-rest
 returns-in-Some-Lock-clause-rest c =
     let l = c.args.self.now in let f = c.args.self.now.finding in let w = c.in-Some-Lock in
     c.answer.ensures.rest
-    ∙ kept-lock l.place l.call f.stage f.found.items f.told.items f.words w.name w.at w.mode (wants-next l.place l.call l.finding l.next (stop.Lock w.name w.at w.mode) l.next_is (subst (λ (z : Stop). l.next ≡ Some z) w.field-0-is w.is))
+    ∙ kept-lock l.place l.call f.stage f.found.items f.told.items f.words w.name w.at w.mode (search rules)
