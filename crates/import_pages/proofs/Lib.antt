@@ -2,3 +2,5 @@ pub mod Asked
 pub mod Known
 pub mod Puts
 pub mod ImportSteps
+pub mod ListSteps
+pub mod ListLoads

@@ -39,7 +39,7 @@ use Rattle.stream_parts.proofs.StreamMeans.{HoldsHead, tdcs-means}
 use Rattle.import_parts.specs.InputTrees.{input_checks, tag_tree, session_same_tree, epoch_same_tree, counter_due_tree}
 use Rattle.import_parts.proofs.InputMeans.{session_same-in, epoch_same-in, counter_due-in}
 use Rattle.import_pages.specs.declared.page_imports.Filling.{Filling}
-use Rattle.import_pages.specs.PageImportTrees.{page_import_arguments, page_import_asked, list_checks, td_rest, td_import_tree, due_bundle_tree, fills_tree, arriving, page_import_end, page_import_tree, page_import_task}
+use Rattle.import_pages.specs.PageImportTrees.{page_import_arguments, page_import_head, filled_tree, list_checks, td_rest, td_import_tree, due_bundle_tree, fills_tree, arriving, page_import_end, page_import_tree, page_import_task}
 use Rattle.import_pages.specs.PageImportLoop.{HoldsMap, with_fills, AreOffered, fills-mean}
 use Rattle.import_pages.specs.PageImportEnds.{map-through, all-own, end-means}
 
@@ -124,7 +124,7 @@ module _ (m : Machine) (c : Instant) (b : Option Incoming) (t slot page : ℕ) (
   abbrev due_items : List (Item Reply)
   due_items = session_same c.state.world t (input_in b).header ∷ epoch_same c.state.world t (input_in b).header ∷ counter_due (stream_counter c.state.world t (input_in b).header.stream) (input_in b).header ∷ page_items
 
-  pub td_rest-means : Means m c work (op_lock t Shared ∷ page_lock t Shared ∷ []) (td_rest m.pages t pages h y.controls.tdcs further) (tree_exclusive t ∷ stream_there w t h ∷ due_items)
+  pub td_rest-means : Means m c work (op_lock t Shared ∷ page_lock t Shared ∷ []) (td_rest m.pages t h y.controls.tdcs behind_room) (tree_exclusive t ∷ stream_there w t h ∷ due_items)
   td_rest-means =
       tree-lock-means m c work t in_tdr limit la sh y.alive y.controls (op_lock t Shared ∷ page_lock t Shared ∷ []) Exclusive (due_bundle_tree m.pages y.controls.tdcs h behind_room) (stream_there w t h ∷ due_items) (rw (eq-eqb t t refl) refl)
       (tdcs-means m c work tree_locks t la sh y.alive y.controls head 48 (length (w.tds.streams t)) (omega arith) refl refl
@@ -165,8 +165,8 @@ all-offered m gpa page words zero few low = tt
 all-offered m gpa page words (suc n) few low = (omega (arith, low), omega (arith, few), all-offered m (gpa + 4096) (page + 1) (λ i. words (512 + i)) n (omega (arith, few)) (omega (arith, low)))
 
 -- they stand first in the tree, and in the row
-asked-first : (m : Machine) (x : Input) (t slot page : ℕ) (count : Option ℕ) (further : Room → List Filling → Tree) → let pages = arriving x page count in
-    checked (first_checks m x t slot page count) (td_import_tree m.pages t pages x further) ≡ page_import_asked m x t slot page count further
+asked-first : (m : Machine) (x : Input) (t slot page : ℕ) (count : Option ℕ) (further : Room → Tree) →
+    checked (first_checks m x t slot page count) (td_import_tree m.pages t x.header further) ≡ page_import_head m x t slot page count further
 asked-first m x t slot page None further = refl
 asked-first m x t slot page (Some n) further = refl
 
@@ -187,12 +187,12 @@ page_import-means p b t slot page count limits = record {
       let h : ClearHeader = x.header in
       let work : Work = work_of (OfCall (import_pages m b t slot page count)) in
       let pages : List Arrival = arriving x page count in
-      let further : Room → List Filling → Tree = λ room fs. tag_tree x (page_import_end m t pages room fs) in
+      let further : Room → Tree = λ room. fills_tree m.pages t [] pages (λ fs. filled_tree m x t pages room fs) in
       let rest : List (Item Reply) = tree_exclusive t ∷ stream_there w t h ∷ session_same w t h ∷ epoch_same w t h ∷ counter_due (stream_counter w t h.stream) h ∷ pages_to_fill w t [] pages (tag_holds x ∷ []) in
       let range : AllHold (first_checks m x t slot page count) → AreInRange m x t page count = checked-range b m t slot page count in
       subst (λ (items : List (Item Reply)). Means m c work [] (page_import_tree m x t slot page count) items) (items-first m b t slot page count w)
-      (subst (λ (tree : Tree). Means m c work [] tree (map (λ d. needs d.0 d.1) (first_checks m x t slot page count) ++ (td_row w t Shared filling_ops ++ rest))) (asked-first m x t slot page count (page_import_end m t pages))
-      (td-row-means m c work t at.lawful at.shown (first_checks m x t slot page count) (λ a. (range a).tdr) Shared filling_ops (λ td. td_rest m.pages t pages h td.tdcs further) rest
+      (subst (λ (tree : Tree). Means m c work [] tree (map (λ d. needs d.0 d.1) (first_checks m x t slot page count) ++ (td_row w t Shared filling_ops ++ rest))) (asked-first m x t slot page count further)
+      (td-row-means m c work t at.lawful at.shown (first_checks m x t slot page count) (λ a. (range a).tdr) Shared filling_ops (λ td. td_rest m.pages t h td.tdcs further) rest
       (λ a y. td_rest-means m c b t slot page count limits.pages.1 (range a).tdr at.lawful at.shown
       (all-offered m h.gpa page x.words (page_count count) (range a).run (range a).gpas) (all_in_range m h.gpa page x.words (page_count count) (range a).run (range a).gpas) y))));
 }

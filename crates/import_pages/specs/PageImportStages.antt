@@ -1,72 +1,55 @@
--- How far the leaf is that imports a page: while the conditions are asked all words told are kept; once they have passed, what
--- they have shown is.
-use Rattle.std.specs.Prelude.{◌≡◌, ℕ, ◌==◌, true, ◌∷◌, ◌-◌, ◌^◌, ◌<◌, ◌≤◌, Option, Some, None, List, [], length}
+-- How far the leaf is that imports pages: before them, while their stream isn't known yet; at the entry of the next page; at the
+-- page that this entry asks for; or behind them all. Of each stage alone the words told are kept.
+use Rattle.std.specs.Prelude.{◌≡◌, ℕ, ◌==◌, true, ◌∷◌, ◌++◌, Option, List, []}
 use Rattle.std.specs.List.{list_any}
-use Rattle.std.proofs.Props.{props}
 use Rattle.td_words.specs.declared.machines.Machine.{Machine}
 use Rattle.flat_core.specs.Inputs.{Input, has_no_fault}
 use Rattle.flat_core.specs.PageLists.{Arrival}
-use Rattle.leaf_engine.specs.Changes.{Change}
-use Rattle.leaf_engine.specs.Trees.{Tree, feed, changes_of, done}
+use Rattle.leaf_engine.specs.Trees.{Tree, feed, done}
 use Rattle.sept_parts.specs.declared.finds.Found.{Found}
 use Rattle.stream_parts.specs.declared.rooms.Room.{Room}
 use Rattle.import_pages.specs.declared.page_conditions.PageEntry.{PageEntry}
 use Rattle.import_pages.specs.declared.page_imports.Filling.{Filling}
-use Rattle.import_pages.specs.declared.page_imports.Importing.{Importing}
-use Rattle.import_pages.specs.PageImportTrees.{arriving, changes_behind, page_import_changes, page_import_end, page_import_tree}
+use Rattle.import_pages.specs.declared.page_imports.Stage.{Stage}
+use Rattle.import_pages.specs.declared.page_imports.Stage.TheVariants as stage
+use Rattle.import_pages.specs.PageImportTrees.{found_rest, fills_tree, filled_tree, arriving, page_import_tree}
 
 -- an entry that was found, of all that it says
 abbrev pub found_of : PageEntry → Found
 found_of x = record { page = x.at; entry = record { state = x.state; page = x.page; mark = x.mark } }
 
--- what comes behind a single page, which is the list of one
-abbrev pub for_one : (Importing → Tree) → Room → List Filling → Tree
-for_one further room (f ∷ fs) = further (record { filling = f; room = room })
-for_one further room [] = done [] []
+-- the pages that are locked so far, the last one first
+abbrev pub locked_onto : List ℕ → List Filling → List ℕ
+locked_onto ls [] = ls
+locked_onto ls (f ∷ fs) = locked_onto (f.page ∷ ls) fs
 
-abbrev pub one_page : (gpa page : ℕ) → List Arrival
-one_page gpa page = record { gpa = gpa; page = page; words = λ i. 0 } ∷ []
+abbrev pub locked_of : List Filling → List ℕ
+locked_of fs = locked_onto [] fs
 
-abbrev pub one_end : Machine → Input → (tdr page : ℕ) → Importing → Tree
-one_end m x tdr page y = page_import_end m tdr (arriving x page None) y.room (y.filling ∷ [])
+-- the pages that are left
+abbrev pub left_of : List Filling → List Arrival → List Arrival
+left_of [] pages = pages
+left_of (f ∷ fs) [] = []
+left_of (f ∷ fs) (a ∷ pages) = left_of fs pages
 
--- its changes, of its GPA and its words; and those behind the words
-abbrev pub one_changes : (pages tdr gpa : ℕ) → (ℕ → ℕ) → Importing → List Change
-one_changes pages tdr gpa ws y = page_import_changes pages tdr (record { gpa = gpa; page = 0; words = ws } ∷ []) y.room (y.filling ∷ [])
+-- what is left of the tree: at the entry of the next page, and at the page that it asks for
+abbrev pub pages_tree : Machine → Input → (tdr : ℕ) → List Arrival → Room → List Filling → (left : List Arrival) → Tree
+pages_tree m x t pages room fs left = fills_tree m.pages t (locked_of fs) left (λ others. filled_tree m x t pages room (fs ++ others))
 
-abbrev pub one_behind : (pages tdr gpa : ℕ) → Importing → List Change
-one_behind pages tdr gpa y = changes_behind pages tdr (one_page gpa 0) y.room (y.filling ∷ [])
+abbrev pub page_tree : Machine → Input → (tdr : ℕ) → List Arrival → Room → List Filling → PageEntry → (left : List Arrival) → Tree
+page_tree m x t pages room fs e [] = done [] []
+page_tree m x t pages room fs e (a ∷ more) =
+    found_rest t (locked_of fs) a.page (found_of e)
+    (λ f. fills_tree m.pages t (f.page ∷ locked_of fs) more (λ others. filled_tree m x t pages room (fs ++ f ∷ others)))
 
--- what is left of its tree
-abbrev pub rest_of : Machine → Input → (tdr slot page : ℕ) → Option Importing → List ℕ → Tree
-rest_of m x t slot page None told = feed (page_import_tree m x t slot page None) told
-rest_of m x t slot page (Some y) told = one_end m x t page y
+abbrev pub stage_tree : Machine → Input → (tdr slot page : ℕ) → Option ℕ → Stage → List Filling → Tree
+stage_tree m x t slot page count stage.Head fs = page_import_tree m x t slot page count
+stage_tree m x t slot page count (stage.Walk room) fs = pages_tree m x t (arriving x page count) room fs (left_of fs (arriving x page count))
+stage_tree m x t slot page count (stage.Page room e) fs = page_tree m x t (arriving x page count) room fs e (left_of fs (arriving x page count))
+stage_tree m x t slot page count (stage.Filled room) fs = filled_tree m x t (arriving x page count) room fs
 
--- where a word is waited for, there is room for it
-abbrev pub HasRoom : Option Importing → List ℕ → Type 0
-HasRoom None told = length told < 21
-HasRoom (Some y) told = ⊥
-
--- what the conditions have shown: pages of the machine, and a counter that isn't the last one
-abbrev pub IsShown : Machine → (tdr : ℕ) → Importing → Type 0
-IsShown m t y = (t < m.pages) × (y.filling.at < m.pages) × (y.filling.page < m.pages) × (y.room.page < m.pages) × (y.room.counter < 2 ^ 32 - 1)
-
-abbrev pub IsKnown : Machine → (tdr : ℕ) → Option Importing → List ℕ → Type 0
-IsKnown m t None told = length told ≤ 21
-IsKnown m t (Some y) told = IsShown m t y × (length told ≤ 21)
-
-pub HasRoom-prop : (o : Option Importing) (told : List ℕ) → IsProp (HasRoom o told)
-HasRoom-prop None told = hlevel props
-HasRoom-prop (Some y) told = hlevel props
-
-pub IsKnown-prop : (m : Machine) (t : ℕ) (o : Option Importing) (told : List ℕ) → IsProp (IsKnown m t o told)
-IsKnown-prop m t None told = hlevel props
-IsKnown-prop m t (Some y) told = hlevel props
-
--- it has passed with this shown, or changes nothing
-abbrev pub EndsAs : Machine → Input → (tdr page : ℕ) → Tree → Option Importing → Type 0
-EndsAs m x t page rest None = changes_of rest ≡ []
-EndsAs m x t page rest (Some y) = (rest ≡ one_end m x t page y) × IsShown m t y
+abbrev pub rest_of : Machine → Input → (tdr slot page : ℕ) → Option ℕ → Stage → List Filling → (told : List ℕ) → Tree
+rest_of m x t slot page count at fs told = feed (stage_tree m x t slot page count at fs) told
 
 -- a bundle with the words of a page, which has the form of one
 abbrev pub IsMemory : Input → Type 0

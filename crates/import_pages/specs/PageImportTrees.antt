@@ -90,25 +90,22 @@ fills_tree pages tdr locked [] further = further []
 fills_tree pages tdr locked (a ∷ more) further =
     fill_tree pages tdr locked a.gpa a.page (λ f. fills_tree pages tdr (f.page ∷ locked) more (λ fs. further (f ∷ fs)))
 
--- behind the beginning of the row, up to the tag
-abbrev pub td_rest : (pages tdr : ℕ) → List Arrival → ClearHeader → (tdcs : ℕ) → (Room → List Filling → Tree) → Tree
-td_rest pages tdr arriving h tdcs further =
-    tree_lock_tree tdr tdcs Exclusive (due_bundle_tree pages tdcs h (λ room. fills_tree pages tdr [] arriving (λ fs. further room fs)))
+-- behind the beginning of the row, up to the pages
+abbrev pub td_rest : (pages tdr : ℕ) → ClearHeader → (tdcs : ℕ) → (Room → Tree) → Tree
+td_rest pages tdr h tdcs further = tree_lock_tree tdr tdcs Exclusive (due_bundle_tree pages tdcs h further)
 
 -- behind the arguments, and the form of the bundle
-abbrev pub td_import_tree : (pages tdr : ℕ) → List Arrival → Input → (Room → List Filling → Tree) → Tree
-td_import_tree pages tdr arriving x further =
-    td_head_tree pages tdr Shared filling_ops (λ td. td_rest pages tdr arriving x.header td.tdcs (λ room fs. tag_tree x (further room fs)))
+abbrev pub td_import_tree : (pages tdr : ℕ) → ClearHeader → (Room → Tree) → Tree
+td_import_tree pages tdr h further = td_head_tree pages tdr Shared filling_ops (λ td. td_rest pages tdr h td.tdcs further)
+
+-- the conditions up to the pages
+abbrev pub page_import_head : Machine → Input → (tdr slot page : ℕ) → Option ℕ → (Room → Tree) → Tree
+page_import_head m x tdr slot page count further =
+    checked (page_import_arguments m tdr page count) (input_tree x slot (3 ∷ []) (checked (list_checks x.header count) (td_import_tree m.pages tdr x.header further)))
 
 -- the pages of a call
 abbrev pub arriving : Input → (page : ℕ) → Option ℕ → List Arrival
 arriving x page count = arrivals x.header.gpa page x.words (page_count count)
-
--- all conditions
-abbrev pub page_import_asked : Machine → Input → (tdr slot page : ℕ) → Option ℕ → (Room → List Filling → Tree) → Tree
-page_import_asked m x tdr slot page count further =
-    checked (page_import_arguments m tdr page count) (input_tree x slot (3 ∷ []) (checked (list_checks x.header count)
-    (td_import_tree m.pages tdr (arriving x page count) x further)))
 
 -- words of a page from that one on, so many, one after another
 unfoldable pub word_puts : (page : ℕ) → (ℕ → ℕ) → (from left : ℕ) → List Change
@@ -161,8 +158,13 @@ end_where false words behind = done [] (words ++ behind)
 abbrev pub page_import_end : Machine → (tdr : ℕ) → List Arrival → Room → List Filling → Tree
 page_import_end m tdr more room fs = end_where (any_taken fs) (all_words more fs) (changes_behind m.pages tdr more room fs)
 
+-- behind all pages: the tag
+abbrev pub filled_tree : Machine → Input → (tdr : ℕ) → List Arrival → Room → List Filling → Tree
+filled_tree m x tdr more room fs = tag_tree x (page_import_end m tdr more room fs)
+
 unfoldable pub page_import_tree : Machine → Input → (tdr slot page : ℕ) → Option ℕ → Tree
-page_import_tree m x tdr slot page count = page_import_asked m x tdr slot page count (page_import_end m tdr (arriving x page count))
+page_import_tree m x tdr slot page count =
+    let more = arriving x page count in page_import_head m x tdr slot page count (λ room. fills_tree m.pages tdr [] more (λ fs. filled_tree m x tdr more room fs))
 
 abbrev pub page_import_task : Place → Option Incoming → (tdr slot page : ℕ) → Option ℕ → Task
 page_import_task p b tdr slot page count = record {
