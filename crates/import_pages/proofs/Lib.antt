@@ -4,3 +4,4 @@ pub mod Puts
 pub mod ImportSteps
 pub mod ListSteps
 pub mod ListLoads
+pub mod ListWrites
