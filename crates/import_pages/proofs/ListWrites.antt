@@ -1,5 +1,5 @@
 -- The writes of the words of a list by their numbers: 512 of each page, in the order of the pages, and what comes behind them all.
-use Rattle.std.proofs.Common.{◌≡◌, ℕ, zero, suc, ◌+◌, ◌*◌, ◌<◌, ◌≤◌, List, [], ◌∷◌, ◌++◌, length, Option, Some, refl, ap, sym, ◌∙◌, subst, arith}
+use Rattle.std.proofs.Common.{◌≡◌, ℕ, zero, suc, ◌+◌, ◌*◌, ◌<◌, ◌≤◌, List, [], ◌∷◌, ◌++◌, length, Option, Some, None, refl, ap, sym, ◌∙◌, subst, arith}
 use Rattle.td_words.specs.Address.{word_at}
 use Rattle.td_words.specs.declared.machines.Machine.{Machine}
 use Rattle.mrtd_measure.specs.declared.measures.Measure.{Measure}
@@ -11,7 +11,9 @@ use Rattle.leaf_engine.specs.declared.needs.Write.TheVariants as write
 use Rattle.leaf_engine.specs.Changes.{Change}
 use Rattle.leaf_engine.specs.Decides.{HandsAt}
 use Rattle.import_pages.specs.declared.page_imports.Filling.{Filling}
-use Rattle.import_pages.specs.PageImportTrees.{word_puts, all_words}
+use Rattle.import_pages.specs.PageImportTrees.{word_puts, all_words, mapped_changes, taken_after, taken_changes}
+use Rattle.sept_parts.specs.MapTrees.{private_mapping, map_changes}
+use Rattle.sept_parts.proofs.MapWrites.{hands-mapped}
 use Rattle.import_pages.specs.PageImportEnds.{append-again}
 use Rattle.import_pages.proofs.Puts.{hands-word, hands-behind}
 
@@ -66,3 +68,54 @@ module _ (m : Machine) (h : Option Measure) (rest : List Change) where
       let others : List Change = all_words pages fs ++ rest in
       subst (λ (cs : List Change). HandsAt m cs (512 * suc (length fs) + k) h h r) (sym (append-again (word_puts f.page b.words 0 512) (all_words pages fs) rest))
       (hands-behind m f.page b.words others h (512 * suc (length fs) + k) (512 * length fs + k) r (omega arith) (hands-after pages fs (omega (arith, fit)) k r a))
+
+-- the page of that number among those that are taken
+abbrev taken_step : Option ℕ → (k : ℕ) → (here : Type 0) → (later : ℕ → Type 0) → Type 0
+taken_step (Some n) zero here later = here
+taken_step (Some n) (suc k) here later = later k
+taken_step None k here later = later k
+
+abbrev pub NthTaken : (k : ℕ) → List Arrival → List Filling → Arrival → Filling → Type 0
+NthTaken k (a ∷ pages) (f ∷ fs) b g = taken_step f.children k ((a ≡ b) × (f ≡ g)) (λ i. NthTaken i pages fs b g)
+NthTaken k _ _ b g = ⊥
+
+-- what maps it, with as many taken before it
+module _ (m : Machine) (h : Option Measure) (rest : List Change) (t : ℕ) where
+  abbrev Hands : List Change → ℕ → Option Write → Type 0
+  Hands cs k w = HandsAt m cs k h h w
+
+  taken-here : (a : Arrival) (f : Filling) (before : ℕ) (later : List Change) (r n : ℕ) (w : Option Write) → r < 3 → f.children ≡ Some n → Hands (map_changes m.pages (private_mapping t a.gpa f.page) f.at (n + before)) r w
+      → Hands (mapped_changes m.pages t a.gpa f.at f.page before f.children ++ later) (3 * 0 + r) w
+  taken-here a f before later r n w few some hands =
+      let first : r ≡ 3 * 0 + r = omega arith in
+      subst (λ (o : Option ℕ). Hands (mapped_changes m.pages t a.gpa f.at f.page before o ++ later) (3 * 0 + r) w) (sym some)
+      (subst (λ (i : ℕ). Hands (map_changes m.pages (private_mapping t a.gpa f.page) f.at (n + before) ++ later) i w) first
+      (hands-mapped m h h w (private_mapping t a.gpa f.page) f.at (n + before) later r few hands))
+
+  taken-later : (a : Arrival) (f : Filling) (before : ℕ) (later : List Change) (k r n : ℕ) (w : Option Write) → f.children ≡ Some n → Hands later (3 * k + r) w
+      → Hands (mapped_changes m.pages t a.gpa f.at f.page before f.children ++ later) (3 * suc k + r) w
+  taken-later a f before later k r n w some hands =
+      let three : suc (suc (suc (3 * k + r))) ≡ 3 * suc k + r = omega arith in
+      subst (λ (o : Option ℕ). Hands (mapped_changes m.pages t a.gpa f.at f.page before o ++ later) (3 * suc k + r) w) (sym some)
+      (subst (λ (i : ℕ). Hands (map_changes m.pages (private_mapping t a.gpa f.page) f.at (n + before) ++ later) i w) three hands)
+
+  -- how many are taken, and what comes behind what maps them
+  abbrev pub taken_count : List Filling → ℕ
+  taken_count [] = 0
+  taken_count (f ∷ fs) = taken_after (taken_count fs) f.children
+
+  pub hands-counted : (before : ℕ) (pages : List Arrival) (fs : List Filling) → length fs ≤ length pages → (k : ℕ) (w : Option Write) → Hands rest k w → Hands (taken_changes m.pages t before pages fs ++ rest) (3 * taken_count fs + k) w
+  hands-counted before [] [] fit k w hands = (let first : k ≡ 3 * 0 + k = omega arith in subst (λ (i : ℕ). Hands rest i w) first hands)
+  hands-counted before (b ∷ pages) [] fit k w hands = (let first : k ≡ 3 * 0 + k = omega arith in subst (λ (i : ℕ). Hands rest i w) first hands)
+  hands-counted before [] (f ∷ fs) fit k w hands = absurd (omega (arith, fit))
+  hands-counted before (b ∷ pages) (f ∷ fs) fit k w hands =
+      let later : ℕ → List Change = λ next. taken_changes m.pages t next pages fs ++ rest in
+      subst (λ (cs : List Change). Hands cs (3 * taken_after (taken_count fs) f.children + k) w) (sym (append-again (mapped_changes m.pages t b.gpa f.at f.page before f.children) (taken_changes m.pages t (taken_after before f.children) pages fs) rest))
+      (by f.children refl (hands-counted (taken_after before f.children) pages fs (omega (arith, fit)) k w hands))
+    where
+      by : (o : Option ℕ) → f.children ≡ o → HandsAt m (taken_changes m.pages t (taken_after before f.children) pages fs ++ rest) (3 * taken_count fs + k) h h w
+          → HandsAt m (mapped_changes m.pages t b.gpa f.at f.page before f.children ++ (taken_changes m.pages t (taken_after before f.children) pages fs ++ rest)) (3 * taken_after (taken_count fs) f.children + k) h h w
+      by (Some n) is all =
+          subst (λ (o : Option ℕ). HandsAt m (mapped_changes m.pages t b.gpa f.at f.page before f.children ++ (taken_changes m.pages t (taken_after before f.children) pages fs ++ rest)) (3 * taken_after (taken_count fs) o + k) h h w) (sym is)
+          (taken-later b f before (taken_changes m.pages t (taken_after before f.children) pages fs ++ rest) (taken_count fs) k n w is all)
+      by None is all = rw is (rw is at all)
