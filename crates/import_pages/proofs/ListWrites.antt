@@ -119,3 +119,31 @@ module _ (m : Machine) (h : Option Measure) (rest : List Change) (t : ℕ) where
           subst (λ (o : Option ℕ). HandsAt m (mapped_changes m.pages t b.gpa f.at f.page before f.children ++ (taken_changes m.pages t (taken_after before f.children) pages fs ++ rest)) (3 * taken_after (taken_count fs) o + k) h h w) (sym is)
           (taken-later b f before (taken_changes m.pages t (taken_after before f.children) pages fs ++ rest) (taken_count fs) k n w is all)
       by None is all = rw is (rw is at all)
+
+  -- the writes that map the page of that number among those that are taken
+  pub hands-taken : (k before : ℕ) (pages : List Arrival) (fs : List Filling) (b : Arrival) (g : Filling) → NthTaken k pages fs b g → (n r : ℕ) (w : Option Write) → g.children ≡ Some n → r < 3
+      → Hands (map_changes m.pages (private_mapping t b.gpa g.page) g.at (n + (before + k))) r w → Hands (taken_changes m.pages t before pages fs ++ rest) (3 * k + r) w
+  hands-taken k before [] fs b g is n r w some few hands = absurd is
+  hands-taken k before (a ∷ pages) [] b g is n r w some few hands = absurd is
+  hands-taken k before (a ∷ pages) (f ∷ fs) b g is n r w some few hands =
+      subst (λ (cs : List Change). Hands cs (3 * k + r) w) (sym (append-again (mapped_changes m.pages t a.gpa f.at f.page before f.children) (taken_changes m.pages t (taken_after before f.children) pages fs) rest))
+      (by k f.children refl is hands (λ i next nth all. hands-taken i next pages fs b g nth n r w some few all))
+    where
+      by : (k : ℕ) (o : Option ℕ) → f.children ≡ o → NthTaken k (a ∷ pages) (f ∷ fs) b g → HandsAt m (map_changes m.pages (private_mapping t b.gpa g.page) g.at (n + (before + k))) r h h w
+          → ((i next : ℕ) → NthTaken i pages fs b g → HandsAt m (map_changes m.pages (private_mapping t b.gpa g.page) g.at (n + (next + i))) r h h w → HandsAt m (taken_changes m.pages t next pages fs ++ rest) (3 * i + r) h h w)
+          → HandsAt m (mapped_changes m.pages t a.gpa f.at f.page before f.children ++ (taken_changes m.pages t (taken_after before f.children) pages fs ++ rest)) (3 * k + r) h h w
+      by zero (Some x) is nth all later =
+          let same : (a ≡ b) × (f ≡ g) = subst (λ (o : Option ℕ). taken_step o zero ((a ≡ b) × (f ≡ g)) (λ i. NthTaken i pages fs b g)) is nth in
+          let none : before + 0 ≡ before = omega arith in
+          taken-here a f before (taken_changes m.pages t (taken_after before f.children) pages fs ++ rest) r n w few (ap (λ (y : Filling). y.children) same.1 ∙ some)
+          (subst (λ (y : Filling). HandsAt m (map_changes m.pages (private_mapping t a.gpa y.page) y.at (n + before)) r h h w) (sym same.1)
+          (subst (λ (c : Arrival). HandsAt m (map_changes m.pages (private_mapping t c.gpa g.page) g.at (n + before)) r h h w) (sym same.0)
+          (subst (λ (q : ℕ). HandsAt m (map_changes m.pages (private_mapping t b.gpa g.page) g.at (n + q)) r h h w) none all)))
+      by (suc k) (Some x) is nth all later =
+          let sooner : before + suc k ≡ suc before + k = omega arith in
+          let up : suc before ≡ taken_after before f.children = sym (ap (λ (o : Option ℕ). taken_after before o) is) in
+          taken-later a f before (taken_changes m.pages t (taken_after before f.children) pages fs ++ rest) k r x w is
+          (subst (λ (q : ℕ). HandsAt m (taken_changes m.pages t q pages fs ++ rest) (3 * k + r) h h w) up
+          (later k (suc before) (subst (λ (o : Option ℕ). taken_step o (suc k) ((a ≡ b) × (f ≡ g)) (λ i. NthTaken i pages fs b g)) is nth) (subst (λ (q : ℕ). HandsAt m (map_changes m.pages (private_mapping t b.gpa g.page) g.at (n + q)) r h h w) sooner all)))
+      by k None is nth all later =
+          (let tail : HandsAt m (taken_changes m.pages t before pages fs ++ rest) (3 * k + r) h h w = later k before (subst (λ (o : Option ℕ). taken_step o k ((a ≡ b) × (f ≡ g)) (λ i. NthTaken i pages fs b g)) is nth) all in rw is tail)
