@@ -4,6 +4,7 @@ import functools
 import struct
 from collections import namedtuple
 
+import features
 import gcm
 import openssl
 from machine import Refused
@@ -14,8 +15,10 @@ LAYOUT = struct.Struct("<HHHBBIIQHHIQQ")
 TAG = slice(48, 64)
 HEADER_BYTES = 64
 SLOT_END, ENTRY_MOST = 4096, 131_072
+PAGE_BYTES, LIST_MOST = 4096, 16
 IMMUTABLE, TD_STATE, VCPU_STATE, MEMORY, EPOCH_TOKEN, START_TOKEN, ABORT_TOKEN = range(7)
-PAYLOADS = {IMMUTABLE: 48, TD_STATE: 192, VCPU_STATE: 64, MEMORY: 4096, EPOCH_TOKEN: 0, START_TOKEN: 0, ABORT_TOKEN: 0}
+PAYLOADS = {IMMUTABLE: 48, TD_STATE: 192, VCPU_STATE: 64, MEMORY: PAGE_BYTES, EPOCH_TOKEN: 0, START_TOKEN: 0, ABORT_TOKEN: 0}
+LISTS = ((2, MEMORY),) * features.has(features.LISTS)  # the versions behind the first one, and their types
 
 # What seals: the library, which is faster, where it is there.
 SEALING = openssl if openssl.is_there() else gcm
@@ -28,12 +31,17 @@ def header_of(bundle):
     return Header(*LAYOUT.unpack(bundle[: LAYOUT.size]))
 
 
+def pages_of(header):
+    """How many pages a bundle has, or how often the payload of its type: once, but in a list."""
+    return header.info if header.version == 2 else 1
+
+
 def keeps_zeros(header):
     """Whether the fields are 0 that the type wants to be 0."""
     kinds = {
         "reserved": (),
         "index": (VCPU_STATE,),
-        "info": (IMMUTABLE, VCPU_STATE),
+        "info": (IMMUTABLE, VCPU_STATE, *(MEMORY,) * (header.version == 2)),
         "gpa": (MEMORY,),
         "total": (EPOCH_TOKEN, START_TOKEN),
         "epoch": tuple(range(ABORT_TOKEN)),
@@ -43,15 +51,18 @@ def keeps_zeros(header):
 
 def has_values(header):
     """Whether the other fields have one of their values."""
-    most_info = {IMMUTABLE: 8, VCPU_STATE: 256}.get(header.type, 0)
+    infos = {IMMUTABLE: range(9), VCPU_STATE: range(257)}.get(header.type, range(1))
+    if header.version == 2:
+        infos = range(1, LIST_MOST + 1)
     return (
         header.stream < (4 if header.type == MEMORY else 1)
         and header.iv == header.counter
         and header.session > 0
         and header.index < 8
-        and header.info <= most_info
+        and header.info in infos
         and header.gpa < 1 << 47
-        and header.gpa % 4096 == 0
+        and header.gpa % PAGE_BYTES == 0
+        and header.gpa + PAGE_BYTES * pages_of(header) <= 1 << 47
     )
 
 
@@ -62,7 +73,7 @@ def form_fault(bundle):
     header = header_of(bundle)
     if header.size != HEADER_BYTES:
         return "SIZE"
-    if header.version != 1:
+    if header.version != 1 and (header.version, header.type) not in LISTS:
         return "VERSION"
     if header.type not in PAYLOADS:
         return "TYPE"
@@ -70,7 +81,7 @@ def form_fault(bundle):
         return "RESERVED"
     if not has_values(header):
         return "VALUE"
-    return None if len(bundle) == HEADER_BYTES + PAYLOADS[header.type] else "LENGTH"
+    return None if len(bundle) == HEADER_BYTES + PAYLOADS[header.type] * pages_of(header) else "LENGTH"
 
 
 def key_of(keys, kind):

@@ -1,10 +1,12 @@
-"""All calls of docs/profile.md but those of its extensions: their arguments, and their rows."""
+"""All calls of docs/profile.md: their arguments, and their rows."""
 
 import memory_rows
 import migration_rows
 import rows
 
 ARGUMENTS = rows.ARGUMENTS | memory_rows.ARGUMENTS | migration_rows.ARGUMENTS
+# The calls that are made with their last argument, or without it.
+OPTIONAL = ("EXPORT.ABORT", *migration_rows.LISTS)
 ROWS = rows.ROWS | memory_rows.ROWS | migration_rows.ROWS
 OF_A_PROCESSOR = ("VP.ENTER", "VP.FLUSH")
 

@@ -1,6 +1,6 @@
 """Random command lines, in form and faulty, and how one is written."""
 
-from program import COMMANDS, INPUTS, OPTIONS, Ended, options_of
+from program import COMMANDS, INPUTS, OPTIONS, OPTIONS_OF, SIDES, WORDS, Ended, options_of
 
 FILES = ("script", "secrets", "keys", "bundles")
 # Names that begin with a dash, or are nothing else, and that are there: each is a script.
@@ -68,6 +68,8 @@ def any_line(chance):
         return [command, *soak_words(chance, is_good)]
     if command == "verify":
         return [command, *verify_words(chance, is_good)]
+    if command in SIDES:
+        return [command, *side_words(chance, command, is_good)]
     names = chance.sample(OPTIONS, chance.randrange(4)) if command != "check" else []
     if not is_good and chance.random() < 0.4:
         names.append(chance.choice((*OPTIONS, "--key", "--out", "--help", "-h", "-V", "--Keys")))
@@ -108,6 +110,21 @@ def verify_words(chance, is_good):
     if is_good and chance.random() < 0.3:
         words.insert(chance.randrange(3), "--")
     return words
+
+
+def side_words(chance, command, is_good):
+    """What may follow a command that runs modules side by side."""
+    count = chance.choice(tuple(WORDS[command]))
+    words = {"pair": ["script", "script", "plan", "keys"], "chain": ["keys", "plan", *["script"] * (count - 2)]}[command]
+    names = chance.sample(OPTIONS_OF[command], chance.randrange(3))
+    if not is_good:
+        words[chance.randrange(len(words))] = chance.choice((*ODD, "reporting", "bad", "short"))
+        names.append(chance.choice((*OPTIONS, "--key")))
+        del words[: chance.choice((0, 0, 1, 9))]
+    parts = [[word] for word in words]
+    for name in names:
+        parts.insert(chance.randint(0, len(parts)), option(chance, name, is_good))
+    return [word for part in parts for word in part]
 
 
 def ways(words):

@@ -4,7 +4,9 @@ many guests are in at once, every fault of a bundle that comes in, every reason 
 of the program that its words and its script decide, and the ways of writing a command line."""
 
 import command_lines
-from scripts import BY_TOKEN, CALLS, REASONS
+import features
+from features import LATE_PAGES, LISTS
+from scripts import BY_TOKEN, CALLS, REASONS, form_of
 
 TD = "PAGE_METADATA_INCORRECT 1"
 SECOND = "PAGE_METADATA_INCORRECT 2"
@@ -162,6 +164,22 @@ REFUSALS = {
     "IMPORT.END": ((1, 2), (*EARLY, RUNNABLE, *SESSION, *FILLING, ALL_IN, FAILED_IN)),
     "IMPORT.ABORT": ((1, 2), (*EARLY, RUNNABLE, *SESSION, LIVE_IN, FAILED_IN)),
 }
+if features.has(LATE_PAGES):
+    tries, refusals = REFUSALS["EXPORT.MEM"]
+    REFUSALS["EXPORT.MEM"] = tries, tuple(its for its in refusals if its != POST)
+    tries, refusals = REFUSALS["IMPORT.MEM"]
+    late = *(its for its in refusals if its not in (ALL_IN, LIVE_IN)), *states("MAPPED")
+    REFUSALS["IMPORT.MEM"] = tries, late
+# Of a list: the tries of its pages, by their places in it, and of the stream behind them; and what becomes of lists alone.
+OF_PAGES = ("its first page", "a page between", "its last page")
+EXPORTS, IMPORTS = "EXPORT.MEM of a list", "IMPORT.MEM of a list"
+if features.has(LISTS):
+    tries, refusals = REFUSALS["EXPORT.MEM"]
+    REFUSALS[EXPORTS] = (1, 2, 3, 4, *OF_PAGES, "its stream"), refusals
+    tries, refusals = REFUSALS["IMPORT.MEM"]
+    third = ("PAGE_METADATA_INCORRECT of its first page", "PAGE_METADATA_INCORRECT of a later page", "BUNDLE_HEADER COUNT")
+    third += (LIVE_IN,) * features.has(LATE_PAGES)
+    REFUSALS[IMPORTS] = (1, 2, 3, *OF_PAGES), (*(its for its in refusals if its != THIRD), *third)
 SHOWN_WITHOUT_NUMBER = (
     "SUCCESS", "PAGES_EXIST", "FLUSHVP_NOT_DONE", "VCPU_ASSOCIATED", "PREVIOUS_TLB_EPOCH_BUSY", "SEPT_NOT_EMPTY",
     "STATE_MISSING", "DIRTY_PAGES", "UNRESTORED_PAGES", "NO_BUNDLE", "BUNDLE_COUNTER", "TOKEN_TOTAL",
@@ -226,6 +244,15 @@ IMPORTING = {
     "IMPORT.ABORT": tuple(f"SUCCESS in {op}" for op in ("MEMORY_IMPORT", "STATE_IMPORT", "POST_IMPORT")),
     "VP.ENTER": tuple(f"entered in {op}" for op in ("RUNNABLE", "LIVE_EXPORT", "LIVE_IMPORT")),
 }
+if features.has(LATE_PAGES):
+    EXPORTING["EXPORT.MEM"] += tuple(f"SUCCESS at {state} in POST_EXPORT" for state in ("MAPPED", "BLOCKEDW"))
+    IMPORTING["IMPORT.MEM"] += tuple(f"SUCCESS at FREE in {op}" for op in ("POST_IMPORT", "LIVE_IMPORT"))
+    OPERATIONS["load private"] += ("completed by a walk whose page came meanwhile",)
+    OPERATIONS["store private"] += ("completed by a walk whose page came meanwhile",)
+if features.has(LISTS):
+    EXPORTING[EXPORTS] = EXPORTING["EXPORT.MEM"]
+    came = *IMPORTING["IMPORT.MEM"], "PAGE_METADATA_INCORRECT of a page that it holds"
+    IMPORTING[IMPORTS] = tuple(its for its in came if not its.endswith("LIVE_IMPORT"))
 # Beside which guests of the TD memory is blocked and taken, and why a block isn't tracked.
 BESIDES = ("SUCCESS without a guest", "SUCCESS beside a guest")
 BEFORE = "SUCCESS beside a guest of the epoch before"
@@ -252,6 +279,8 @@ BESIDE_GUESTS = {
     ),
     "guests at once": (*(f"{count}" for count in range(1, 9)), "of two TDs"),
 }
+if features.has(LISTS):
+    BESIDE_GUESTS[EXPORTS] = TAKING
 # Calls whose success is told by their exit.
 ENTERS = ("VP.ENTER",)
 
@@ -268,7 +297,7 @@ def wanted():
         kinds = CALLS.get(call) or CALLS[call.split()[0]]
         places = [place for place, kind in enumerate(kinds, 1) if kind not in ("value", "field", "input", "output")]
         names.update(f"{call}: OPERAND_INVALID {place}" for place in places)
-        names.update(f"{call}: OPERAND_BUSY at try {place}" for place in tries)
+        names.update(f"{call}: OPERAND_BUSY at {place if isinstance(place, str) else f'try {place}'}" for place in tries)
         names.update(f"{call}: {refusal}" for refusal in (*refusals, *("SUCCESS",) * (call not in ENTERS)))
     for outcomes in (OPERATIONS, BLOCKING, BESIDE_GUESTS, EXPORTING, IMPORTING):
         names.update(f"{name}: {came}" for name, all_came in outcomes.items() for came in all_came)
@@ -281,13 +310,25 @@ def name_of(name, arguments):
     """The name of a call in REFUSALS."""
     if name == "MNG.RD":
         return f"{name} {arguments[1]}"
-    return BY_TOKEN if name == "EXPORT.ABORT" and len(arguments) == 2 else name
+    return form_of(name, arguments)
+
+
+def place_in_list(call, count, locks):
+    """Which lock of a list of so many pages it is that comes behind so many."""
+    first = 4 if call == EXPORTS else 3
+    if not first <= locks <= first + count:
+        return f"try {locks + 1}"
+    return {0: OF_PAGES[0], count: "its stream", count - 1: OF_PAGES[2]}.get(locks - first, OF_PAGES[1])
 
 
 def of_reply(name, arguments, reply, locks):
     """What a call has reached by its reply, with so many locks held then."""
     status, *shown = reply.split()
     call = name_of(name, arguments)
+    if status == "OPERAND_BUSY" and call in (EXPORTS, IMPORTS):
+        return f"{call}: {status} at {place_in_list(call, arguments[-1], locks)}"
+    if status == "PAGE_METADATA_INCORRECT" and call == IMPORTS and shown[0] != f"{arguments[0]}":
+        return f"{call}: {status} of {'its first' if shown[0] == f'{arguments[2]}' else 'a later'} page"
     if status == "OPERAND_BUSY":
         return f"{call}: OPERAND_BUSY at try {locks + 1}"
     if status == "PAGE_METADATA_INCORRECT":
@@ -312,8 +353,8 @@ def of_answer(words, status, text, processors):
         yield f"verify: {'yes' if text.startswith('yes ') else text.strip()}"
     if status == 2:
         yield f"reason {text.split()[-1]}"
-    if processors:
-        yield from processors[0].machine.met
+    for machine in {id(processor.machine): processor.machine for processor in processors}.values():
+        yield from machine.met
     for processor in processors:
         for (name, arguments), (reply, locks) in zip(processor.calls, processor.replies):
             yield of_reply(name, arguments, reply, locks)

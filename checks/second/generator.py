@@ -19,19 +19,22 @@ import struct
 
 import bundles
 import command_lines
+import features
 import hostile
 from bundles import ABORT_TOKEN, EPOCH_TOKEN, IMMUTABLE, MEMORY, START_TOKEN, TD_STATE, VCPU_STATE, Header
 from machine import Outside, run
-from program import processors_of
+from program import SIDES, processors_of
 from reports import KEY_BYTES, MOST_OF_A_LIST, report_of
+from migration_rows import LISTS
 from rows import FIELDS, GPA_END, PAGE_BYTES, alignment
 from scripts import (
-    BY_TOKEN, CALLS, CALLS_OF_A_PROCESSOR, ITEMS, OPERATIONS_OF_A_LIST, SCRIPT_END, SLOTS, call_of, number, read,
+    BY_TOKEN, CALLS, CALLS_OF_A_PROCESSOR, ITEMS, OPERATIONS_OF_A_LIST, SCRIPT_END, SLOTS, WITH_THE_LAST, call_of, number, read,
 )
 
 SIZES = (8, 12, 16, 24, 40, 40, 1024)
 ROOMY = (24, 40, 1024)
 LARGE = (40, 1024)
+HAS_LISTS, HAS_LATE_PAGES = features.has(features.LISTS), features.has(features.LATE_PAGES)
 LEVEL_BYTES = [PAGE_BYTES << 9 * level for level in range(4)]
 
 # Calls that lead a TD on so far that little can be done with it then.
@@ -45,7 +48,7 @@ GIVES_UP = ("IMPORT.ABORT",)
 DEEP = (
     "MR.EXTEND", "MEM.SEPT.ADD", "MEM.SEPT.RD", "MEM.PAGE.ADD", "MEM.PAGE.AUG", "VP.ENTER", "VP.FLUSH",
     "MEM.SEPT.REMOVE", "MEM.PAGE.REMOVE", "MEM.PAGE.RELOCATE", "MEM.RANGE.BLOCK", "MEM.RANGE.UNBLOCK", "EXPORT.RESTORE",
-    "EXPORT.BLOCKW", "EXPORT.UNBLOCKW", "EXPORT.MEM",
+    "EXPORT.BLOCKW", "EXPORT.UNBLOCKW", "EXPORT.MEM", *(WITH_THE_LAST[name] for name in LISTS),
 )
 
 # All calls, each as often as it is to come.
@@ -61,7 +64,7 @@ MAKE_BUNDLES = {name for name, kinds in CALLS.items() if "output" in kinds}
 TAKES = {
     BY_TOKEN: (ABORT_TOKEN,), "IMPORT.STATE.IMMUTABLE": (IMMUTABLE,), "IMPORT.MEM": (MEMORY,),
     "IMPORT.TRACK": (EPOCH_TOKEN, START_TOKEN), "IMPORT.STATE.TD": (TD_STATE,), "IMPORT.STATE.VP": (VCPU_STATE,),
-}
+} | {WITH_THE_LAST[name]: (MEMORY,) for name in LISTS if name == "IMPORT.MEM"}
 TOKENS = (EPOCH_TOKEN, START_TOKEN)
 
 # Calls that are refused twice in a row; what went before them makes them succeed again.
@@ -72,7 +75,7 @@ WRITTEN = ("{}", "{}", "{}", "{:#x}", "0x{:X}", "00{}")
 
 # How many VCPUs and private pages a TD may have: one in passing, and one whose VCPUs run beside one another.
 # Each processor caches 16 translations.
-FEW, CROWDED = ((0, 1, 2, 8), (1, 2, 2)), ((2, 2, 3, 8), (2, 2, 18))
+FEW, CROWDED = ((0, 1, 2, 8), (1, 2, 2, *(3, 5, 17) * HAS_LISTS)), ((2, 2, 3, 8), (2, 2, 18))
 THREE, EIGHT = ((3,), (2,)), ((8,), (2,))
 
 
@@ -116,30 +119,35 @@ class Life:
 
     def __init__(self, chance, pages, hkid, sizes=FEW, like=None):
         """Takes its pages from the end of that list. It may be like another life, on another module."""
+        run = a_run(chance, pages, len(like.gpas)) if HAS_LISTS and like is not None else []
         self.hkid, self.td = hkid, pages.pop()
         self.control = [pages.pop(), pages.pop()]
         self.vcpus = [pages.pop() for _ in range(min(chance.choice(sizes[0]), len(pages) // 2))]
         self.tables = [pages.pop() for _ in range(min(3, len(pages) // 2))]
-        self.private = [pages.pop() for _ in range(min(chance.choice(sizes[1]), max(0, len(pages) - 4)))]
+        count = chance.choice(sizes[1])
+        if count in sizes[1][3:] and sizes is FEW:  # pages of a list, which leave enough for all else
+            count = max(2, min(count, len(pages) - 16))
+        self.private = [pages.pop() for _ in range(min(count, max(0, len(pages) - 4)))]
         self.waiting = [pages.pop() for _ in range(min(chance.choice((1, 1, 2)), max(0, len(pages) - 1)))]
         self.spare = [pages.pop() for _ in range(len(pages) > 1)]  # of a table that comes and goes
         self.streams = [pages.pop() for _ in range(min(chance.choice((0, 1, 1, 4)), max(0, len(pages) - 8)))]
         self.frames = [pages.pop() for _ in range(len(pages) > 4)]  # to which its private pages are moved
-        self.gpa = chance.choice((0, 511, 513, 1 << 18, 3 << 33)) * PAGE_BYTES
+        self.gpa = chance.choice((0, 511, 513, 1 << 18, 3 << 33, *(509, 511) * HAS_LISTS)) * PAGE_BYTES
         if like is not None:
-            self.become(pages, like)
+            self.become(pages, like, run)
         if len(self.tables) < 3:
             self.private = self.waiting = []
         self.first_waiting = max(0, len(self.private) - (chance.choice((0, 0, 1)) if self.waiting else 0))
         count = max(len(self.private), self.first_waiting + len(self.waiting))
         self.gpas = [self.gpa + place * PAGE_BYTES for place in range(count)]  # of its private pages
 
-    def become(self, pages, like):
-        """It has as many VCPUs, private pages and streams as that life, at the same addresses."""
+    def become(self, pages, like, run):
+        """It has as many VCPUs, private pages and streams as that life, at the same addresses; its private pages are those of the
+        run, where there is one."""
         pages += self.vcpus + self.private + self.waiting + self.streams
         self.waiting, self.gpa = [], like.gpa
         for name, others in (("vcpus", like.vcpus), ("private", like.gpas), ("streams", like.streams)):
-            setattr(self, name, [pages.pop() for _ in others])
+            setattr(self, name, run if run and name == "private" else [pages.pop() for _ in others])
 
     def owned(self):
         """The pages of the TD, without its TDR."""
@@ -157,12 +165,14 @@ class Life:
             page = int(words[2], 0)
             return [its for its in (self.page_at(int(words[1], 0)), *self.frames) if its != page] + [page]
         pages = [int(word) for kind, word in zip(CALLS[call_of(call)], words) if kind == "page"][1:]
+        count = count_of(call) or 1
         if pages or CALLS[name][1:2] != ("gpa",):
-            return pages
+            return [page + place for page in pages for place in range(count)]
         gpa, level = int(words[1], 0), int(words[2]) if "level" in CALLS[name][-1] else 0
         if level == 0:
             streams = self.streams[int(words[2]) :][:1] if "stream" in CALLS[name] else []
-            return [self.page_at(gpa - gpa % PAGE_BYTES), *streams]
+            gpas = [gpa - gpa % PAGE_BYTES + place * PAGE_BYTES for place in range(count)]
+            return [*(self.page_at(its) for its in gpas if its == gpas[0] or its in self.gpas), *streams]
         return self.spare if gpa > self.gpa else [self.tables[3 - level]]
 
     def build(self, chance, source):
@@ -174,7 +184,7 @@ class Life:
         inner += [f"VP.INIT {self.td} {page} {chance.randrange(100)}" for page in self.vcpus]
         inner += [f"MIG.STREAM.CREATE {self.td} {page}" for page in self.streams + self.streams[3:]]
         tree = [f"MEM.SEPT.ADD {self.td} {self.gpa - self.gpa % LEVEL_BYTES[level]} {level} {page}"
-                for level, page in zip((3, 2, 1), self.tables)]
+                for level, page in zip((3, 2, 1), self.tables)] + self.beyond_the_border(chance)
         for place, page in enumerate(self.private):
             gpa = self.gpa + place * PAGE_BYTES
             tree += [f"HOST.WRITE {source} {a_word(chance)} {chance.getrandbits(64)}"]
@@ -184,6 +194,13 @@ class Life:
         more = [f"MEM.PAGE.AUG {self.td} {self.gpa + place * PAGE_BYTES} {page}"
                 for place, page in enumerate(self.waiting, self.first_waiting)]
         return calls + riffle(chance, inner, tree) + [f"MR.FINALIZE {self.td}", *more]
+
+    def beyond_the_border(self, chance):
+        """The secure EPT page of its private pages behind the border of the first one, in most cases, where there are some."""
+        border = self.gpa - self.gpa % LEVEL_BYTES[1] + LEVEL_BYTES[1]
+        if not (HAS_LISTS and border in self.gpas and self.spare) or chance.random() < 0.2:
+            return []
+        return [f"MEM.SEPT.ADD {self.td} {border} 1 {self.spare[0]}"]
 
     def entries(self, chance):
         """Entries of its VCPUs, with few operations or with many."""
@@ -242,6 +259,9 @@ class Life:
             gpa = chance.choice(gpas)
             blocks, again = (f"EXPORT.{name} {self.td} {gpa}" for name in ("BLOCKW", "UNBLOCKW"))
             exports = [blocks, *self.tracking(chance), self.memory(chance, gpa)]
+            if HAS_LISTS and chance.random() < 0.5:
+                grows = [*exports, again, self.token(0)] * chance.choice((0, 1))  # a page of the list goes out by itself before
+                exports = grows + self.list_exported(chance, gpa)
             rounds = ([blocks], [blocks, again], self.tracking(chance), self.entries(chance), [self.token(0)],
                       exports, [*exports, again], [*exports, again, blocks], [*exports, again, self.token(0), *exports])
             calls += chance.choice(rounds)
@@ -252,9 +272,32 @@ class Life:
         few = len(self.streams) if self.streams and chance.random() < 0.9 else 4
         return f"EXPORT.MEM {self.td} {gpa} {chance.randrange(few)} SLOT"
 
+    def list_exported(self, chance, gpa):
+        """The export of a list of its pages from that one on, or of one beyond them. They are blocked, nearly all of them and in
+        any order, and behind one of these blocks or two there is a new epoch."""
+        count = chance.choice((1, 2, 3, 16, chance.randint(1, 16)))
+        blocked = [its for its in self.gpas if 0 <= its - gpa < count * PAGE_BYTES and chance.random() < 0.97] or [gpa]
+        chance.shuffle(blocked)
+        calls = [f"EXPORT.BLOCKW {self.td} {its}" for its in blocked]
+        for _ in range(chance.choice((0, 1, 1, 2))):
+            place = len(calls) if chance.random() < 0.8 else chance.randint(1, len(calls))
+            calls.insert(place, f"MEM.TRACK {self.td}")
+        if chance.random() < 0.9:
+            count = max(1, min(count, (self.gpas or [gpa])[-1] // PAGE_BYTES - gpa // PAGE_BYTES + 1))
+        return [*calls, f"{self.memory(chance, gpa)} {count}"]
+
     def rest(self, chance):
         """The export of each private page, in an epoch in which none was exported, or not."""
-        return [self.token(0)] * chance.choice((0, 1, 1)) + [self.memory(chance, gpa) for gpa in self.gpas]
+        tokens = [self.token(0)] * chance.choice((0, 1, 1))
+        if not HAS_LISTS or chance.random() < 0.3:
+            return tokens + [self.memory(chance, gpa) for gpa in self.gpas]
+        left, calls = self.gpas[:], []
+        while left:
+            count = min(len(left), chance.choice((1, 1, 2, 3, 16, 16, chance.randint(1, 16))))
+            is_list = count > 1 or chance.random() < 0.5
+            calls.append(self.memory(chance, left[0]) + f" {count if chance.random() < 0.95 else count % 16 + 1}" * is_list)
+            left = left[count:]
+        return tokens + calls
 
     def token(self, starts):
         """An epoch token, or the start token."""
@@ -280,7 +323,11 @@ class Life:
         if starts:
             late = chance.random() < 0.3
             paused = [call for call in paused if not late or not call.startswith("EXPORT.MEM")]
-            return live, paused, [self.token(1), self.token(0), *self.rest(chance)] * late + [self.token(1)]
+            end = [self.token(1), self.token(0), *self.rest(chance)] * late + [self.token(1)]
+            if HAS_LATE_PAGES and chance.random() < 0.6:
+                paused, behind = self.held_back(chance, live, paused)
+                return live, paused, end + behind
+            return live, paused, end
         names = [("MEM.RANGE.BLOCK", " 0"), ("MEM.RANGE.UNBLOCK", " 0"), ("MEM.PAGE.REMOVE", "")]
         names += [("MEM.PAGE.RELOCATE", f" {page}") for page in self.frames]
         left = [f"{name} {self.td} {gpa}{level}" for gpa in self.gpas or [self.gpa] for name, level in names]
@@ -288,6 +335,15 @@ class Life:
         again = [call for part in self.export(chance, chance.random() < 0.5) for call in part]
         others = left * chance.choice((0, 1, 1)) + [begins] * chance.choice((0, 0, 1)) + restores + again * chance.choice((0, 1))
         return live, paused, [self.token(1)] * chance.choice((0, 1)) + [f"EXPORT.ABORT {self.td}", *others]
+
+    def held_back(self, chance, live, paused):
+        """The calls from the pause on without the exports of some pages that nothing has blocked or exported before, and those that
+        come behind the start token: these, and a few others."""
+        touched = {gpa for call in live if call.startswith("EXPORT.") for gpa in addresses_of(call)}
+        back = [call.startswith("EXPORT.MEM") and not touched & set(addresses_of(call)) and chance.random() < 0.7 for call in paused]
+        behind = [call for call, its in zip(paused, back) if its]
+        others = [self.memory(chance, gpa) for gpa in self.gpas if chance.random() < 0.2]
+        return [call for call, its in zip(paused, back) if not its], riffle(chance, behind, others)
 
     def export_round(self, chance):
         """An export, perhaps in a wrong order, or not to its end."""
@@ -321,17 +377,26 @@ class Life:
         vcpus = [f"VP.CREATE {self.td} {page}" for page in self.vcpus + self.vcpus[:1]]
         tree = [f"MEM.SEPT.ADD {self.td} {self.gpa - self.gpa % LEVEL_BYTES[level]} {level} {page}"
                 for level, page in zip((3, 2, 1), self.tables)]
-        return riffle(chance, vcpus, tree[: 3 if chance.random() < 0.9 else chance.randrange(3)])
+        return riffle(chance, vcpus, tree[: 3 if chance.random() < 0.9 else chance.randrange(3)] + self.beyond_the_border(chance))
 
     def takes(self, chance, slot, header):
         """The call that takes the bundle with that header in, in most cases with the page or the VCPU that is meant."""
         if header.type == MEMORY:
             page = self.page_at(header.gpa) if chance.random() < 0.9 else chance.choice(self.private)
-            return f"IMPORT.MEM {self.td} {slot} {page}"
+            return f"IMPORT.MEM {self.td} {slot} {self.of_a_list(chance, page, header) if HAS_LISTS else page}"
         if header.type == VCPU_STATE:
             page = self.vcpus[header.index] if chance.random() < 0.95 else chance.choice(self.vcpus)
             return f"IMPORT.STATE.VP {self.td} {page} {slot}"
         return f"IMPORT.{({IMMUTABLE: 'STATE.IMMUTABLE', TD_STATE: 'STATE.TD'}.get(header.type, 'TRACK'))} {self.td} {slot}"
+
+    def of_a_list(self, chance, page, header):
+        """The last arguments of a call that takes a page or a list in, in most cases as its bundle wants them."""
+        if chance.random() < (0.15 if header.version == 2 else 0.06):
+            page = max(0, page + chance.choice((-2, -1, -1, 1, 2)))
+        draw = chance.random()
+        if draw < 0.03:
+            return f"{page} {chance.choice((0, 1, header.info + 1, 16, 17))}"
+        return f"{page} {header.info}" if (header.version == 2) == (draw < 0.97) else f"{page}"
 
     def end(self, chance):
         """The calls that end the TD, and look at what its pages have become."""
@@ -344,10 +409,28 @@ class Life:
         return calls + [f"HOST.READ {page} {a_word(chance)}" for page in pages]
 
 
-def with_slots(chance, lines):
-    """The lines with a slot of its own in the place of each word SLOT."""
+def addresses_of(call):
+    """The GPAs of the pages that a call on a private page or on a list names."""
+    words = call.split()
+    if CALLS[call_of(call)][1:2] != ("gpa",):
+        return []
+    return [int(words[2], 0) + place * PAGE_BYTES for place in range(count_of(call) or 1)]
+
+
+def a_run(chance, pages, count):
+    """So many pages of that list that follow one another, which are taken off it; none where there is no such run."""
+    firsts = [page for page in sorted(pages) if all(page + place in pages for place in range(count))]
+    first = chance.choice(firsts) if firsts else 0
+    run = [first + place for place in range(count)] if firsts else []
+    for page in run:
+        pages.remove(page)
+    return run
+
+
+def with_slots(chance, lines, others=()):
+    """The lines with a slot of its own, and none of the others, in the place of each word SLOT."""
     count = sum("SLOT" in line for line in lines)
-    named = {number(word) for word in slots_of(lines) if word != "SLOT"}
+    named = {*others, *(number(word) for word in slots_of(lines) if word != "SLOT")}
     slots = iter(chance.sample(free_slots(named), count))
     return [line.replace("SLOT", chance.choice(("{}", "{:#x}", "0{}")).format(next(slots))) if "SLOT" in line else line
             for line in lines]
@@ -385,6 +468,8 @@ class Scene:
         self.chance = chance
         self.source, self.keys = source, chance.randbytes(64) if source is None else source.scene.keys
         self.inputs = {kind + 7 * chance.randrange(3): hostile.in_form(chance, kind) for kind in bundles.PAYLOADS}
+        if HAS_LISTS:
+            self.inputs[21 + chance.randrange(3)] = hostile.in_form(chance, MEMORY, 2)
         self.inputs |= source.made if source else {}
         self.lps = chance.choice((1, 1, 2, 2, 3, 4, 8))
         self.size = chance.choice(sizes)
@@ -392,6 +477,10 @@ class Scene:
         pages = list(range(self.size))
         chance.shuffle(pages)
         pages = pages[:40]
+        if HAS_LISTS and source is not None:  # where runs of pages are
+            first = chance.randrange(self.size - len(pages) + 1)
+            pages = [first + place for place in range(len(pages))]
+            chance.shuffle(pages)
         self.lives = [Life(chance, pages, 1, life_sizes, source and source.life)]
         if has_two:
             self.hkids = max(2, self.hkids)
@@ -449,6 +538,8 @@ class Scene:
             return self.input(TAKES[name])
         if kind == "stream":
             return chance.choice((0, 0, 1, 2, 3))
+        if kind == "count":
+            return chance.choice((1, 1, 2, 2, 3, 16, chance.randint(1, 16)))
         ranges = {"level": range(4), "upper level": range(1, 4), "value": range(1 << 16), "start": range(2)}
         return chance.choice(ranges[kind])
 
@@ -468,9 +559,21 @@ class Scene:
             arguments[1] -= arguments[1] % alignment(name, kinds, arguments)
             if name == "MR.EXTEND":
                 arguments[1] += 256 * self.chance.randrange(16)
+        if HAS_LISTS and name in (WITH_THE_LAST["IMPORT.MEM"], "IMPORT.MEM"):
+            self.fit(name, arguments)
         if spoiled and arguments:
             self.spoil(kinds, arguments)
         return " ".join([name.split()[0], *map(self.written, arguments)])
+
+    def fit(self, name, arguments):
+        """Lets a call that takes pages in name a bundle of its version and its number of pages, in most cases."""
+        headers = {slot: bundles.header_of(its) for slot, its in self.inputs.items() if bundles.form_fault(its) is None}
+        version = 1 if name == "IMPORT.MEM" else 2
+        slots = [slot for slot, header in headers.items() if header.type == MEMORY and header.version == version]
+        if slots and self.chance.random() < 0.8:
+            arguments[1] = self.chance.choice(slots)
+            if version == 2 and self.chance.random() < 0.95:
+                arguments[-1] = headers[arguments[1]].info
 
     def spoil(self, kinds, arguments):
         """Puts arguments out of their rules: out of range, at an edge, twice the same, or misaligned."""
@@ -488,6 +591,7 @@ class Scene:
             "start": (1, 2),
             "stream": (3, 4),
             "input": (SLOTS.stop - 1, SLOTS.stop),
+            "count": (0, 16, 17),
         }
         places = [place for place, kind in enumerate(kinds) if kind != "output"]
         for place in chance.sample(places, chance.choice((1, 1, 1, min(2, len(places))))):
@@ -555,18 +659,35 @@ def rival(chance, life, target):
 def race(chance, scene, turn):
     """Processor 0 leads a TD to the call whose turn it is, and makes it and those after it again and
     again. The others try the locks of that call, most of them one and the same lock."""
-    life = scene.lives[0]
-    visit, due = divmod(turn, len(CALLS))
-    name, answered = tuple(CALLS)[due], []
+    visit, name = visit_of(race, turn)
+    return race_for(chance, scene, name, visit)
+
+
+def race_of_lists(chance, scene, turn):
+    """The same of calls with a list alone."""
+    visit, name = visit_of(race_of_lists, turn)
+    return race_for(chance, scene, name, visit)
+
+
+def visit_of(make, turn):
+    """Which visit that turn of a race is, and for which call; none for another maker of scripts."""
+    names = {race: tuple(CALLS), race_of_lists: tuple(WITH_THE_LAST[name] for name in LISTS)}.get(make)
+    return (turn // len(names), names[turn % len(names)]) if names else (turn, "")
+
+
+def race_for(chance, scene, name, visit):
+    """The race for that call; visits of one are numbered."""
+    life, answered = scene.lives[0], []
     if name.startswith("EXPORT"):
         give_stream(scene, life)
     if name == "MEM.PAGE.RELOCATE" and not life.frames:
         life.frames = [scene.host.pop(0)] * (len(scene.host) > 4)
-    for _ in range(20):
-        if not answered:
+    for turn in range(20):
+        if not answered or (turn < 8 and not is_long(whole[answered[0]])):
             whole = led_to(chance, scene, life, name)
             answered, before = places_of(scene, whole, name)
-    at = chance.choice(answered[:1] if name == "EXPORT.MEM" and answered else answered or range(len(whole)))
+    answered = answered[:1] if name.startswith("EXPORT.MEM") else [place for place in answered if is_long(whole[place])] or answered
+    at = chance.choice(answered or range(len(whole)))
     name = call_of(whole[at])
     pages = life.pages_of(whole[at])
     targets = [*pages, life.td, "E", "T", "O", "K", *pages]
@@ -586,19 +707,29 @@ def race(chance, scene, turn):
         again = [blocks, whole[at]] * 12
         if name == "EXPORT.RESTORE":
             again = [f"EXPORT.STATE.IMMUTABLE {life.td} SLOT", blocks, f"EXPORT.ABORT {life.td}", whole[at]] * 6
-    if name == "EXPORT.MEM":
+    if name.startswith("EXPORT.MEM"):
         again = [call for _ in range(5) for call in again_exported(chance, life, whole[at])]
     blocks = [whole[: at + 1] + again]
     for _ in range(scene.lps - 1):
         calls = [chance.choice((whole[at], scene.call(name, life, False))) for _ in range(chance.randrange(4))]
         rivals = [rival(chance, life, chance.choice((main, main, main, *targets))) for _ in range(24)]
         blocks.append([first, *riffle(chance, calls, rivals)])
-    meeting = [(0, before[at] if before else exact_events(scene, whole[:at])), (1, events), (0, 12)]
+    meeting = [(0, before[at] if before else exact_events(scene, whole[:at])), (1, events), (0, 12 + (count_of(whole[at]) or 0))]
     return blocks, meeting + bursts(chance, range(scene.lps), 150 * scene.lps)
 
 
+def count_of(call):
+    """The number of pages that a call with a list names, or None."""
+    return int(call.split()[-1], 0) if "count" in CALLS[call_of(call)] else None
+
+
+def is_long(call):
+    """Whether a call has no list, or one that has pages between the first and the last."""
+    return (count_of(call) or 3) > 2
+
+
 # The locks of these calls beside those of pages and O.
-MORE_LOCKS = {"IMPORT.STATE.IMMUTABLE": ("K",), "IMPORT.MEM": ("T",)}
+MORE_LOCKS = {"IMPORT.STATE.IMMUTABLE": ("K",), "IMPORT.MEM": ("T",)} | {WITH_THE_LAST[name]: ("T",) for name in LISTS if name == "IMPORT.MEM"}
 
 
 def led_to(chance, scene, life, name):
@@ -620,14 +751,16 @@ def give_stream(scene, life):
 
 
 def again_exported(chance, life, call):
-    """What lets the first export of a page be made once more, in a further session, live or paused. At the end of the one
-    before, the page may be dirty, and is neither unblocked nor removed before it is restored."""
+    """What lets the first export of a page, or of a list, be made once more, in a further session, live or paused. At the end of
+    the one before, the first page may be dirty, and is neither unblocked nor removed before it is restored."""
     td, gpa = call.split()[1:3]
+    gpas = [gpa, *(f"{int(gpa, 0) + place * PAGE_BYTES}" for place in range(1, count_of(call) or 1))]
     blocks, again = (f"EXPORT.{name} {td} {gpa}" for name in ("BLOCKW", "UNBLOCKW"))
     left = [f"MEM.RANGE.UNBLOCK {td} {gpa} 0", f"MEM.PAGE.REMOVE {td} {gpa}"]
     ends = [*chance.choice(([], [again], [again, blocks])), f"EXPORT.ABORT {td}", *left]
-    begins = [f"EXPORT.RESTORE {td} {gpa}", f"EXPORT.STATE.IMMUTABLE {td} SLOT"]
-    return [*ends, *begins, *chance.choice(([blocks, f"MEM.TRACK {td}"], [f"EXPORT.PAUSE {td}"])), call]
+    begins = [*(f"EXPORT.RESTORE {td} {its}" for its in gpas), f"EXPORT.STATE.IMMUTABLE {td} SLOT"]
+    blocked = [f"EXPORT.BLOCKW {td} {its}" for its in gpas]
+    return [*ends, *begins, *chance.choice(([*blocked, f"MEM.TRACK {td}"], [f"EXPORT.PAUSE {td}"])), call]
 
 
 def places_of(scene, calls, name):
@@ -703,8 +836,11 @@ def crowd(chance, scene, _turn):
     life = scene.lives[0]
     scene.lps = chance.choice((2, 3, 3, 4, 8))
     build = life.build(chance, scene.host[-1])
+    late = []
     if scene.source is not None:
-        build = [*joined(Arrival(chance, scene, 0).parts(False)[:4]), f"IMPORT.COMMIT {life.td}"]
+        parts = Arrival(chance, scene, 0).parts(False)
+        build = [*joined(parts[:4]), f"IMPORT.COMMIT {life.td}"]
+        late = [call for call in parts[4] if call.startswith("IMPORT.MEM")]
     blocks = [build[:]]
     for lp in range(scene.lps):
         calls = []
@@ -714,6 +850,8 @@ def crowd(chance, scene, _turn):
                 calls += host_calls(chance, scene, life)
             else:
                 calls += guest_calls(chance, scene, life, life.vcpus[lp % len(life.vcpus)])
+        if late:
+            calls = riffle(chance, calls, late * (lp == 0 or chance.random() < 0.2))
         if scene.source is not None:
             calls[len(calls) // 2 : len(calls) // 2] = [f"IMPORT.END {life.td}"]
         if lp == 0:
@@ -883,8 +1021,8 @@ class Meeting:
         return [f"EXPORT.STATE.IMMUTABLE {self.life.td} SLOT"]
 
     def exported(self):
-        """The export of the page that is stored to."""
-        return f"EXPORT.MEM {self.life.td} {self.life.gpa} 0 SLOT"
+        """The export of the page that is stored to, by itself, or as a list where there are lists."""
+        return f"EXPORT.MEM {self.life.td} {self.life.gpa} 0 SLOT" + " 1" * (HAS_LISTS and self.visit % 3 > 0)
 
     def blocks_writes_under_a_walk(self):
         """A page is blocked for writing under the walk of a store or behind it, and can't be exported before the guest
@@ -980,12 +1118,18 @@ class Source:
     """A module that has exported a TD, in most cases as far as the start token: its scene and the TD's life, its calls, and
     the bundles that it made, by slot, in that order."""
 
-    def __init__(self, chance):
+    def __init__(self, chance, before=None, others=()):
+        """It has the TD of the source before it, where there is one; and none of the other slots."""
         for _ in range(4):
-            self.scene = Scene(chance, ROOMY)
-            self.scene.source, self.scene.lps, self.life = self, 1, self.scene.lives[0]
-            give_stream(self.scene, self.life)
-            self.calls = with_slots(chance, self.exports(chance))
+            self.scene = Scene(chance, ROOMY if before is None else LARGE, source=before)
+            self.scene.lps, self.life = 1, self.scene.lives[0]
+            if before is None:
+                self.scene.source = self
+                give_stream(self.scene, self.life)
+                first = self.life.build(chance, self.scene.host[-1])
+            else:
+                first = joined([*Arrival(chance, self.scene, 0).parts(False)[:5], [f"IMPORT.END {self.life.td}"]])
+            self.calls = with_slots(chance, first + self.exports(chance), others)
             processor, self.sessions = alone(self.scene, self.calls), {}
             run([processor], [])
             self.made = processor.machine.outside.outputs
@@ -996,8 +1140,8 @@ class Source:
                 break
 
     def exports(self, chance):
-        """Its calls: perhaps an export that is aborted, and one that is whole."""
-        calls = self.life.build(chance, self.scene.host[-1])
+        """The calls that send its TD: perhaps an export that is aborted, and one that is whole."""
+        calls = []
         if chance.random() < 0.3:
             calls += [*joined(self.life.export(chance, False)[:2]), f"EXPORT.ABORT {self.life.td}"]
             calls += [f"EXPORT.RESTORE {self.life.td} {gpa}" for gpa in self.life.gpas]
@@ -1006,6 +1150,7 @@ class Source:
     def is_whole(self):
         """Whether a destination can end the last session: it has a start token, and the TD state before all VCPU states."""
         types = [header.type for _, header in self.sessions.get(max(self.sessions, default=0), [])]
+        types = types[: types.index(START_TOKEN) + 1] if START_TOKEN in types else []
         states = [kind for kind in types if kind in (TD_STATE, VCPU_STATE)]
         return types[-1:] == [START_TOKEN] and states[:1] == [TD_STATE]
 
@@ -1015,12 +1160,18 @@ def joined(parts):
     return [call for part in parts for call in part]
 
 
+def gpas_of(header):
+    """The GPAs of a bundle's pages."""
+    return [header.gpa + place * PAGE_BYTES for place in range(bundles.pages_of(header) if header.type == MEMORY else 0)]
+
+
 class Arrival:
     """What a destination's first life does with a session of its scene's source. Before a bundle there may be hostile ones,
     each at a slot of its own; how they are turned goes in turn."""
 
     def __init__(self, chance, scene, turn):
         self.chance, self.scene, self.life, self.way = chance, scene, scene.lives[0], turn * 7
+        self.come = set()  # the GPAs of the pages that have come in
         sessions = scene.source.sessions
         last = max(sessions, default=None)
         self.sent = sessions.get(chance.choice((*sessions, last, last, last)), [])
@@ -1042,11 +1193,14 @@ class Arrival:
     def parts(self, is_hostile):
         """Its calls by the state that they lead to: before the session, while memory comes in, from the TD state on, from
         the start token on, committed, and ended."""
-        td, parts, at = self.life.td, [[] for _ in range(6)], 1
+        td, parts, at, late = self.life.td, [[] for _ in range(6)], 1, []
         parts[0] = self.life.waits(self.chance, 4 if self.chance.random() < 0.9 else self.chance.randrange(2))
         for slot, header in self.in_order():
             at = {TD_STATE: 2, START_TOKEN: 3}.get(header.type, at)
             calls = self.taken(slot, header, is_hostile)
+            if at == 3 and header.type == MEMORY:
+                late.append(calls)
+                continue
             if header.type in (IMMUTABLE, TD_STATE, START_TOKEN) and not parts[at]:
                 *before, last = calls
                 parts[at - 1] += before
@@ -1055,8 +1209,20 @@ class Arrival:
             if header.type == IMMUTABLE:
                 parts[at] += self.life.frame(self.chance)
         parts[4] = [f"IMPORT.COMMIT {td}", *self.life.entries(self.chance)]
+        if late:
+            self.come_late(parts, late)
         parts[5] = [f"IMPORT.END {td}", *self.life.run(self.chance), *self.life.flushes(), *self.life.end(self.chance)]
         return parts
+
+    def come_late(self, parts, late):
+        """Puts the calls by which pages come behind the start token before the commit, or among entries behind it; or leaves some of
+        them out."""
+        count = len(late)
+        before = self.chance.choice((0, 0, count, self.chance.randint(0, count)))
+        last = self.chance.choice((count, count, count, self.chance.randint(before, count)))
+        parts[3] += joined(late[:before])
+        for calls in late[before:last]:
+            parts[4] += [*calls, *self.life.entries(self.chance)]
 
     def in_order(self):
         """The bundles of the session, those of a migration epoch by any order of its streams."""
@@ -1074,21 +1240,46 @@ class Arrival:
     def taken(self, slot, header, is_hostile):
         """The calls by which a bundle comes in; where it is hostile, with others before it and behind it."""
         chance, call = self.chance, self.life.takes(self.chance, slot, header)
+        before, self.come = self.come, self.come | set(gpas_of(header))
         if not is_hostile:
             return [call]
-        often = (0, 1, 1, 2, 3) if header.type in (MEMORY, EPOCH_TOKEN) else (1, 2, 3, 5)
+        often = (0, 1, 1, 2, 3) if header.type in (MEMORY, EPOCH_TOKEN) and header.version == 1 else (1, 2, 3, 5)
         calls = [self.turned(slot, header) for _ in range(chance.choice(often))]
         if chance.random() < 0.15:
             calls.append(self.life.takes(chance, chance.choice(list(self.scene.inputs)), header))
+        calls += self.on_itself(slot, header, before)
+        if header.type == MEMORY and header.epoch == hostile.LAST_EPOCH and before and chance.random() < 0.7:
+            calls.append(self.over_a_page(slot, header, before))
         if chance.random() < 0.02:
             return calls or [self.turned(slot, header)]
         return [*calls, *[call] * chance.choice((1, 1, 1, 1, 1, 1, 2)), call][1:] if calls else [call]
 
+    def on_itself(self, slot, header, before):
+        """The call that would take a list in into one of the pages that it finds, where some of them have come before."""
+        came = [gpa in before for gpa in gpas_of(header)]
+        first = came.index(True) if True in came else len(came)
+        if header.version == 1 or False not in came[first:]:
+            return []
+        page = self.life.page_at(gpas_of(header)[first]) - came.index(False, first)
+        return [f"IMPORT.MEM {self.life.td} {slot} {page} {header.info}"] * (page >= 0)
+
+    def over_a_page(self, slot, header, before):
+        """The call that would take a page in behind the start token, where one has come in before, by a bundle that somebody with its
+        keys has made."""
+        at, gpa = self.free_slot(), self.chance.choice(sorted(before))
+        self.scene.inputs[at] = hostile.with_header(self.scene.keys, self.scene.inputs[slot], header._replace(gpa=gpa))
+        return self.life.takes(self.chance, at, header)
+
+    def free_slot(self):
+        """A slot that has no bundle yet."""
+        at = self.chance.choice(SLOTS)
+        while at in self.scene.inputs:
+            at = self.chance.choice(SLOTS)
+        return at
+
     def turned(self, slot, header):
         """The call that would take a bundle in, on that bundle as somebody has turned it."""
-        inputs, at = self.scene.inputs, self.chance.choice(SLOTS)
-        while at in inputs:
-            at = self.chance.choice(SLOTS)
+        inputs, at = self.scene.inputs, self.free_slot()
         is_sealed = self.chance.random() < 0.25
         inputs[at] = hostile.turned(self.chance, self.scene.keys, inputs[slot], self.way % hostile.WAYS, is_sealed)
         self.way += 1
@@ -1147,6 +1338,28 @@ def import_states(chance, scene, turn):
 def arrived(chance, scene, turn):
     """A crowd at a TD that has come in."""
     return crowd(chance, scene, turn)
+
+
+def late_meeting(chance, scene, turn):
+    """A page comes in behind the commit while a guest is on its way to it. Behind so many events of its walk, or before it, the page
+    comes, or begins to come; then the guest goes on, and enters again."""
+    life, met = scene.lives[0], Arrival(chance, scene, turn)
+    parts = met.parts(False)
+    late = [call for call in [*parts[3], *parts[4]] if call.startswith("IMPORT.MEM") and "count" not in CALLS[call_of(call)]]
+    headers = {slot: header for slot, header in met.sent}
+    if not (late and life.vcpus):
+        return arrived(chance, scene, turn)
+    build = [call for call in joined(parts[:4]) if call not in late] + [f"IMPORT.COMMIT {life.td}"]
+    gpas = [headers[number(call.split()[2])].gpa for call in late if number(call.split()[2]) in headers]
+    positions = {header.index: header.info for header in headers.values() if header.type == VCPU_STATE}
+    for index in range(len(life.vcpus)):
+        begins(scene, life, index, ["set 0 1"] * positions.get(index, 0) + [f"{('load', 'store')[turn % 2]} 1 {gpa}" for gpa in gpas])
+    scene.lps = max(2, min(3, len(life.vcpus) + 1))
+    enters = [[f"VP.ENTER {life.td} {page} 65535"] * (len(late) + 2) for page in life.vcpus]
+    blocks = [[*build, *late, f"IMPORT.END {life.td}"], *enters[: scene.lps - 1]]
+    comes = chance.choice((9, 9, 11, chance.randint(1, 11)))
+    turns = [(0, exact_events(scene, build)), (1, 6 + turn // 2 % 6), (0, comes), (1, chance.randint(1, 12))]
+    return blocks, turns + bursts(chance, range(scene.lps), 40)
 
 
 def gives_back(chance, scene, turn):
@@ -1306,21 +1519,25 @@ def scene_of(chance, make, turn):
     if make is meeting:
         kind = turn % KINDS
         return Scene(chance, LARGE, EIGHT if kind == KINDS - 1 else THREE, kind in OF_TWO_TDS)
-    due = tuple(CALLS)[turn % len(CALLS)] if make is race else ""
+    _, due = visit_of(make, turn)
     if make is gives_back or due == BY_TOKEN:
         return Source(chance).scene
-    if make in (arrival, import_states, arrived) or due.startswith("IMPORT"):
+    if make in (arrival, import_states, arrived, late_meeting) or due.startswith("IMPORT"):
         return Scene(chance, LARGE, has_two=make is arrival and turn % 2 == 0, source=Source(chance))
-    return Scene(chance, ROOMY if make in (race, crowd, session) else SIZES, CROWDED if make is crowd else FEW)
+    return Scene(chance, ROOMY if make in (race, race_of_lists, crowd, session) else SIZES, CROWDED if make is crowd else FEW)
 
 
 def script_lines(chance, make, turn):
     """The lines of a script without a fault, and its scene."""
     scene = scene_of(chance, make, turn)
-    blocks, turns = make(chance, scene, turn)
+    return lines_of(chance, scene, *make(chance, scene, turn)), scene
+
+
+def lines_of(chance, scene, blocks, turns, others=()):
+    """The lines of a script of that scene with these calls and turns, which names none of the other slots."""
     blocks = [block[:CALLS_OF_A_PROCESSOR] for block in blocks]
     blocks = [[f"lp {lp}", *block, "end"] for lp, block in enumerate(blocks) if block or chance.random() < 0.5]
-    slotted = iter(with_slots(chance, [line for block in blocks for line in block]))
+    slotted = iter(with_slots(chance, [line for block in blocks for line in block], others))
     parts = [[next(slotted) for _ in block] for block in blocks]
     parts += scene.code
     chance.shuffle(parts)
@@ -1328,7 +1545,7 @@ def script_lines(chance, make, turn):
     lines = [f"machine {scene.lps} {scene.size} {scene.hkids}"]
     for part in riffle(chance, parts, schedule):
         lines += part
-    return decorated(chance, lines), scene
+    return decorated(chance, lines)
 
 
 def decorated(chance, lines):
@@ -1370,7 +1587,11 @@ BAD_INSIDE = (
     "IMPORT.MEM 1 0", "IMPORT.MEM 1 x 2", "IMPORT.TRACK x", "IMPORT.STATE.VP 1 4 0 8", "IMPORT.END 1 0", "IMPORT.ABORT 1",
     "IMPORT.ABORT 1 4096", "IMPORT.ABORT x 0x1000", "IMPORT.ABORT 1 {slot}", "IMPORT.ABORT 1 5\nIMPORT.ABORT 2 005",
     "IMPORT.STATE.TD 1 18446744073709551616", "IMPORT.STATE.IMMUTABLE 1 \x1f", "end\x7f", "HOST.READ 1 1\r",
-)
+) + (
+    "EXPORT.MEM 1 0 0 9 x", "EXPORT.MEM 1 0 0 4096 17", "EXPORT.MEM 1 0 0 4096 x", "EXPORT.MEM 1 0 0 {slot} 2",
+    "EXPORT.MEM 1 0 0 9 2 3", "IMPORT.MEM 1 0 8 x", "IMPORT.MEM 1 0 8 2 1", "IMPORT.MEM 1 0 8 18446744073709551616",
+    "EXPORT.MEM 1 0 0 9 2\nEXPORT.MEM 1 0 0 9", "EXPORT.MEM 1 0 0 9 99\nIMPORT.MEM 1 0 8 99\nfoo",
+) * HAS_LISTS
 BAD_IN_CODE = (
     "code 0 0", "code {code}", "lp 0", "schedule x", "end end", "machine", "foo", "SET 0 0", "{call}", "IMPORT.MEM 1 0 8",
     "secret x", "secret", "secret 0 512", "secret 8 0", "secret x 512", "secret 0 0 0", "set 0", "set 8 0", "set x 0", "set 8 x", "set 0 18446744073709551616",
@@ -1503,7 +1724,22 @@ COMMANDS = (
     "replay script --report-key none --keys short", "replay reporting --keys short", "check reporting --report-key rkey",
     "replay --report-key rkey script --report-key rkey", "replay reporting --secrets none", "verify report --report-key rkey",
     "replay script --secrets secrets --report-key rkey47 --guest-out guest", "run reporting --report-key", "soak 1 --report-key rkey",
-)
+) + (
+    "pair", "pair script script plan", "pair script script plan keys", "pair script script plan keys keys", "pair script bad plan keys",
+    "pair script script cutplan keys", "pair script script plan short", "pair script script plan keys --keys keys",
+    "pair script script plan keys --secrets secrets --guest-out guest", "pair --guest-out=guest script script -- plan keys",
+    "pair none bad cutplan short", "pair bad none cutplan short", "pair script none plan keys", "pair script script none short",
+    "pair script script cutplan none", "pair script script plan none", "pair reporting script plan keys", "pair script reporting plan keys",
+    "pair reporting script plan keys --secrets short", "pair script script plan keys --secrets none", "pair script script far keys",
+    "pair script script empty keys --secrets secrets --secrets secrets", "pair script script plan keys --out-bundles out",
+) * ("pair" in SIDES) + (
+    "chain", "chain keys plan", "chain keys plan script", "chain keys plan script script", "chain twokeys plan script script script",
+    "chain keys plan script script script", "chain keys plan" + " script" * 8, "chain keys plan" + " script" * 9, "chain none none none none",
+    "chain short cutplan bad none", "chain keys cutplan bad none", "chain keys plan bad none", "chain keys plan script none",
+    "chain keys plan script reporting --secrets short", "chain keys plan script reporting", "chain keys cplan script script",
+    "chain twokeys cplan script script script --guest-out guest --secrets secrets", "chain keys plan script script --keys keys",
+    "chain -- keys plan script script", "chain far plan script script", "chain keys far script script",
+) * ("chain" in SIDES)
 # A report and its key, of facts of any bytes.
 REPORT_KEY = bytes(range(7, 7 + KEY_BYTES))
 MEASURED = bytes((7 * at) % 256 for at in range(240))
@@ -1534,9 +1770,10 @@ OTHERS = {
     "other": REPORT_KEY[::-1],
     "rkey47": REPORT_KEY[1:],
     "rkey49": REPORT_KEY + b"\0",
+    **({"plan": b"A 1\nB 2\n", "cutplan": b"A 1\nB 2", "cplan": b"C 1\n", "twokeys": bytes(128)} if SIDES else {}),
     **dict.fromkeys(command_lines.DASHED, b"machine 1 8 1\nlp 0\nPHYMEM.CACHE.WB\nend\n"),
 }
-LINES = 12  # random ones beside three of COMMANDS
+LINES = 12 + 4 * HAS_LISTS  # random ones beside three of COMMANDS
 # Lengths that a secrets file may not have, and those that a key file may not have.
 BAD_LENGTHS = (0, 1, 8, 64, 512, 4088, 4095, 4097, 4104, 8192, 65_536, 65_537)
 BAD_KEYS = (0, 1, 32, 63, 65, 128, 4096, 65_537)
@@ -1639,5 +1876,6 @@ def script_of(chance, round_, kind):
 MAKES = {
     8: (story, 3), 11: (race, 8), 19: (crowd, 4), 23: (meeting, 4), 27: (noise, 1), 28: (session, 2), 30: (arrival, 3),
     33: (import_states, 2), 35: (gives_back, 1), 36: (arrived, 1),
-}
-KINDS_OF_A_ROUND, RACES, MIGRATIONS = 37, range(11, 19), range(30, 37)
+} | ({37: (race_of_lists, 2)} if HAS_LISTS else {}) | ({39: (late_meeting, 1)} if HAS_LATE_PAGES else {})
+KINDS_OF_A_ROUND = 40 if HAS_LATE_PAGES else 39 if HAS_LISTS else 37
+RACES, MIGRATIONS = (*range(11, 19), *(37, 38) * HAS_LISTS), (*range(30, 37), *(39,) * HAS_LATE_PAGES)

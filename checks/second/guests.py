@@ -248,6 +248,7 @@ class Guest:
     def walk(self, gpa, writes):
         """The walk to a private page, entry by entry; answers the translation that it has cached, or None."""
         was_reached = is_reached(self.td, gpa, 0)
+        was_missing = self.td.op == "LIVE_IMPORT" and entry_state(self.td, gpa, 0) == "FREE"
         for level in (3, 2, 1):
             state = entry_state(self.td, gpa, level)
             reached = state == "NL_MAPPED"
@@ -265,6 +266,8 @@ class Guest:
             return None
         if not was_reached:
             self.how = "by a walk whose way was made meanwhile"
+        elif was_missing:
+            self.how = "by a walk whose page came meanwhile"
         page = self.td.entries[entry_key(gpa, 0)].page
         found = (self.td_page, gpa // PAGE_BYTES, page, state in WRITABLE)
         others = [kept for kept in self.processor.translations if kept[:2] != found[:2]]

@@ -2,7 +2,8 @@
 or under a true one; and bundles that are in form and nothing else."""
 
 import bundles
-from bundles import ABORT_TOKEN, EPOCH_TOKEN, HEADER_BYTES, IMMUTABLE, MEMORY, PAYLOADS, START_TOKEN, VCPU_STATE, Header
+import features
+from bundles import ABORT_TOKEN, EPOCH_TOKEN, HEADER_BYTES, IMMUTABLE, MEMORY, PAGE_BYTES, PAYLOADS, START_TOKEN, VCPU_STATE, Header
 
 WIDTHS = dict(zip(Header._fields, (16, 16, 16, 8, 8, 32, 32, 64, 16, 16, 32, 64, 64)))
 LAST_EPOCH = 2**32 - 1
@@ -51,8 +52,10 @@ TURNS = (
     lambda chance, header: {"total": header.total + chance.choice((-1, 1)) if header.total else 1},
     lambda chance, header: counted(header, header.counter + chance.choice((-1, 1, 1, 5)) if header.counter else 1),
 )
-# The numbers of ways to turn a bundle: by its header, by its length, by its tag, and by its payload or any byte.
-WAYS = len(TURNS) + 5
+# The numbers of ways to turn a bundle: by its header, by its length, by its tag, and by its payload or any byte; and where there
+# are lists by its version, and by the number of its pages.
+BYTES = 5
+WAYS = len(TURNS) + BYTES + 2 * features.has(features.LISTS)
 
 
 def counted(_header, number):
@@ -62,6 +65,8 @@ def counted(_header, number):
 
 def turned(chance, keys, bundle, way, is_sealed):
     """The bundle turned in that way; where it is sealed and may be, under a true tag."""
+    if way >= len(TURNS) + BYTES:
+        return (of_the_other_version, of_another_count)[way - len(TURNS) - BYTES](chance, keys, bundle, is_sealed)
     if way >= len(TURNS):
         return turned_bytes(chance, bundle, way - len(TURNS))
     header = bundles.header_of(bundle)
@@ -78,6 +83,33 @@ def turned_bytes(chance, bundle, way):
     return bundle[:place] + bytes([bundle[place] ^ 1 << chance.randrange(8)]) + bundle[place + 1 :]
 
 
+def of_the_other_version(chance, keys, bundle, is_sealed):
+    """The bundle under the other version: a page as a list of one or of none, a list as a page where it is sealed."""
+    header = bundles.header_of(bundle)
+    if header.type == MEMORY and is_sealed:
+        pages, info = (1, 0) if header.version == 2 else (1, 1)
+        return with_pages(keys, bundle, header._replace(version=3 - header.version, info=info), pages)
+    return with_header(keys, bundle, header._replace(version=3 - header.version, info=chance.choice((0, header.info, 1))), False)
+
+
+def of_another_count(chance, keys, bundle, is_sealed):
+    """A list of another number of pages; what isn't a list has a number of pages then."""
+    header = bundles.header_of(bundle)
+    counts = [count for count in (0, 1, header.info - 1, header.info + 1, 16, 17, 1 << 20) if 0 <= count != header.info]
+    count = chance.choice(counts)
+    if header.version == 2 and is_sealed and 1 <= count <= 16:
+        return with_pages(keys, bundle, header._replace(info=count), count)
+    return with_header(keys, bundle, header._replace(info=count), False)
+
+
+def with_pages(keys, bundle, header, pages):
+    """A bundle under a true tag, with that header and the first so many pages of that one, or zeros behind them."""
+    payload = bundles.opened(keys, bundle)
+    if payload is None:
+        return bundles.LAYOUT.pack(*header) + bundle[bundles.LAYOUT.size :]
+    return bundles.seal(keys, header, payload[: PAGE_BYTES * pages].ljust(PAGE_BYTES * pages, b"\0"))
+
+
 def with_header(keys, bundle, header, is_sealed=True):
     """The bundle with that header, under a true tag where it is in form."""
     changed = bundles.LAYOUT.pack(*header) + bundle[bundles.LAYOUT.size :]
@@ -87,12 +119,14 @@ def with_header(keys, bundle, header, is_sealed=True):
     return changed
 
 
-def in_form(chance, kind):
-    """A bundle of that type that is in form, with no payload that anybody sealed."""
+def in_form(chance, kind, version=1):
+    """A bundle of that type and version that is in form, with no payload that anybody sealed."""
     counter, stream = chance.choice((0, 0, 1, 2)), chance.randrange(4) if kind == MEMORY else 0
     header = Header(
         64, 1, stream, kind, 0, counter, 0 if kind == ABORT_TOKEN else chance.choice((1, 1, 2)), counter, 1,
         chance.randrange(2) if kind == VCPU_STATE else 0, chance.randrange(2) if kind in (IMMUTABLE, VCPU_STATE) else 0,
         4096 * chance.randrange(4) if kind == MEMORY else 0, chance.randrange(3) if kind in (EPOCH_TOKEN, START_TOKEN) else 0,
     )
-    return bundles.LAYOUT.pack(*header) + bytes(16 + PAYLOADS[kind])
+    if version == 2:
+        header = header._replace(version=2, info=chance.choice((1, 2, 3, 16)))
+    return bundles.LAYOUT.pack(*header) + bytes(16 + PAYLOADS[kind] * bundles.pages_of(header))

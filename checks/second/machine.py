@@ -83,14 +83,14 @@ class Td:
 class Outside:
     """What a run is given, and the bundles that it makes: the lists of operations by TDR page and index,
     input bundles by slot, the key from source to destination and the key back, the secret words; where guests
-    don't tell what they have, the words that they tell; whether pages go out and come in behind the start
-    token too, as in the finished program; and the key of reports."""
+    don't tell what they have, the words that they tell; the key of reports; and the two keys of exports, where
+    they aren't those of imports."""
 
     def __init__(
-        self, code=None, inputs=None, keys=bytes(64), secrets=(0,) * 512, tells=None, late_pages=False, report_key=bytes(48)
+        self, code=None, inputs=None, keys=bytes(64), secrets=(0,) * 512, tells=None, report_key=bytes(48), export_keys=None
     ):
         self.code, self.inputs, self.keys, self.secrets = code or {}, inputs or {}, keys, secrets
-        self.tells, self.late_pages, self.report_key = tells, late_pages, report_key
+        self.tells, self.report_key, self.export_keys = tells, report_key, export_keys or keys
         self.outputs = {}
 
 

@@ -3,12 +3,18 @@
 import struct
 
 import bundles
+import features
 from bundles import ABORT_TOKEN, EPOCH_TOKEN, IMMUTABLE, MEMORY, START_TOKEN, TD_STATE, VCPU_STATE, Header
 from machine import EXCLUSIVELY, KEY_TABLE, SHARED, Entry, Stream
 from memory_rows import meet_guests, need_tracked
-from rows import entry_key, entry_state, need, need_entry, need_free, of_page, td_with_op, vcpu_at, walk
+from rows import (
+    PAGE_BYTES, entry_key, entry_state, need, need_entry, need_free, of_page, td_with_op, vcpu_at, walk,
+)
 
 FILLING = ("MEMORY_IMPORT", "STATE_IMPORT")
+# The further op states in which pages go out and come in. A list doesn't come in while guests run: no walk finds half of one.
+LATE_EXPORT = ("POST_EXPORT",) * features.has(features.LATE_PAGES)
+LATE_IMPORT = ("POST_IMPORT", "LIVE_IMPORT") * features.has(features.LATE_PAGES)
 COUNTER_END = 2**32 - 1
 LAST_EPOCH = 2**32 - 1
 SESSION_END = 65_535
@@ -17,12 +23,17 @@ EXPORTED = ("EXPORTED_BLOCKEDW", *DIRTY)
 BLOCKED = {"MAPPED": "BLOCKEDW", "EXPORTED_DIRTY": "EXPORTED_DIRTY_BLOCKEDW"}
 UNBLOCKED = {"BLOCKEDW": "MAPPED", "EXPORTED_BLOCKEDW": "EXPORTED_DIRTY", "EXPORTED_DIRTY_BLOCKEDW": "EXPORTED_DIRTY"}
 
+# The calls of which one may have a list of pages, and the argument that it has then.
+LISTS = ("EXPORT.MEM", "IMPORT.MEM") * features.has(features.LISTS)
+COUNT = ("count",) * features.has(features.LISTS)
+OF_A_LIST = "{} of a list"  # the name of a call that has one
+
 ARGUMENTS = {
     "MIG.STREAM.CREATE": ("page", "page"),
     "EXPORT.STATE.IMMUTABLE": ("page", "output"),
     "EXPORT.BLOCKW": ("page", "gpa"),
     "EXPORT.UNBLOCKW": ("page", "gpa"),
-    "EXPORT.MEM": ("page", "gpa", "stream", "output"),
+    "EXPORT.MEM": ("page", "gpa", "stream", "output", *COUNT),
     "EXPORT.TRACK": ("page", "output", "start"),
     "EXPORT.PAUSE": ("page",),
     "EXPORT.STATE.TD": ("page", "output"),
@@ -30,7 +41,7 @@ ARGUMENTS = {
     "EXPORT.ABORT": ("page", "input"),
     "EXPORT.RESTORE": ("page", "gpa"),
     "IMPORT.STATE.IMMUTABLE": ("page", "input"),
-    "IMPORT.MEM": ("page", "input", "page"),
+    "IMPORT.MEM": ("page", "input", "page", *COUNT),
     "IMPORT.TRACK": ("page", "input"),
     "IMPORT.STATE.TD": ("page", "input"),
     "IMPORT.STATE.VP": ("page", "page", "input"),
@@ -43,12 +54,12 @@ ARGUMENTS = {
 # Bundles
 
 
-def make(machine, td, slot, kind, payload=b"", stream=0, **fields):
+def make(machine, td, slot, kind, payload=b"", stream=0, version=1, **fields):
     """Makes a bundle of the TD's session in a slot, and raises its stream's counter."""
     counter = td.streams[stream].counter
     shown = {"epoch": td.migration_epoch, "index": 0, "info": 0, "gpa": 0, "total": 0} | fields
-    header = Header(64, 1, stream, kind, 0, counter, iv=counter, session=td.session, **shown)
-    machine.outside.outputs[slot] = bundles.seal(machine.outside.keys, header, payload)
+    header = Header(64, version, stream, kind, 0, counter, iv=counter, session=td.session, **shown)
+    machine.outside.outputs[slot] = bundles.seal(machine.outside.export_keys, header, payload)
     machine.met.append(f"bundles: made of type {kind}")
     td.streams[stream].counter += 1
 
@@ -186,31 +197,44 @@ def entry_alone(td, td_page, gpa, *states):
     return entry
 
 
-def export_mem(machine, td_page, gpa, stream, slot):
-    """EXPORT.MEM TDR GPA STREAM SLOT"""
-    ops = ("LIVE_EXPORT", "PAUSED_EXPORT", *("POST_EXPORT",) * machine.outside.late_pages)
-    td = yield from td_with_op(machine, td_page, SHARED, *ops)
-    live = td.op == "LIVE_EXPORT"
+def export_mem(machine, td_page, gpa, stream, slot, count=None):
+    """EXPORT.MEM TDR GPA STREAM SLOT [COUNT]"""
+    td = yield from td_with_op(machine, td_page, SHARED, "LIVE_EXPORT", "PAUSED_EXPORT", *LATE_EXPORT)
+    live, name = td.op == "LIVE_EXPORT", "EXPORT.MEM" if count is None else OF_A_LIST.format("EXPORT.MEM")
     need_stream(td, stream)
     yield ("T", td_page), SHARED
     yield ("E", td_page), SHARED
-    entry = yield from mapped_page(td, gpa)
-    need_entry(td, gpa, 0, "BLOCKEDW", "EXPORTED_DIRTY_BLOCKEDW", *(() if live else ("MAPPED", "EXPORTED_DIRTY")))
-    need(entry.mark != td.migration_epoch, "EXPORTED_THIS_EPOCH")
+    entries = []
+    for at in gpas_from(gpa, count):
+        entry = yield from mapped_page(td, at)
+        need_entry(td, at, 0, "BLOCKEDW", "EXPORTED_DIRTY_BLOCKEDW", *(() if live else ("MAPPED", "EXPORTED_DIRTY")))
+        need(entry.mark != td.migration_epoch, "EXPORTED_THIS_EPOCH")
+        entries.append(entry)
     yield of_page(td.streams[stream].page, EXCLUSIVELY)
     need_room(td, stream)
     if live:
-        need_tracked(machine, td, entry.page, "EXPORT.MEM")
+        need_tracked(machine, td, max((entry.page for entry in entries), key=lambda page: machine.pages[page].epoch), name)
 
     def effect():
-        meet_entry(machine, "EXPORT.MEM", td, entry)
-        meet_guests(machine, td, "EXPORT.MEM")
-        words = machine.pages[entry.page].words
-        payload = struct.pack("<512Q", *(words.get(place, 0) for place in range(512)))
-        make(machine, td, slot, MEMORY, payload, stream, gpa=gpa)
-        entry.state, entry.mark = "EXPORTED_BLOCKEDW", td.migration_epoch
+        meet_guests(machine, td, name)
+        payload = b"".join(page_bytes(machine.pages[entry.page]) for entry in entries)
+        form = {} if count is None else {"version": 2, "info": count}
+        make(machine, td, slot, MEMORY, payload, stream, gpa=gpa, **form)
+        for entry in entries:
+            meet_entry(machine, name, td, entry)
+            entry.state, entry.mark = "EXPORTED_BLOCKEDW", td.migration_epoch
 
     return effect
+
+
+def gpas_from(gpa, count):
+    """The GPAs of a list of so many pages, or of the one page where there is no list."""
+    return [gpa + PAGE_BYTES * place for place in range(1 if count is None else count)]
+
+
+def page_bytes(page):
+    """The words of a page as a payload has them."""
+    return struct.pack("<512Q", *(page.words.get(place, 0) for place in range(512)))
 
 
 def export_track(machine, td_page, slot, start):
@@ -289,7 +313,7 @@ def export_abort(machine, td_page, slot=None):
     yield ("T", td_page), EXCLUSIVELY
     need_header(header, session=td.session)
     need_counter(header, 0)
-    bundles.unseal(machine.outside.keys, bundle)
+    bundles.unseal(machine.outside.export_keys, bundle)
 
     def effect():
         td.op = "RUNNABLE"
@@ -332,33 +356,50 @@ def import_immutable(machine, td_page, slot):
     return effect
 
 
-def import_mem(machine, td_page, slot, page):
-    """IMPORT.MEM TDR SLOT PAGE"""
+def import_mem(machine, td_page, slot, page, count=None):
+    """IMPORT.MEM TDR SLOT PAGE [COUNT]"""
     bundle, header = take_input(machine, slot, MEMORY)
-    late = ("POST_IMPORT", "LIVE_IMPORT") if machine.outside.late_pages else ()
-    td = yield from td_with_op(machine, td_page, SHARED, *FILLING, *late)
+    need(header.version == (1 if count is None else 2), "BUNDLE_HEADER VERSION")
+    need(count in (None, header.info), "BUNDLE_HEADER COUNT")
+    td = yield from td_with_op(machine, td_page, SHARED, *FILLING, *(LATE_IMPORT if count is None else LATE_IMPORT[:1]))
     yield ("T", td_page), EXCLUSIVELY
     need(header.stream < len(td.streams), "BUNDLE_HEADER STREAM")
     need_header(header, session=td.session, epoch=td.migration_epoch)
     need_counter(header, td.streams[header.stream].counter)
-    walk(td, header.gpa, 0)
-    need_entry(td, header.gpa, 0, "FREE", *(("MAPPED",) if td.op in FILLING else ()))
-    entry = td.entries.get(entry_key(header.gpa, 0))
-    yield of_page(page if entry is None else entry.page, EXCLUSIVELY)
-    if entry is None:
-        need_free(machine, page)
-    words = dict(enumerate(struct.unpack("<512Q", bundles.unseal(machine.outside.keys, bundle))))
+    takes = []  # of each GPA the page, and whether it is a new one
+    for place, gpa in enumerate(gpas_from(header.gpa, count)):
+        takes.append((yield from page_for(machine, td, gpa, page + place, [its for its, _ in takes])))
+    payload = bundles.unseal(machine.outside.keys, bundle)
 
     def effect():
-        machine.met.append(f"IMPORT.MEM: SUCCESS at {entry_state(td, header.gpa, 0)} in {td.op}")
-        if entry is None:
-            machine.takes(td_page, page, "PT_REG", words)
-            td.entries[entry_key(header.gpa, 0)] = Entry("MAPPED", page)
-        else:
-            machine.pages[entry.page].words = words
+        for gpa, (its, is_new), at in zip(gpas_from(header.gpa, count), takes, range(0, len(payload), PAGE_BYTES)):
+            name = "IMPORT.MEM" if count is None else OF_A_LIST.format("IMPORT.MEM")
+            machine.met.append(f"{name}: SUCCESS at {'FREE' if is_new else 'MAPPED'} in {td.op}")
+            words = dict(enumerate(struct.unpack("<512Q", payload[at : at + PAGE_BYTES])))
+            if is_new:
+                machine.takes(td_page, its, "PT_REG", words)
+                td.entries[entry_key(gpa, 0)] = Entry("MAPPED", its)
+            else:
+                machine.pages[its].words = words
         td.streams[header.stream].counter += 1
 
     return effect
+
+
+def page_for(machine, td, gpa, page, locked):
+    """The page that is to have the words at a GPA: the one that stands there, or else that of the call, which is none of those
+    that it has locked before; and whether it is new there."""
+    walk(td, gpa, 0)
+    need_entry(td, gpa, 0, "FREE", *(("MAPPED",) if td.op in FILLING else ()))
+    entry = td.entries.get(entry_key(gpa, 0))
+    if entry is None:
+        if page in locked:
+            machine.met.append(f"{OF_A_LIST.format('IMPORT.MEM')}: PAGE_METADATA_INCORRECT of a page that it holds")
+        need(page not in locked, f"PAGE_METADATA_INCORRECT {page}")
+    yield of_page(page if entry is None else entry.page, EXCLUSIVELY)
+    if entry is None:
+        need_free(machine, page)
+    return (page, True) if entry is None else (entry.page, False)
 
 
 def import_track(machine, td_page, slot):

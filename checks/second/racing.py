@@ -10,6 +10,7 @@ import random
 import re
 import struct
 
+import features
 from machine import Outside
 from program import replay
 from scripts import read
@@ -156,10 +157,59 @@ def sent():
     return processor.machine.outside.outputs
 
 
+def exports_a_list(chance):
+    """Two pages are blocked for writing, tracked and exported as a list beside their guest, which stores to them in any order."""
+    pages = ["MEM.PAGE.ADD 1 4096 9 0", "MIG.STREAM.CREATE 1 10", "MR.FINALIZE 1", "EXPORT.STATE.IMMUTABLE 1 0"]
+    host = ["EXPORT.BLOCKW 1 0", "EXPORT.BLOCKW 1 4096", "MEM.TRACK 1", "EXPORT.MEM 1 0 0 1 2"]
+    stores = ["store 1 0", "store 1 4096"]
+    chance.shuffle(stores)
+    return {0: ["secret 1 0", *stores]}, [[*BUILD, *pages, *host], [ENTERS]]
+
+
+def imports_a_list(chance):
+    """A list of two pages comes in on one processor, and on another one a third page, into one of the same pages or another one, or a
+    look is taken at an entry or a page."""
+    begin = [*BUILD[:4], "MIG.STREAM.CREATE 1 11", "MIG.STREAM.CREATE 1 12", "IMPORT.STATE.IMMUTABLE 1 0", *BUILD[7:10]]
+    others = ("IMPORT.MEM 1 2 9", "IMPORT.MEM 1 2 10", "IMPORT.MEM 1 1 9 2", "MEM.SEPT.RD 1 4096 0", "HOST.READ 9 0", "PHYMEM.PAGE.RDMD 9")
+    return {}, [[*begin, "IMPORT.MEM 1 1 8 2"], [chance.choice(others), *["HOST.READ 8 0"] * chance.choice((0, 1))]]
+
+
+@functools.lru_cache(1)
+def sent_by_lists():
+    """What comes in then: a list on stream 0, and a page on stream 1."""
+    calls = [
+        *BUILD, "MEM.PAGE.ADD 1 4096 9 0", "MEM.PAGE.ADD 1 8192 10 0", "MIG.STREAM.CREATE 1 11", "MIG.STREAM.CREATE 1 12",
+        "MR.FINALIZE 1", "EXPORT.STATE.IMMUTABLE 1 0", "EXPORT.PAUSE 1", "EXPORT.MEM 1 0 0 1 2", "EXPORT.MEM 1 8192 1 2",
+    ]
+    (processor,) = replay(read(text_of({}, [calls])), Outside(keys=KEYS))
+    return processor.machine.outside.outputs
+
+
+def a_page_comes_late(chance):
+    """A page comes in behind the commit while a guest walks to it."""
+    begin = [*BUILD[:4], "MIG.STREAM.CREATE 1 11", "IMPORT.STATE.IMMUTABLE 1 0", "VP.CREATE 1 4", *BUILD[7:10]]
+    begin += ["IMPORT.STATE.TD 1 1", "IMPORT.STATE.VP 1 4 2", "IMPORT.TRACK 1 3", "IMPORT.COMMIT 1"]
+    code = chance.choice((["load 1 0"], ["store 1 0", "load 1 0"], ["load 1 0", "store 1 0"]))
+    return {0: code}, [[*begin, "IMPORT.MEM 1 4 8"], [ENTERS]]
+
+
+@functools.lru_cache(1)
+def sent_late():
+    """What comes in then: the states, the start token, and a page behind it, whose first word is 5."""
+    calls = [
+        "HOST.WRITE 0 0 5", *BUILD, "MIG.STREAM.CREATE 1 11", "MR.FINALIZE 1", "EXPORT.STATE.IMMUTABLE 1 0", "EXPORT.PAUSE 1",
+        "EXPORT.STATE.TD 1 1", "EXPORT.STATE.VP 1 4 2", "EXPORT.TRACK 1 3 1", "EXPORT.MEM 1 0 0 4",
+    ]
+    (processor,) = replay(read(text_of({}, [calls])), Outside(keys=KEYS))
+    return processor.machine.outside.outputs
+
+
 KINDS = (
     takes, stores_before_loads, uses_host_pages, passes_a_message, takes_memory_away, shares_a_word, extends_and_accepts,
     talks_with_the_host, exports, exports_memory, imports,
+    *(exports_a_list, imports_a_list) * features.has(features.LISTS), *(a_page_comes_late,) * features.has(features.LATE_PAGES),
 )
+SENT = {imports: sent, imports_a_list: sent_by_lists, a_page_comes_late: sent_late}
 
 
 def text_of(lists, blocks):
@@ -180,7 +230,7 @@ class Race:
         self.lists, self.blocks = self.kind(self.chance)
         self.core = text_of(self.lists, self.blocks)
         self.secrets = struct.pack("<512Q", *(self.chance.randrange(1, 100) for _ in range(512)))
-        self.inputs = sent() if self.kind is imports else {}
+        self.inputs = SENT.get(self.kind, dict)()
 
     def script(self, longest=3000):
         """A script of the race, and how many waits each processor has in it, at most so many. A build takes long, so

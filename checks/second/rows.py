@@ -22,6 +22,7 @@ RANGES = {
     "most": range(1, 65_536),
     "stream": range(4),
     "start": range(2),
+    "count": range(1, 17),
 }
 
 # Each call that is built, with its arguments.
@@ -67,7 +68,7 @@ def alignment(name, kinds, arguments):
 
 
 def check_arguments(machine, name, kinds, arguments):
-    """Refuses the first argument that breaks a rule, in three steps."""
+    """Refuses the first argument that breaks a rule, in three steps, and behind them a list that runs too far."""
     for place, (kind, value) in enumerate(zip(kinds, arguments), 1):
         if not is_in_range(machine, kind, value):
             raise Refused(f"OPERAND_INVALID {place}")
@@ -79,6 +80,17 @@ def check_arguments(machine, name, kinds, arguments):
                 earlier.add(value)
     if "gpa" in kinds:
         need(arguments[1] % alignment(name, kinds, arguments) == 0, "OPERAND_INVALID 2")
+    if kinds[len(arguments) - 1 :] == ("count",):
+        need(runs_right(machine, name, *arguments), f"OPERAND_INVALID {len(arguments)}")
+
+
+def runs_right(machine, name, td_page, *others):
+    """Whether the GPAs of a list end where there are some, and so its pages, of which none behind the first is the TDR page."""
+    count = others[-1]
+    if name == "EXPORT.MEM":
+        return others[0] + count * PAGE_BYTES <= GPA_END
+    first = others[1]
+    return first + count - 1 in machine.ranges["page"] and td_page not in range(first + 1, first + count)
 
 
 # Conditions

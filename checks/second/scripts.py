@@ -3,7 +3,8 @@
 import functools
 import re
 
-from calls import ARGUMENTS
+from calls import ARGUMENTS, OPTIONAL
+from migration_rows import LISTS, OF_A_LIST
 from reports import MOST_OF_A_LIST
 from rows import FIELDS, GPA_END
 
@@ -16,12 +17,17 @@ KEPT = 1 << 12  # so many words and lines that were read are kept, since most of
 
 OUTSIDE = ("schedule", "lp", "code")
 KEYWORDS = ("machine", "end", *OUTSIDE)
-# EXPORT.ABORT with a slot, which is a call of its own: the words of that mnemonic.
+# EXPORT.ABORT with a slot, which is a call of its own, and so are EXPORT.MEM and IMPORT.MEM of a list: by the mnemonic.
 BY_TOKEN = "EXPORT.ABORT by its token"
+WITH_THE_LAST = {"EXPORT.ABORT": BY_TOKEN} | {name: OF_A_LIST.format(name) for name in LISTS}
 PRINTABLE = re.compile(rb"[ -~\n]*")
 DECIMAL, HEXADECIMAL = re.compile("[0-9]+"), re.compile("0x[0-9a-fA-F]+")
-# Each call with its arguments. Of EXPORT.ABORT that is the form without a slot.
-CALLS = ARGUMENTS | {"EXPORT.ABORT": ("page",), BY_TOKEN: ("page", "input")}
+# Each call with its arguments. Of a mnemonic of two calls it names the one without the last argument.
+CALLS = (
+    ARGUMENTS
+    | {name: ARGUMENTS[name][:-1] for name in OPTIONAL}
+    | {WITH_THE_LAST[name]: ARGUMENTS[name] for name in OPTIONAL}
+)
 # Guest operations, with the values that each operand may have.
 REGISTER = range(8)
 OPERATIONS = {
@@ -101,7 +107,7 @@ def call_in(line):
     name, *rest = line.split()
     need(name in ARGUMENTS, "WORD")
     kinds = ARGUMENTS[name]
-    need(len(rest) == len(kinds) or (name == "EXPORT.ABORT" and len(rest) == 1), "COUNT")
+    need(len(rest) == len(kinds) or (name in OPTIONAL and len(rest) == len(kinds) - 1), "COUNT")
     if "field" in kinds:
         (page,), field = numbers(rest[:1]), rest[1]
         need(field in FIELDS, "NAME")
@@ -220,7 +226,12 @@ class Script:
 def call_of(line):
     """The name of a line's call in CALLS."""
     name, *words = line.split()
-    return BY_TOKEN if name == "EXPORT.ABORT" and len(words) == 2 else name
+    return form_of(name, words)
+
+
+def form_of(name, words):
+    """The name in CALLS of a mnemonic's call with these arguments."""
+    return WITH_THE_LAST[name] if name in OPTIONAL and len(words) == len(ARGUMENTS[name]) else name
 
 
 @functools.lru_cache(4)

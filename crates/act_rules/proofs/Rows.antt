@@ -390,7 +390,7 @@ holds-still g w t a (b ∷ pages) above h =
 pages-taken : (g : Grip) (t : ℕ) → HoldsTd g t → g.sole (Locked (OfTree t)) ≡ true → (pages : List Arrival) (w : World) (locked : List ℕ)
     → AreApart (map (λ a. a.gpa) pages) → AllMayTake w t locked pages → HoldsTaken g w t pages
     → Respects g w (take_each t pages w)
-pages-taken g t td tree [] w locked apart may h = stays g w
+pages-taken g t td tree [] w locked apart may h = leaves-all g w w refl
 pages-taken g t td tree (a ∷ pages) w locked apart may h =
     let w1 : World = take_in t a w in
     respects-compose.both g w w1 (take_each t pages w1) (page-taken g w t locked a may.0 h.0 td tree)

@@ -21,14 +21,14 @@ use Rattle.chain_laws.specs.Laws.{ChainsEnd}
 use Rattle.chain_laws.proofs.Turns.{modules_keep}
 
 -- these items suffice for what each processor can still make
-abbrev Suffice : Opening → State → List ℕ → Type 0
+abbrev pub Suffice : Opening → State → List ℕ → Type 0
 Suffice o s items = (p : ℕ) → events_left o s p ≤ own_items p items
 
 no_line : (o : Opening) (s : State) (p : ℕ) (cs : List Call) → has_line cs ≡ false → left_of o s.world cs (s.lps p) ≡ 0
 no_line o s p [] e = refl
 no_line o s p (c ∷ cs) e = cc
 
-due_suffice : (o : Opening) (s : State) (items : List ℕ) → Suffice o s items → Suffice o s (items_due o s items)
+pub due_suffice : (o : Opening) (s : State) (items : List ℕ) → Suffice o s items → Suffice o s (items_due o s items)
 due_suffice o s [] h = h
 due_suffice o s (p ∷ ps) h = by_test (has_line (lines_left o p (s.lps p)))
     (λ y. rw y h)
@@ -41,10 +41,10 @@ due_fewer o s [] = omega arith
 due_fewer o s (p ∷ ps) = by_test (has_line (lines_left o p (s.lps p))) (λ y. rw y (omega arith)) (λ n. rw n (let low = due_fewer o s ps in omega (arith, low)))
 
 -- a module has at most so many items left, and they suffice
-record IsOnItsWay (o : Opening) (n : ℕ) (m : Module) : Type 0 where
-  timely : AreTimely o m.state
-  suffice : Suffice o m.state m.items
-  few : length m.items ≤ n
+pub record IsOnItsWay (o : Opening) (n : ℕ) (m : Module) : Type 0 where
+  pub timely : AreTimely o m.state
+  pub suffice : Suffice o m.state m.items
+  pub few : length m.items ≤ n
 
 module _ (o : Opening) (bundles : ℕ → Option Incoming) where
   go_on_way : (n : ℕ) (s : State) (ps : List ℕ) → AreTimely o s → Suffice o s ps → length ps ≤ n → IsOnItsWay o (n - 1) (go_on (with_bundles o bundles) s ps)
@@ -73,12 +73,12 @@ module _ (c : Chain) (i : ℕ) where
       let stays : (chain_event c r x).modules i ≡ r.modules i = rw y refl in
       subst (λ (m : Module). IsOnItsWay o (n - one_if (x == i)) m) (sym stays) (subst (λ (k : ℕ). IsOnItsWay o (n - k) (r.modules i)) (sym none) (subst (λ (k : ℕ). IsOnItsWay o k (r.modules i)) (omega arith) h))))
 
-  turns_on_way : (xs : List ℕ) (r : Running) (n : ℕ) → IsOnItsWay o n (r.modules i) → IsOnItsWay o (n - own_items i xs) ((play_chain c xs r).modules i)
+  pub turns_on_way : (xs : List ℕ) (r : Running) (n : ℕ) → IsOnItsWay o n (r.modules i) → IsOnItsWay o (n - own_items i xs) ((play_chain c xs r).modules i)
   turns_on_way [] r n h = subst (λ (k : ℕ). IsOnItsWay o k (r.modules i)) (omega arith) h
   turns_on_way (x ∷ xs) r n h =
       subst (λ (k : ℕ). IsOnItsWay o k ((play_chain c xs (chain_event c r x)).modules i)) (omega arith) (turns_on_way xs (chain_event c r x) (n - one_if (x == i)) (event_on_way r x n h))
 
-  first_on_way : IsOnItsWay o (length (first_module c i).items) (first_module c i)
+  pub first_on_way : IsOnItsWay o (length (first_module c i).items) (first_module c i)
   first_on_way = record {
     timely = timeliness_kept.start o None;
     suffice = λ p. (let begin = fresh_left o (start o None).world (calls_of o.calls p) idle refl in

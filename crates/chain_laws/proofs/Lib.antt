@@ -2,6 +2,7 @@ pub mod Turns
 pub mod Grown
 pub mod Images
 pub mod Ends
+pub mod Items
 pub mod Lives
 pub mod Runners
 pub mod Once

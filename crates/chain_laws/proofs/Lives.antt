@@ -1,5 +1,5 @@
 -- How the life of a TD that is there goes: it stays alive, or its key is given up.
-use Rattle.std.proofs.Common.{◌≡◌, refl, sym, ◌∙◌, ap, subst, ℕ, zero, suc, ◌==◌}
+use Rattle.std.proofs.Common.{◌≡◌, refl, sym, ◌∙◌, ap, subst, ℕ, zero, suc, Option, None, ◌==◌}
 use Rattle.std.proofs.lemmas.Bool.{eqb-true}
 use Rattle.td_words.specs.Packing.{Unassigned}
 use Rattle.td_words.specs.declared.names.PageKind.TheVariants as kind
@@ -9,14 +9,14 @@ use Rattle.td_words.specs.declared.calls.Call.TheVariants as call
 use Rattle.flat_core.specs.World.{World}
 use Rattle.flat_core.specs.Opening.{Opening}
 use Rattle.flat_core.specs.Row.{Passes}
-use Rattle.flat_core.specs.Tree.{page_of_gpa, entry_at}
-use Rattle.flat_core.specs.Effects.{set_life, set_key, begin_memory}
-use Rattle.flat_core.specs.Sessions.{count_bundle}
+use Rattle.flat_core.specs.Effects.{set_life, set_key}
 use Rattle.flat_core.specs.Inputs.{Input, input_in}
+use Rattle.flat_core.specs.PageLists.{page_count}
+use Rattle.flat_core.specs.ImportRows.{import_pages}
 use Rattle.flat_core.specs.Table.{row_of}
 use Rattle.flat_core.proofs.Tests.{by_test, host_kind}
 use Rattle.flat_core.proofs.Parts.{IsLive}
-use Rattle.flat_bundles.proofs.Fills.{fill_either}
+use Rattle.mig_laws.proofs.Lists.{taken_as}
 
 pub data LifeGoes (w v : World) (x : ℕ) : Type 0 where
   lives : IsLive (v.tds.lives x) → LifeGoes w v x
@@ -25,6 +25,12 @@ pub data LifeGoes (w v : World) (x : ℕ) : Type 0 where
 module _ (o : Opening) (me : ℕ) (w : World) where
   abbrev After : Call → World
   After c = (row_of o me c).act w
+
+  -- pages that come in, with any COUNT
+  taken_life : (t slot page : ℕ) (count : Option ℕ) (x : ℕ) → IsLive (w.tds.lives x) → LifeGoes w ((import_pages o.machine (o.bundles slot) t slot page count).act w) x
+  taken_life t slot page count x live =
+      let b : Input = input_in (o.bundles slot) in
+      taken_as t b.header.stream b.header.gpa page b.words (page_count count) w (λ v. LifeGoes w v x) (λ v taken. lives live)
 
   pub row-life : (c : Call) → Passes ((row_of o me c).items w) → (x : ℕ) → w.pages.kinds x ≡ kind.Tdr → IsLive (w.tds.lives x) → LifeGoes w (After c) x
   row-life (call.MngCreate t k) ps x there live = by_test (x == t)
@@ -37,8 +43,5 @@ module _ (o : Opening) (me : ℕ) (w : World) where
       (λ y. lives (rw y live))
   row-life (call.ExportTrack t slot zero) ps x there live = lives live
   row-life (call.ExportTrack t slot (suc n)) ps x there live = lives live
-  row-life (call.ImportMem t slot page) ps x there live =
-      let b : Input = input_in (o.bundles slot) in
-      let gpa : ℕ = b.header.gpa in
-      fill_either (λ u. LifeGoes w (count_bundle t b.header.stream (begin_memory t (page_of_gpa gpa) b.words u)) x) t gpa page b.words (entry_at w t 0 gpa).state w (lives live) (lives live)
+  row-life (call.ImportMem t slot page) ps x there live = taken_life t slot page None x live
   row-life c ps x there live = lives live

@@ -5,22 +5,22 @@ use Rattle.std.proofs.lemmas.List.FromFn.{get_or-map-range_with_len}
 use Rattle.td_words.specs.declared.names.PageKind.TheVariants as kind
 use Rattle.td_words.specs.declared.names.Access.{Access}
 use Rattle.td_words.specs.declared.names.Access.TheVariants.{Read, Write}
-use Rattle.td_words.specs.declared.names.EntryState.{EntryState}
 use Rattle.td_words.specs.declared.calls.Call.{Call}
 use Rattle.td_words.specs.declared.calls.Call.TheVariants as call
 use Rattle.td_words.specs.declared.replies.Reply.{Reply}
 use Rattle.td_words.specs.declared.replies.Outcome.{Outcome}
 use Rattle.td_words.specs.declared.calls.GuestOp.{GuestOp}
-use Rattle.flat_core.specs.World.{World, Image, Hidden}
+use Rattle.flat_core.specs.World.{World, Image}
 use Rattle.flat_core.specs.Opening.{Opening}
 use Rattle.flat_core.specs.Conditions.{same_kind}
 use Rattle.flat_core.specs.Row.{OperationRow, Move, Attempts, Undoes, Refuses, Succeeds, Releases, Rests}
 use Rattle.flat_core.specs.Effects.{put_in, memory_unless, stored_in, tell_words}
 use Rattle.flat_core.specs.Guest.{ByRow, operation_of, is_pending_at, accept_page, reach}
-use Rattle.flat_core.specs.Tree.{page_of_gpa, word_of_gpa, entry_at}
+use Rattle.flat_core.specs.Tree.{page_of_gpa, word_of_gpa}
 use Rattle.flat_core.specs.Inputs.{Input, input_in}
-use Rattle.flat_core.specs.Sessions.{payload_words}
-use Rattle.flat_core.specs.ImportRows.{fill_page}
+use Rattle.flat_core.specs.Sessions.{payload_words, count_bundle}
+use Rattle.flat_core.specs.PageLists.{page_count}
+use Rattle.flat_core.specs.ImportRows.{import_pages}
 use Rattle.flat_core.specs.ExportRows.{image_of}
 use Rattle.flat_core.specs.Table.{row_of}
 use Rattle.flat_core.specs.Event.{State, Event, OfCall, start, next_event, lines_left, world_after, event}
@@ -29,7 +29,9 @@ use Rattle.flat_core.specs.AccessLaw.{Loads}
 use Rattle.flat_core.proofs.Tests.{by_test, same_self, put_here}
 use Rattle.flat_core.proofs.Due.{Due, calls, frees, leaves, stops, fills, operates, walks, reaches, undoes, gives_back, due_event_is}
 use Rattle.flat_core.proofs.Operations.{operation_row}
-use Rattle.flat_bundles.proofs.Fills.{fill_either}
+use Rattle.flat_core.proofs.PageLists.{TakenAs}
+use Rattle.flat_guests.specs.Memory.{is_in_run, memory_after_pages}
+use Rattle.mig_laws.proofs.Lists.{taken_as}
 use Rattle.mig_laws.specs.Paused.{image_words}
 use Rattle.mig_laws.specs.States.{in_32_bits}
 use Rattle.mig_laws.specs.Image.{StartsAs}
@@ -77,12 +79,25 @@ same_payload f g e k le =
 abbrev Same : ChainMemory → World → Type 0
 Same m w = ((t g : ℕ) → SameWords (w.hidden.memories t g) (m.pages t g)) × ((n g : ℕ) → SameWords (image_page (w.hidden.paused n) g) (image_page (m.images n) g))
 
-fill_hidden : (t gpa page : ℕ) (ws : ℕ → ℕ) (s : EntryState) (w : World) → (fill_page t gpa page ws s w).hidden ≡ w.hidden
-fill_hidden t gpa page ws s w = fill_either (λ u. u.hidden ≡ w.hidden) t gpa page ws s w refl refl
-
 module _ (o : Opening) (me : ℕ) (w : World) (m : ChainMemory) (h : Same m w) where
   abbrev After : Call → World → World
   After c u = (row_of o me c).act u
+
+  -- pages that come in, with any COUNT: each has its words of the bundle, in the chain's memory too
+  taken_memory : (t slot page : ℕ) (count : Option ℕ) → let row = import_pages o.machine (o.bundles slot) t slot page count in Same (memory_in (row.act (with_memory m w))) (row.act w)
+  taken_memory t slot page count =
+      let x : Input = input_in (o.bundles slot) in
+      let n : ℕ = page_count count in
+      let row = import_pages o.machine (o.bundles slot) t slot page count in
+      taken_as t x.header.stream x.header.gpa page x.words n w (λ v. Same (memory_in (row.act (with_memory m w))) v) (λ v own.
+      taken_as t x.header.stream x.header.gpa page x.words n (with_memory m w) (λ u. Same (memory_in u) (count_bundle t x.header.stream (TakenAs w v))) (λ u other. (
+        λ a b. subst (λ (z : Option (ℕ → ℕ)). SameWords z (u.hidden.memories a b)) (sym (own.memories a b))
+            (subst (SameWords (memory_after_pages t (page_of_gpa x.header.gpa) n x.words w a b)) (sym (other.memories a b)) (same_after t (page_of_gpa x.header.gpa) n x.words a b)),
+        h.1,
+      )))
+    where
+      same_after : (t first n : ℕ) (words : ℕ → ℕ) (a b : ℕ) → SameWords (memory_after_pages t first n words w a b) (memory_after_pages t first n words (with_memory m w) a b)
+      same_after t first n words a b = by_test (a == t && is_in_run first n b) (λ z. rw z (λ k le. refl)) (λ z. rw z (h.0 a b))
 
   row_memory : (c : Call) → Same (memory_in (After c (with_memory m w))) (After c w)
   row_memory (call.PhymemPageReclaim t page) = (
@@ -93,18 +108,7 @@ module _ (o : Opening) (me : ℕ) (w : World) (m : ChainMemory) (h : Same m w) w
   row_memory (call.MngCreate t k) = (λ x g. by_test (x == t) (λ y. rw y tt) (λ y. rw y (h.0 x g)), h.1)
   row_memory (call.MemPageAdd t gpa page source) = (same_put w.hidden.memories m.pages t (page_of_gpa gpa) (Some (w.words source)) (Some (w.words source)) (words_itself (Some (w.words source))) h.0, h.1)
   row_memory (call.MemPageRemove t gpa) = (same_put w.hidden.memories m.pages t (page_of_gpa gpa) None None tt h.0, h.1)
-  row_memory (call.ImportMem t slot page) =
-      let x : Input = input_in (o.bundles slot) in
-      let gpa : ℕ = x.header.gpa in
-      let s : EntryState = (entry_at w t 0 gpa).state in
-      let one = fill_hidden t gpa page x.words s w in
-      let two = fill_hidden t gpa page x.words s (with_memory m w) in
-      let pages = same_put w.hidden.memories m.pages t (page_of_gpa gpa) (Some x.words) (Some x.words) (words_itself (Some x.words)) h.0 in (
-        λ a b. subst (λ (u : Hidden). SameWords (put_in u.memories t (page_of_gpa gpa) (Some x.words) a b) (put_in (fill_page t gpa page x.words s (with_memory m w)).hidden.memories t (page_of_gpa gpa) (Some x.words) a b)) (sym one)
-            (subst (λ (u : Hidden). SameWords (put_in w.hidden.memories t (page_of_gpa gpa) (Some x.words) a b) (put_in u.memories t (page_of_gpa gpa) (Some x.words) a b)) (sym two) (pages a b)),
-        λ n g. subst (λ (u : Hidden). SameWords (image_page (u.paused n) g) (image_page ((fill_page t gpa page x.words s (with_memory m w)).hidden.paused n) g)) (sym one)
-            (subst (λ (u : Hidden). SameWords (image_page (w.hidden.paused n) g) (image_page (u.paused n) g)) (sym two) (h.1 n g)),
-      )
+  row_memory (call.ImportMem t slot page) = taken_memory t slot page None
   row_memory (call.ExportPause t) = (h.0, λ n g. by_test (n == w.tds.sessions t) (λ y. rw y (h.0 t g)) (λ y. rw y (h.1 n g)))
   row_memory (call.ExportTrack t slot zero) = h
   row_memory (call.ExportTrack t slot (suc n)) = h

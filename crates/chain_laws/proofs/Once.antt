@@ -1,5 +1,5 @@
 -- A session is exported by one TD of a module alone, and imported by one: the next one has a later number.
-use Rattle.std.proofs.Common.{◌≡◌, refl, sym, ◌∙◌, ap, ℕ, zero, suc, ◌+◌, ◌<◌, ◌≤◌, length, false, ◌==◌, arith}
+use Rattle.std.proofs.Common.{◌≡◌, refl, sym, ◌∙◌, ap, ℕ, zero, suc, ◌+◌, ◌<◌, ◌≤◌, length, Option, None, false, ◌==◌, arith}
 use Rattle.std.proofs.lemmas.Bool.{ltb-true}
 use Rattle.td_words.specs.declared.calls.Call.{Call}
 use Rattle.td_words.specs.declared.calls.Call.TheVariants as call
@@ -7,17 +7,19 @@ use Rattle.flat_core.specs.World.{World}
 use Rattle.flat_core.specs.Opening.{Opening}
 use Rattle.flat_core.specs.Row.{Passes}
 use Rattle.flat_core.specs.Event.{State, event}
-use Rattle.flat_core.specs.Tree.{entry_at}
+use Rattle.flat_core.specs.PageLists.{page_count}
 use Rattle.flat_core.specs.Inputs.{Input, input_in}
+use Rattle.flat_core.specs.BundleRows.{export_pages}
+use Rattle.flat_core.specs.ImportRows.{import_pages}
 use Rattle.flat_core.specs.Table.{row_of}
 use Rattle.flat_core.specs.Lawful.{Lawful}
 use Rattle.flat_core.specs.AccessLaw.{IsGuarded}
 use Rattle.flat_core.proofs.Tests.{by_test}
 use Rattle.flat_core.proofs.Acts.{event_world}
-use Rattle.flat_bundles.proofs.Fills.{fill_either}
 use Rattle.mig_laws.specs.Ivs.{IsExporting, IsImporting}
-use Rattle.mig_laws.proofs.Changes.{begins_export, begins_import, each_stood, each_counts}
-use Rattle.mig_laws.proofs.CallChanges.{call-changes, call-keeps}
+use Rattle.mig_laws.proofs.Lists.{sent_as, taken_as}
+use Rattle.mig_laws.proofs.Changes.{begins_export, begins_import, Changes, each_stood, each_counts}
+use Rattle.mig_laws.proofs.CallChanges.{pages_export, pages_import, import_keeps, call-changes}
 use Rattle.runner_laws.proofs.Moves.{Asked, asked, operation_same, reach_same, left_same}
 use Rattle.runner_laws.proofs.Commits.{same_importing}
 use Rattle.runner_laws.proofs.Unstarted.{same_exporting}
@@ -60,8 +62,20 @@ module _ (o : Opening) (me : ℕ) (w : World) (l : Lawful o.machine w) where
 
   module _ (n t : ℕ) (h : IsOnlyExported w n t) where
     -- no export begins
+    goes_exported : (c : Call) (v : World) → Changes c w v → begins_export c ≡ false → v.key_table.last_exported ≡ w.key_table.last_exported → IsOnlyExported v n t
+    goes_exported c v changes off last = only_exported w v n t (omega (arith, last)) (λ x a. (let k = each_stood changes off x a in stood k.exporting k.session)) h
+
     rest_exported : (c : Call) → Passes ((row_of o me c).items w) → begins_export c ≡ false → (After c).key_table.last_exported ≡ w.key_table.last_exported → IsOnlyExported (After c) n t
-    rest_exported c ps off last = only_exported w (After c) n t (omega (arith, last)) (λ x a. (let k = each_stood (call-changes o me w l c ps) off x a in stood k.exporting k.session)) h
+    rest_exported c ps = goes_exported c (After c) (call-changes o me w l c ps)
+
+    -- lists of pages, with any COUNT
+    sent_exported : (u gpa k slot : ℕ) (count : Option ℕ) → Passes ((export_pages o.machine u gpa k slot count).items w) → IsOnlyExported ((export_pages o.machine u gpa k slot count).act w) n t
+    sent_exported u gpa k slot count ps = goes_exported (call.ExportMem u gpa k slot) ((export_pages o.machine u gpa k slot count).act w) (pages_export o me w l u gpa k slot count ps) refl
+        (sent_as o.machine u gpa k slot count w (λ v. v.key_table.last_exported ≡ w.key_table.last_exported) (λ e c f done. refl))
+
+    taken_exported : (u slot page : ℕ) (count : Option ℕ) → Passes ((import_pages o.machine (o.bundles slot) u slot page count).items w) → IsOnlyExported ((import_pages o.machine (o.bundles slot) u slot page count).act w) n t
+    taken_exported u slot page count ps = goes_exported (call.ImportMem u slot page) ((import_pages o.machine (o.bundles slot) u slot page count).act w)
+        (pages_import o me w l u slot page count ps) refl ((import_keeps o me w l u slot page count).made refl).1
 
     row-exported : (c : Call) → Passes ((row_of o me c).items w) → IsOnlyExported (After c) n t
     row-exported (call.ExportStateImmutable u slot) ps = only_exported w (After (call.ExportStateImmutable u slot)) n t (omega arith)
@@ -70,12 +84,26 @@ module _ (o : Opening) (me : ℕ) (w : World) (l : Lawful o.machine w) where
         (λ y. stood (record { alive = record { kind = a.alive.kind; life = a.alive.life }; standing = rw y at a.standing }) (rw y refl))) h
     row-exported (call.ExportTrack u slot zero) ps = rest_exported (call.ExportTrack u slot zero) ps refl refl
     row-exported (call.ExportTrack u slot (suc k)) ps = rest_exported (call.ExportTrack u slot (suc k)) ps refl refl
-    row-exported (call.ImportMem u slot page) ps = rest_exported (call.ImportMem u slot page) ps refl ((call-keeps o me w l (call.ImportMem u slot page)).made refl).1
+    row-exported (call.ExportMem u gpa k slot) ps = sent_exported u gpa k slot None ps
+    row-exported (call.ImportMem u slot page) ps = taken_exported u slot page None ps
     row-exported c ps = rest_exported c ps refl refl
 
   module _ (n u : ℕ) (h : IsOnlyImported w n u) where
+    goes_imported : (c : Call) (v : World) → Changes c w v → begins_import c ≡ false → v.key_table.last_imported ≡ w.key_table.last_imported → IsOnlyImported v n u
+    goes_imported c v changes off last = only_imported w v n u (omega (arith, last)) (λ x a. (let k = each_counts changes off x a in taken k.importing k.session)) h
+
     rest_imported : (c : Call) → Passes ((row_of o me c).items w) → begins_import c ≡ false → (After c).key_table.last_imported ≡ w.key_table.last_imported → IsOnlyImported (After c) n u
-    rest_imported c ps off last = only_imported w (After c) n u (omega (arith, last)) (λ x a. (let k = each_counts (call-changes o me w l c ps) off x a in taken k.importing k.session)) h
+    rest_imported c ps = goes_imported c (After c) (call-changes o me w l c ps)
+
+    sent_imported : (t gpa k slot : ℕ) (count : Option ℕ) → Passes ((export_pages o.machine t gpa k slot count).items w) → IsOnlyImported ((export_pages o.machine t gpa k slot count).act w) n u
+    sent_imported t gpa k slot count ps = goes_imported (call.ExportMem t gpa k slot) ((export_pages o.machine t gpa k slot count).act w) (pages_export o me w l t gpa k slot count ps) refl
+        (sent_as o.machine t gpa k slot count w (λ v. v.key_table.last_imported ≡ w.key_table.last_imported) (λ e c f done. refl))
+
+    taken_imported : (t slot page : ℕ) (count : Option ℕ) → Passes ((import_pages o.machine (o.bundles slot) t slot page count).items w) → IsOnlyImported ((import_pages o.machine (o.bundles slot) t slot page count).act w) n u
+    taken_imported t slot page count ps =
+        let x : Input = input_in (o.bundles slot) in
+        goes_imported (call.ImportMem t slot page) ((import_pages o.machine (o.bundles slot) t slot page count).act w) (pages_import o me w l t slot page count ps) refl
+        (taken_as t x.header.stream x.header.gpa page x.words (page_count count) w (λ v. v.key_table.last_imported ≡ w.key_table.last_imported) (λ v all. refl))
 
     row-imported : (c : Call) → Passes ((row_of o me c).items w) → IsOnlyImported (After c) n u
     row-imported (call.ImportStateImmutable t slot) ps =
@@ -84,9 +112,8 @@ module _ (o : Opening) (me : ℕ) (w : World) (l : Lawful o.machine w) where
         (λ x a. by_test (x == t)
         (λ y. opened (rw y later))
         (λ y. taken (record { alive = record { kind = a.alive.kind; life = a.alive.life }; standing = rw y at a.standing }) (rw y refl))) h
-    row-imported (call.ImportMem t slot page) ps =
-        let x : Input = input_in (o.bundles slot) in
-        rest_imported (call.ImportMem t slot page) ps refl (fill_either (λ z. z.key_table.last_imported ≡ w.key_table.last_imported) t x.header.gpa page x.words (entry_at w t 0 x.header.gpa).state w refl refl)
+    row-imported (call.ExportMem t gpa k slot) ps = sent_imported t gpa k slot None ps
+    row-imported (call.ImportMem t slot page) ps = taken_imported t slot page None ps
     row-imported (call.ExportTrack t slot zero) ps = rest_imported (call.ExportTrack t slot zero) ps refl refl
     row-imported (call.ExportTrack t slot (suc k)) ps = rest_imported (call.ExportTrack t slot (suc k)) ps refl refl
     row-imported c ps = rest_imported c ps refl refl

@@ -18,14 +18,14 @@ use Rattle.flat_core.specs.Laws.{with_bundles, IsKept, ArePagesKnown}
 use Rattle.flat_core.specs.Inputs.{Input, input_in}
 use Rattle.flat_core.specs.ExportRows.{abortable_ops}
 use Rattle.flat_core.specs.BundleRows.{paused_ops}
-use Rattle.flat_core.specs.ImportRows.{is_start, filling_ops, td_state_ops, vp_state_ops, commit_ops, given_up_ops, import_token_ops}
+use Rattle.flat_core.specs.ImportRows.{is_start, td_state_ops, vp_state_ops, commit_ops, given_up_ops, import_token_ops}
 use Rattle.flat_core.specs.Table.{row_of}
 use Rattle.flat_core.specs.Lawful.{Lawful}
 use Rattle.flat_core.specs.AccessLaw.{IsGuarded}
 use Rattle.flat_core.proofs.Tests.{by_test}
 use Rattle.flat_core.proofs.Acts.{event_world}
 use Rattle.flat_core.proofs.Always.{access_kept}
-use Rattle.flat_core.proofs.Passed.{TdPassed, td_alive}
+use Rattle.flat_core.proofs.Passed.{TdPassed, td_alive, export_passed}
 use Rattle.flat_core.proofs.Ranges.{abortable_exporting, paused_exporting}
 use Rattle.flat_bundles.specs.Ended.{ended_bundles}
 use Rattle.mig_laws.specs.Ivs.{is_forward, IsExporting, IsImporting}
@@ -35,6 +35,7 @@ use Rattle.image_laws.specs.IvBytes.{HaveOwnIvBytes}
 use Rattle.image_laws.proofs.IvBytes.{keys_go_by_type, iv_bytes_are_kept}
 use Rattle.mig_laws.proofs.Rows.{over_beside, row-beside}
 use Rattle.mig_laws.proofs.Ivs.{given_up_fills}
+use Rattle.mig_laws.proofs.Lists.{take_asked}
 use Rattle.mig_laws.proofs.OneMore.{filling_fills, td_state_fills, vp_state_fills, commit_fills, token_fills}
 use Rattle.mig_laws.proofs.Changes.{is_import}
 use Rattle.mig_laws.proofs.RestRows.{row-rests}
@@ -68,7 +69,7 @@ module _ (o : Opening) (me : ℕ) (w : World) (l : Lawful o.machine w) where
     row-sends : (c : Call) → begins_export c ≡ false → Passes ((row_of o me c).items w) → SendsNothing (After c)
     row-sends (call.ExportStateImmutable t slot) off ps = cc
     row-sends (call.ExportMem t gpa k slot) off ps =
-        let td : TdPassed w t abortable_ops = search in
+        let td = (export_passed o.machine w t gpa k slot None ps).td in
         absurd (h.none t (record { alive = td_alive td; standing = abortable_exporting (w.tds.ops t) td.op }))
     row-sends (call.ExportTrack t slot zero) off ps =
         let td : TdPassed w t abortable_ops = search in
@@ -99,7 +100,7 @@ module _ (o : Opening) (me : ℕ) (w : World) (l : Lawful o.machine w) where
     row-takes : (c : Call) → begins_import c ≡ false → Passes ((row_of o me c).items w) → TakesNothing (After c)
     row-takes (call.ImportStateImmutable t slot) off ps = cc
     row-takes (call.ImportMem t slot page) off ps =
-        let td : TdPassed w t filling_ops = search in
+        let td = (take_asked o.machine (o.bundles slot) w t slot page None ps).td in
         absurd (h.none t (record { alive = td_alive td; standing = (filling_fills (w.tds.ops t) td.op).0 }))
     row-takes (call.ImportTrack t slot) off ps =
         let x : Input = input_in (o.bundles slot) in

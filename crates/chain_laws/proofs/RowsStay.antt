@@ -153,11 +153,11 @@ module _ (o : Opening) (s : State) (p : ℕ) (all : IsGuarded o s) (x : Call) (x
 
 -- So of every call that has begun the bundle is there.
 module _ (c : Chain) (apart : AreSlotsApart c) where
-  record HasBundle (r : Running) (i slot : ℕ) : Type 0 where
-    bundle : Incoming
-    there : inputs c r.modules i slot ≡ Some bundle
+  pub record HasBundle (r : Running) (i slot : ℕ) : Type 0 where
+    pub bundle : Incoming
+    pub there : inputs c r.modules i slot ≡ Some bundle
 
-  abbrev Begun : Running → Type 0
+  abbrev pub Begun : Running → Type 0
   Begun r = (i p : ℕ) (x : Call) (xs : List Call) (slot : ℕ) → lines_left (c.openings i) p ((state_of r i).lps p) ≡ x ∷ xs → ((state_of r i).lps p).call ≢ nothing_yet → input_slot x ≡ Some slot → HasBundle r i slot
 
   module _ (xs : List ℕ) (y : ℕ) (h : Begun (at_moment c xs)) where
@@ -214,7 +214,7 @@ module _ (c : Chain) (apart : AreSlotsApart c) where
       subst (λ (l : List ℕ). Begun (at_moment c l)) (append_assoc xs (y ∷ []) ys)
       (all_begun ys (xs ++ y ∷ []) (subst Begun (sym (next_is xs y h)) (begun_next xs y h)))
 
-  begun_at : (turns : List ℕ) → Begun (at_moment c turns)
+  pub begun_at : (turns : List ℕ) → Begun (at_moment c turns)
   begun_at turns = all_begun turns [] (λ i p x xs slot line on takes. absurd (on refl))
 
 pub rows_stay : RowsStay

@@ -7,3 +7,4 @@ pub mod Sealing
 pub mod Secrets
 pub mod Inputs
 pub mod Worked
+pub mod Items

@@ -23,6 +23,7 @@ use Rattle.flat_core.specs.Row.{Item}
 use Rattle.flat_core.specs.Arguments.{level_size}
 use Rattle.flat_core.specs.Conditions.{page_exclusive, tree_shared, epoch_shared}
 use Rattle.flat_core.specs.ExportRows.{abortable_ops}
+use Rattle.flat_core.specs.Effects.{set_entry}
 use Rattle.flat_core.specs.BundleRows.{exportable, tracked_in, export_pages}
 use Rattle.flat_core.specs.Sessions.{payload_words, stream_page, stream_counter, has_stream, counter_room, other_epoch}
 use Rattle.flat_core.specs.Lawful.{Lawful, IsPageOf}
@@ -38,7 +39,7 @@ use Rattle.word_rules.specs.Permissions.{MayAt, Owes, Respects}
 use Rattle.word_rules.specs.Cells.{Shows}
 use Rattle.lock_words.specs.Grips.{holds, holds_alone}
 use Rattle.lock_words.specs.LockWords.{TdStands}
-use Rattle.act_rules.proofs.Rows.{page-exported}
+use Rattle.act_rules.proofs.Respected.{then-leaves, effects-respect}
 use Rattle.leaf_engine.specs.declared.needs.Place.{Place}
 use Rattle.leaf_engine.specs.Facts.{Facts}
 use Rattle.leaf_engine.specs.Changes.{Change, changed_all}
@@ -205,12 +206,12 @@ module _ (m : Machine) (c : Instant) (t gpa k slot : ℕ) (limit : m.pages ≤ 1
   shown : (let mem = changed_all changes c.memory in Shows m mem.words mem.slots (acted work c.state))
   shown = page-shown m c.state c.memory t gpa x.page k sh la x.td.alive z small x.has stream stream_in made
 
-  respects : Respects g w w'
-  respects = page-exported g w m t gpa k slot x.used
-
   -- the entry still names the page
   abbrev new : Entry
   new = record { state = entry.ExportedBlockedW; page = (entry_at c.state.world t 0 gpa).page; mark = c.state.world.tds.mig_epochs t }
+
+  respects : Respects g w w'
+  respects = then-leaves g w (set_entry t 0 (number_at 0 gpa) new w) w' refl ((effects-respect g w).entry_state t 0 (number_at 0 gpa) new (rw x.used refl))
 
   begun : 1 ≤ w.tds.mig_epochs t
   begun = la.sessions.mig_epoch_begun t (abortable (w.tds.ops t) x.td.op)

@@ -1,9 +1,10 @@
 -- No stream counts more bundles than calls have acted; so BUNDLE_COUNTER never shows the last value twice.
 use Rattle.std.proofs.Common.{◌≡◌, ◌≢◌, append_assoc, map, refl, sym, ◌∙◌, ap, subst, ℕ, zero, suc, ◌+◌, ◌-◌, ◌^◌, ◌<◌, ◌≤◌, List, [], ◌∷◌, ◌++◌, length, drop, Option, Some, None, Bool, true, false, ◌==◌, ◌&&◌, nat_lt, inl, inr, arith, length-append}
-use Rattle.std.specs.Prelude.{◌⊎◌}
+use Rattle.std.specs.Prelude.{◌⊎◌, flat_map}
 use Rattle.std.specs.List.{All, list_any}
 use Rattle.std.proofs.lemmas.List.Elements.{All-nil, All-cons, All-head, All-tail}
 use Rattle.std.proofs.lemmas.Bool.{eqb-true, eq-eqb, lt-ltb}
+use Rattle.td_words.specs.declared.names.Mode.TheVariants.{Exclusive}
 use Rattle.td_words.specs.declared.names.EntryState.{EntryState}
 use Rattle.td_words.specs.declared.names.EntryState.TheVariants as entry
 use Rattle.td_words.specs.declared.names.ReadField.{ReadField}
@@ -20,24 +21,24 @@ use Rattle.flat_core.specs.World.{World, Streams, put}
 use Rattle.flat_core.specs.Processor.{Phase, Trying, Undoing, Answered, Held, Lp}
 use Rattle.flat_core.specs.Opening.{Opening}
 use Rattle.flat_core.specs.Row.{Item, Check, Try, Row, Move, Attempts, Undoes, Refuses, Succeeds, Releases, Rests, needs, next, next_in}
-use Rattle.flat_core.specs.Tree.{page_of_gpa, entry_at, walk, levels_above, is_passed, state_in}
-use Rattle.flat_core.specs.Effects.{begin_memory}
+use Rattle.flat_core.specs.Tree.{entry_at, walk, levels_above, is_passed, state_in, has_page, named_page}
 use Rattle.flat_core.specs.Conditions.{page_exclusive, host_page}
 use Rattle.flat_core.specs.KeyRows.{reclaim_conditions}
 use Rattle.flat_core.specs.TdRows.{read_conditions}
-use Rattle.flat_core.specs.BundleRows.{tracked_in}
-use Rattle.flat_core.specs.ImportRows.{page_to_fill}
-use Rattle.flat_core.specs.Sessions.{stream_page, stream_counter, count_bundle, put_all}
+use Rattle.flat_core.specs.PageLists.{page_count, gpas_from, Arrival, arrivals}
+use Rattle.flat_core.specs.BundleRows.{exportable, page_to_export, tracked_in, export_page, export_each, export_pages}
+use Rattle.flat_core.specs.ImportRows.{importable, page_to_fill, page_filled, pages_to_fill, take_each, import_pages}
+use Rattle.flat_core.specs.Sessions.{stream_page, stream_counter, count_bundle, counter_room, other_epoch, put_all}
 use Rattle.flat_core.specs.Inputs.{Input, input_in, tag_holds}
 use Rattle.flat_core.specs.Table.{row_of}
 use Rattle.flat_core.specs.Event.{State, Event, OfCall, calls_of, lp_after, is_granted, after_event}
 use Rattle.flat_core.specs.Laws.{with_bundles, reached}
 use Rattle.flat_core.proofs.Tests.{by_test, put_here}
+use Rattle.flat_core.proofs.PageLists.{made_first, takes_leave}
 use Rattle.flat_core.proofs.Due.{Due, calls, frees, leaves, stops, fills, operates, walks, reaches, undoes, gives_back, due_event_is}
 use Rattle.flat_core.proofs.Induction.{event_keeps, in_runs}
 use Rattle.flat_bundles.specs.Bundles.{acted}
 use Rattle.flat_bundles.specs.Counters.{calls_left, AreCountedByCalls, CountersAreKept, CountersDiffer}
-use Rattle.flat_bundles.proofs.Fills.{fill_either}
 use Rattle.flat_bundles.proofs.Steps.{Acts, idle, acts, event-acts}
 
 -- how many are left
@@ -93,19 +94,29 @@ module _ (o : Opening) (me : ℕ) (w : World) where
   cleared : (ps : List ℕ) (p : ℕ) → put_all w.streams.counters ps 0 p ≤ w.streams.counters p
   cleared ps p = by_test (list_any (λ q. q == p) ps) (λ y. rw y (omega arith)) (λ n. rw n (omega arith))
 
+  -- a list of pages counts once, with any COUNT
+  kept-counters : (t k : ℕ) (gpas : List ℕ) (v : World) → (export_each t k gpas v).streams.counters ≡ v.streams.counters
+  kept-counters t k [] v = refl
+  kept-counters t k (gpa ∷ gpas) v = kept-counters t k gpas (export_page t k gpa v)
+
+  sent-counts : (t gpa k slot : ℕ) (count : Option ℕ) (page : ℕ) → ((export_pages o.machine t gpa k slot count).act w).streams.counters page ≤ w.streams.counters page + 1
+  sent-counts t gpa k slot count page = subst (λ (f : ℕ → ℕ). f page ≤ w.streams.counters page + 1)
+      (sym (kept-counters t k (gpas_from gpa (page_count count)) (made_first t gpa k slot count w))) (counted-at t k page)
+
+  taken-counts : (t k : ℕ) (pages : List Arrival) (page : ℕ) → (count_bundle t k (take_each t pages w)).streams.counters page ≤ w.streams.counters page + 1
+  taken-counts t k pages page = subst (λ (v : World). (count_bundle t k v).streams.counters page ≤ w.streams.counters page + 1) (sym (takes_leave t pages w)) (counted-at t k page)
+
   row-counts : (c : Call) (page : ℕ) → (After c).streams.counters page ≤ w.streams.counters page + 1
   row-counts (call.MigStreamCreate t at) page = by_test (page == at) (λ y. rw y (omega arith)) (λ n. rw n (omega arith))
   row-counts (call.ExportStateImmutable t slot) page = counted-once (put_all w.streams.counters (w.tds.streams t) 0) (stream_page w t 0) page (cleared (w.tds.streams t))
-  row-counts (call.ExportMem t gpa k slot) page = counted-at t k page
+  row-counts (call.ExportMem t gpa k slot) page = sent-counts t gpa k slot None page
   row-counts (call.ExportTrack t slot zero) page = counted-at t 0 page
   row-counts (call.ExportTrack t slot (suc n)) page = counted-at t 0 page
   row-counts (call.ExportStateTd t slot) page = counted-at t 0 page
   row-counts (call.ExportStateVp t p slot) page = counted-at t 0 page
   row-counts (call.ImportStateImmutable t slot) page = counted-at t 0 page
   row-counts (call.ImportMem t slot at) page =
-      let x : Input = input_in (o.bundles slot) in
-      fill_either (λ u. (count_bundle t x.header.stream (begin_memory t (page_of_gpa x.header.gpa) x.words u)).streams.counters page ≤ w.streams.counters page + 1) t x.header.gpa at x.words (entry_at w t 0 x.header.gpa).state w
-      (counted-at t x.header.stream page) (counted-at t x.header.stream page)
+      let x : Input = input_in (o.bundles slot) in taken-counts t x.header.stream (arrivals x.header.gpa at x.words (page_count None)) page
   row-counts (call.ImportTrack t slot) page = counted-at t 0 page
   row-counts (call.ImportStateTd t slot) page = counted-at t 0 page
   row-counts (call.ImportStateVp t p slot) page = counted-at t 0 page
@@ -214,15 +225,21 @@ module _ (o : Opening) (me : ℕ) (w : World) (low : (page : ℕ) → w.streams.
   abbrev Asks : Call → Type 0
   Asks c = All Differs (asked_in ((row_of o me c).items w))
 
+  none-in : (items : List (Item Reply)) → asked_in items ≡ [] → All Differs (asked_in items)
+  none-in items e = subst (λ (ks : List CounterAsked). All Differs ks) (sym e) (All-nil Differs)
+
   none-asked : (c : Call) → asked_in ((row_of o me c).items w) ≡ [] → Asks c
-  none-asked c e = subst (λ (ks : List CounterAsked). All Differs ks) (sym e) (All-nil Differs)
+  none-asked c e = none-in ((row_of o me c).items w) e
 
   -- one condition, with a counter that isn't the last value
-  one-asked : (c : Call) (counter due : ℕ) → due < 2 ^ 32 - 1 → asked_in ((row_of o me c).items w) ≡ counter_asked counter due ∷ [] → Asks c
-  one-asked c counter due small e = subst (λ (ks : List CounterAsked). All Differs ks) (sym e) (All-cons Differs (counter_asked counter due) [] differs (All-nil Differs))
+  one-in : (items : List (Item Reply)) (counter due : ℕ) → due < 2 ^ 32 - 1 → asked_in items ≡ counter_asked counter due ∷ [] → All Differs (asked_in items)
+  one-in items counter due small e = subst (λ (ks : List CounterAsked). All Differs ks) (sym e) (All-cons Differs (counter_asked counter due) [] differs (All-nil Differs))
     where
       differs : (counter == due && nat_lt due (2 ^ 32 - 1)) ≡ false → due ≢ counter
       differs off same = (let is = eq-eqb counter due (sym same) in let less = lt-ltb due (2 ^ 32 - 1) small in let no : true ≡ false = rw (is, less) at off in cc)
+
+  one-asked : (c : Call) (counter due : ℕ) → due < 2 ^ 32 - 1 → asked_in ((row_of o me c).items w) ≡ counter_asked counter due ∷ [] → Asks c
+  one-asked c counter due small e = one-in ((row_of o me c).items w) counter due small e
 
   read-asks : (t : ℕ) (f : ReadField) → asked_in (read_conditions w t f) ≡ []
   read-asks t Mrtd = refl
@@ -236,9 +253,54 @@ module _ (o : Opening) (me : ℕ) (w : World) (low : (page : ℕ) → w.streams.
   tracked-asks op.LiveExport t gpas = refl
   tracked-asks _ t gpas = refl
 
-  filled-asks : (t gpa page : ℕ) (x : Input) (s : EntryState) → asked_in (page_to_fill w t [] gpa page s ++ tag_holds x ∷ []) ≡ []
-  filled-asks t gpa page x entry.Free = refl
-  filled-asks t gpa page x _ = refl
+  -- lists of pages, with any COUNT
+  pages-ask : (t : ℕ) (gpas : List ℕ) (rest : List (Item Reply)) → asked_in rest ≡ [] → asked_in (flat_map (page_to_export w t) gpas ++ rest) ≡ []
+  pages-ask t [] rest e = e
+  pages-ask t (gpa ∷ gpas) rest e =
+      ap asked_in (append_assoc (page_to_export w t gpa) (flat_map (page_to_export w t) gpas) rest)
+      ∙ (ap asked_in (append_assoc (walk w t gpa 0) (own t gpa) (flat_map (page_to_export w t) gpas ++ rest))
+      ∙ asked-behind w t gpa 0 (own t gpa ++ (flat_map (page_to_export w t) gpas ++ rest)) (pages-ask t gpas rest e))
+    where
+      own : (t gpa : ℕ) → List (Item Reply)
+      own t gpa = has_page w t gpa 0 ∷ named_page w t gpa 0 Exclusive ∷ state_in w t gpa 0 (exportable (w.tds.ops t)) ∷ other_epoch w t gpa ∷ []
+
+  sent-asks : (t gpa k slot : ℕ) (count : Option ℕ) → All Differs (asked_in ((export_pages o.machine t gpa k slot count).items w))
+  sent-asks t gpa k slot count = none-in ((export_pages o.machine t gpa k slot count).items w) (by count)
+    where
+      all : (gpas : List ℕ) → asked_in (flat_map (page_to_export w t) gpas ++ page_exclusive (stream_page w t k) ∷ counter_room w t k ∷ tracked_in (w.tds.ops t) w t gpas) ≡ []
+      all gpas = pages-ask t gpas (page_exclusive (stream_page w t k) ∷ counter_room w t k ∷ tracked_in (w.tds.ops t) w t gpas) (tracked-asks (w.tds.ops t) t gpas)
+
+      by : (count : Option ℕ) → asked_in ((export_pages o.machine t gpa k slot count).items w) ≡ []
+      by None = all (gpas_from gpa 1)
+      by (Some n) = all (gpas_from gpa (page_count (Some n)))
+
+  fill-asks : (t : ℕ) (locked : List ℕ) (gpa page : ℕ) (s : EntryState) (rest : List (Item Reply)) → asked_in rest ≡ [] → asked_in (page_to_fill w t locked gpa page s ++ rest) ≡ []
+  fill-asks t [] gpa page entry.Free rest e = e
+  fill-asks t (p ∷ locked) gpa page entry.Free rest e = e
+  fill-asks t locked gpa page _ rest e = e
+
+  fills-ask : (t : ℕ) (locked : List ℕ) (pages : List Arrival) (rest : List (Item Reply)) → asked_in rest ≡ [] → asked_in (pages_to_fill w t locked pages rest) ≡ []
+  fills-ask t locked [] rest e = e
+  fills-ask t locked (a ∷ pages) rest e =
+      let s : EntryState = (entry_at w t 0 a.gpa).state in
+      let more : List (Item Reply) = pages_to_fill w t (page_filled w t a ∷ locked) pages rest in
+      asked-behind w t a.gpa 0 (state_in w t a.gpa 0 importable ∷ (page_to_fill w t locked a.gpa a.page s ++ more))
+      (fill-asks t locked a.gpa a.page s more (fills-ask t (page_filled w t a ∷ locked) pages rest e))
+
+  taken-asks : (t slot page : ℕ) (count : Option ℕ) → All Differs (asked_in ((import_pages o.machine (o.bundles slot) t slot page count).items w))
+  taken-asks t slot page count =
+      one-in ((import_pages o.machine (o.bundles slot) t slot page count).items w) x.header.counter (stream_counter w t x.header.stream) (low (stream_page w t x.header.stream)) (by count)
+    where
+      x : Input
+      x = input_in (o.bundles slot)
+
+      all : (pages : List Arrival) → counter_asked x.header.counter (stream_counter w t x.header.stream) ∷ asked_in (pages_to_fill w t [] pages (tag_holds x ∷ []))
+          ≡ counter_asked x.header.counter (stream_counter w t x.header.stream) ∷ []
+      all pages = ap (λ (ks : List CounterAsked). counter_asked x.header.counter (stream_counter w t x.header.stream) ∷ ks) (fills-ask t [] pages (tag_holds x ∷ []) refl)
+
+      by : (count : Option ℕ) → asked_in ((import_pages o.machine (o.bundles slot) t slot page count).items w) ≡ counter_asked x.header.counter (stream_counter w t x.header.stream) ∷ []
+      by None = all (arrivals x.header.gpa page x.words 1)
+      by (Some n) = all (arrivals x.header.gpa page x.words (page_count (Some n)))
 
   row-asks : (c : Call) → Asks c
   row-asks (call.PhymemPageReclaim t page) = none-asked (call.PhymemPageReclaim t page) (reclaim-asks t page (page == t))
@@ -248,15 +310,12 @@ module _ (o : Opening) (me : ℕ) (w : World) (low : (page : ℕ) → w.streams.
   row-asks (call.MemSeptRemove t gpa level) = none-asked (call.MemSeptRemove t gpa level) (asked-behind w t gpa level _ refl)
   row-asks (call.MemRangeBlock t gpa level) = none-asked (call.MemRangeBlock t gpa level) (asked-behind w t gpa level _ refl)
   row-asks (call.MemRangeUnblock t gpa level) = none-asked (call.MemRangeUnblock t gpa level) (asked-behind w t gpa level _ refl)
-  row-asks (call.ExportMem t gpa k slot) = none-asked (call.ExportMem t gpa k slot) (tracked-asks (w.tds.ops t) t (gpa ∷ []))
+  row-asks (call.ExportMem t gpa k slot) = sent-asks t gpa k slot None
   row-asks (call.ExportTrack t slot zero) = none-asked (call.ExportTrack t slot zero) refl
   row-asks (call.ExportTrack t slot (suc n)) = none-asked (call.ExportTrack t slot (suc n)) refl
   row-asks (call.ExportAbortByToken t slot) = one-asked (call.ExportAbortByToken t slot) (input_in (o.bundles slot)).header.counter 0 (omega arith) refl
   row-asks (call.ImportStateImmutable t slot) = one-asked (call.ImportStateImmutable t slot) (input_in (o.bundles slot)).header.counter 0 (omega arith) refl
-  row-asks (call.ImportMem t slot at) =
-      let h = (input_in (o.bundles slot)).header in
-      one-asked (call.ImportMem t slot at) h.counter (stream_counter w t h.stream) (low (stream_page w t h.stream))
-      (ap (λ (ks : List CounterAsked). counter_asked h.counter (stream_counter w t h.stream) ∷ ks) (filled-asks t h.gpa at (input_in (o.bundles slot)) (entry_at w t 0 h.gpa).state))
+  row-asks (call.ImportMem t slot at) = taken-asks t slot at None
   row-asks (call.ImportTrack t slot) = one-asked (call.ImportTrack t slot) (input_in (o.bundles slot)).header.counter (stream_counter w t 0) (low (stream_page w t 0)) refl
   row-asks (call.ImportStateTd t slot) = one-asked (call.ImportStateTd t slot) (input_in (o.bundles slot)).header.counter (stream_counter w t 0) (low (stream_page w t 0)) refl
   row-asks (call.ImportStateVp t p slot) = one-asked (call.ImportStateVp t p slot) (input_in (o.bundles slot)).header.counter (stream_counter w t 0) (low (stream_page w t 0)) refl

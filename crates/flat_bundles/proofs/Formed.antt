@@ -30,14 +30,15 @@ use Rattle.flat_core.specs.Opening.{Opening, Incoming}
 use Rattle.flat_core.specs.Row.{OperationRow, Passes}
 use Rattle.flat_core.specs.Conditions.{same_kind}
 use Rattle.flat_core.specs.Digests.{six_words}
-use Rattle.flat_core.specs.Tree.{page_of_gpa, number_at, entry_at}
-use Rattle.flat_core.specs.Effects.{set_op, restate, begin_memory, pass_operation, tell_words, leave_guest}
+use Rattle.flat_core.specs.Tree.{number_at, entry_at}
+use Rattle.flat_core.specs.Effects.{set_op, restate, pass_operation, tell_words, leave_guest}
 use Rattle.flat_core.specs.Guest.{ByRow, operation_of, is_pending_at, reach}
 use Rattle.flat_core.specs.Sessions.{About, about, header_of, stream_page, stream_counter, bundles_so_far, payload_words, count_bundle, make_bundle, begin_session, set_mig_epoch, count_export, note_td_export, note_vp_export}
 use Rattle.flat_core.specs.ExportRows.{live_ops, abortable_ops}
 use Rattle.flat_core.specs.BundleRows.{start_epoch, paused_ops}
 use Rattle.flat_core.specs.Inputs.{Input, input_in, most_info}
-use Rattle.flat_core.specs.ImportRows.{filling_ops, vp_state_ops, given_up_ops, fill_page, is_start, import_token_ops, abort_header}
+use Rattle.flat_core.specs.PageLists.{page_count, Arrival, arrivals}
+use Rattle.flat_core.specs.ImportRows.{filling_ops, vp_state_ops, given_up_ops, take_each, is_start, import_token_ops, abort_header}
 use Rattle.flat_core.specs.Table.{row_of}
 use Rattle.flat_core.specs.Lawful.{IsAlive, Lawful}
 use Rattle.flat_core.specs.Event.{State, Event, start, next_event, operation_due, nothing_more, world_after, after_event, event}
@@ -51,7 +52,7 @@ use Rattle.flat_core.proofs.ImportKeeps.{input_form}
 use Rattle.flat_core.proofs.Induction.{in_runs}
 use Rattle.flat_core.proofs.Operations.{operation_row, accepted}
 use Rattle.flat_core.proofs.Passed.{TdPassed, td_alive}
-use Rattle.flat_bundles.proofs.Fills.{fill_either}
+use Rattle.flat_core.proofs.PageLists.{takes_leave}
 use Rattle.flat_bundles.specs.Formed.{tagged, IsFormed, AreCodesShort, EveryBundleIsFormed, has_session, FormsHold, FormsAreKept}
 
 -- a header's values are among those that its kind allows
@@ -338,10 +339,8 @@ module _ (o : Opening) (me : ℕ) (w : World) (l : Lawful o.machine w) (h : Form
         (λ y. let same = sessions x y in let old = h.session x (ap has_session (sym (ops x y)) ∙ e) in omega (arith, same, old));
   }
 
-  imported_forms : (t k gpa page : ℕ) (ws : ℕ → ℕ) → FormsHold (count_bundle t k (begin_memory t (page_of_gpa gpa) ws (fill_page t gpa page ws (entry_at w t 0 gpa).state w)))
-  imported_forms t k gpa page ws = fill_either (λ u. FormsHold (count_bundle t k (begin_memory t (page_of_gpa gpa) ws u))) t gpa page ws (entry_at w t 0 gpa).state w
-      (record { formed = h.formed; position = h.position; session = h.session })
-      (record { formed = h.formed; position = h.position; session = h.session })
+  imported_forms : (t k : ℕ) (pages : List Arrival) → FormsHold (count_bundle t k (take_each t pages w))
+  imported_forms t k pages = subst (λ (v : World). FormsHold (count_bundle t k v)) (sym (takes_leave t pages w)) (record { formed = h.formed; position = h.position; session = h.session })
 
   row-forms : (c : Call) → Passes ((row_of o me c).items w) → FormsHold (After c)
   row-forms (call.MngCreate t k) ps = other_forms (After (call.MngCreate t k)) t refl refl (λ e. let no : false ≡ true = rw (same_self t) at e in cc) (λ x y. rw y refl) (λ x y. rw y refl)
@@ -363,7 +362,8 @@ module _ (o : Opening) (me : ℕ) (w : World) (l : Lawful o.machine w) (h : Form
   row-forms (call.ImportStateImmutable t slot) ps =
       let later = ltb-true w.key_table.last_imported (input_in (o.bundles slot)).header.session (search) in
       other_forms (After (call.ImportStateImmutable t slot)) t refl refl (λ e. let self = same_self t in rw self (omega (arith, later))) (λ x y. rw y refl) (λ x y. rw y refl)
-  row-forms (call.ImportMem t slot page) ps = let x : Input = input_in (o.bundles slot) in imported_forms t x.header.stream x.header.gpa page x.words
+  row-forms (call.ImportMem t slot page) ps =
+      let x : Input = input_in (o.bundles slot) in imported_forms t x.header.stream (arrivals x.header.gpa page x.words (page_count None))
   row-forms (call.ImportTrack t slot) ps =
       let x : Input = input_in (o.bundles slot) in
       other_forms (After (call.ImportTrack t slot)) t refl refl (λ e. h.session t (token_session (is_start x.header) (w.tds.ops t) (search))) (λ x y. rw y refl) (λ x y. refl)

@@ -8,17 +8,22 @@ use Rattle.td_words.specs.declared.calls.Call.TheVariants as call
 use Rattle.td_words.specs.declared.calls.GuestOp.{GuestOp}
 use Rattle.td_words.specs.declared.calls.GuestOp.TheVariants as op
 use Rattle.td_words.specs.declared.replies.Outcome.{Outcome}
+use Rattle.td_words.specs.declared.replies.Reply.{Reply}
+use Rattle.td_words.specs.declared.machines.Machine.{Machine}
 use Rattle.flat_core.specs.World.{World}
 use Rattle.flat_core.specs.Processor.{Phase, Trying, Undoing, Answered, Held, Guest, Lp}
 use Rattle.flat_core.specs.Opening.{Opening, Incoming}
-use Rattle.flat_core.specs.Row.{Row}
+use Rattle.flat_core.specs.Row.{Item, Row, Passes}
+use Rattle.flat_core.specs.Arguments.{apart_argument}
+use Rattle.flat_core.specs.PageLists.{page_count, count_argument, pages_argument, arrivals}
 use Rattle.flat_core.specs.Table.{row_of}
-use Rattle.flat_core.specs.Inputs.{input_in}
-use Rattle.flat_core.specs.ImportRows.{import_immutable, import_pages, import_token, import_td, import_vp, abort_by_token}
+use Rattle.flat_core.specs.Inputs.{Input, input_in, input_row}
+use Rattle.flat_core.specs.ImportRows.{list_says, import_conditions, import_immutable, import_pages, import_token, import_td, import_vp, abort_by_token}
 use Rattle.flat_core.specs.Guest.{operation_of}
 use Rattle.flat_core.specs.Event.{State, Event, start, event, after_event, event_for, line_event, entered_event, epoch_event, is_epoch_lock, guest_event, staying_event, due_event, operation_due, max_event, operation_event, lines_left, calls_of}
 use Rattle.flat_core.specs.Run.{play}
 use Rattle.flat_core.specs.Laws.{reached}
+use Rattle.flat_core.proofs.PageLists.{passes_behind}
 use Rattle.flat_bundles.specs.Taken.{TakesTheSame, CallsTakeTheirOwn, CallsNeedTheirOwn, RunsTakeTheirOwn, GoOnAlike, with_lines, RunsGoOnAlike}
 
 lines-take : (o : Opening) (calls : List (List Call)) (bundles : ℕ → Option Incoming) (me : ℕ) (c : Call) → TakesTheSame bundles o.bundles c → row_of (with_lines o calls bundles) me c ≡ row_of o me c
@@ -40,10 +45,18 @@ none-there bundles named slot is none there =
     let no : false ≡ true = subst (λ (b : Option Incoming). (input_in b).there ≡ true) (ap bundles same ∙ none) there in
     cc
 
+-- with any COUNT
+list-there : (m : Machine) (b : Option Incoming) (w : World) (t slot page : ℕ) (count : Option ℕ) → Passes ((import_pages m b t slot page count).items w) → (input_in b).there ≡ true
+list-there m b w t slot page count ps =
+    let x : Input = input_in b in
+    let said : List (Item Reply) = input_row x slot (3 ∷ []) ++ (list_says x.header count ++ import_conditions w t x (arrivals x.header.gpa page x.words (page_count count))) in
+    let counted = passes_behind (count_argument 4 count) (apart_argument 3 page t ∷ (pages_argument m 4 page t count ++ said)) ps.1.1 in
+    (passes_behind (pages_argument m 4 page t count) said counted.1).0
+
 pub calls-need : CallsNeedTheirOwn
 calls-need o me (call.ExportAbortByToken tdr named) slot w is none ps = none-there o.bundles named slot is none (search)
 calls-need o me (call.ImportStateImmutable tdr named) slot w is none ps = none-there o.bundles named slot is none (search)
-calls-need o me (call.ImportMem tdr named page) slot w is none ps = none-there o.bundles named slot is none (search)
+calls-need o me (call.ImportMem tdr named page) slot w is none ps = none-there o.bundles named slot is none (list-there o.machine (o.bundles named) w tdr named page None ps)
 calls-need o me (call.ImportTrack tdr named) slot w is none ps = none-there o.bundles named slot is none (search)
 calls-need o me (call.ImportStateTd tdr named) slot w is none ps = none-there o.bundles named slot is none (search)
 calls-need o me (call.ImportStateVp tdr vp named) slot w is none ps = none-there o.bundles named slot is none (search)

@@ -420,8 +420,7 @@ module _ (m : Machine) (c : Instant) (t k : ℕ) (in_tdr : t < m.pages) (la : La
     )
     ends false none =
         let first : MayChange m g w w' c.memory behind =
-        subst (λ (cs : List Change). MayChange m g w w' c.memory (cs ++ counter_changes room)) (sym (none-maps 0 pages fs none)) (((in_stream, omega arith), (KeepsNothing, counter-writes, tt)), tt) in
-        (
+        subst (λ (cs : List Change). MayChange m g w w' c.memory (cs ++ counter_changes room)) (sym (none-maps 0 pages fs none)) (((in_stream, omega arith), (KeepsNothing, counter-writes, tt)), tt) in (
           record {
             answers = answers;
             fills_allowed = tt;

@@ -143,8 +143,8 @@ module _ (m : Machine) (s : State) (t n : ℕ) (la : Lawful m s.world) (alive : 
       let here : List Change = word_puts (filling_of n at a.page e.state e.page).page a.words 0 512 in
       let rest : List Change = all_words pages (fillings n s.world t pages ats) in
       subst (λ (x : Memory). Shows m x.words x.slots (record s { world = with_words s.world t (a ∷ pages) v })) (sym (changed-append here rest mem))
-          (words-shown pages ats (page_filled s.world t a ∷ locked) (set_page (page_filled s.world t a) a.words v) (changed_all here mem) are.1 may.1 same
-          (one-shown a at v mem same sh e.state refl may.0.state may.0.host))
+      (words-shown pages ats (page_filled s.world t a ∷ locked) (set_page (page_filled s.world t a) a.words v) (changed_all here mem) are.1 may.1 same
+      (one-shown a at v mem same sh e.state refl may.0.state may.0.host))
   words-shown [] (at ∷ ats) locked v mem are may same sh = absurd are
   words-shown (a ∷ pages) [] locked v mem are may same sh = absurd are
 
@@ -252,6 +252,6 @@ module _ (m : Machine) (s : State) (t n : ℕ) where
       (tables-stay m v u t pages ats (λ q other. take-stays v t locked a q other can.0) are.1) (one-counted v a at before may low.1 count e.state can.0.host)
       (subst (λ (ws : ℕ → ℕ → ℕ). ShownIn (record u { words = ws }) (changed_all here mem)) (sym (same-words v u t pages u.words same)) stored) in
       subst (λ (x : Memory). ShownIn (take_each t pages u) x) (sym (changed-append here (taken_changes m.pages t then_ pages (fillings n v t pages ats)) mem))
-          (subst (λ fs. ShownIn (take_each t pages u) (changed_all (taken_changes m.pages t then_ pages fs) (changed_all here mem))) (same-fillings n v u t pages ats same) all)
+      (subst (λ fs. ShownIn (take_each t pages u) (changed_all (taken_changes m.pages t then_ pages fs) (changed_all here mem))) (same-fillings n v u t pages ats same) all)
   pages-stored [] (at ∷ ats) locked v mem before may apart can fit low are count sh = absurd are
   pages-stored (a ∷ pages) [] locked v mem before may apart can fit low are count sh = absurd are

@@ -190,13 +190,7 @@ fn found_import(
 }
 
 /// Where the entry is FREE: PAGE is held alone, and is the host's; and the child count is told.
-fn page_taken(
-    told: &mut Told,
-    place: Place,
-    tdr: u16,
-    page: u16,
-    at: u16,
-) -> Result<Filling, Stop>
+fn page_taken(told: &mut Told, place: Place, tdr: u16, page: u16, at: u16) -> Result<Filling, Stop>
     requires { (tdr < place.machine.pages) × (page < place.machine.pages) }
     ensures goes { Goes place.machine.pages (λ f. taken_tree tdr [] page at f) told.old.left.now told.new.left.now result }
     ensures feeds { Feeds (λ f. taken_tree tdr [] page at f) told.old.left.now told.new.left.now result }

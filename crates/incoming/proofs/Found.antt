@@ -34,7 +34,7 @@ none words (k ∷ ks) slot other =
     ∙ none words ks slot (λ i d h. other (suc i) d (omega arith))
 
 -- one that stands for none
-abbrev no_bundle : Kept
+abbrev pub no_bundle : Kept
 no_bundle = record { slot = 0; header = Err field.Short; opens = false; from = 0; to = 0 }
 
 module _ (ks : List Kept) (rise : SlotsRise ks) (slot : ℕ) where
@@ -57,3 +57,11 @@ module _ (ks : List Kept) (rise : SlotsRise ks) (slot : ℕ) where
           let below : (get_or ks j d).slot < slot = ranked _ slot _ (sym ((parted comparisons-rise).0 j d (omega (arith, in-range)) before)) in omega (arith, below, same)
       by-place j d h same (inr after) =
           let above : slot < (get_or ks j d).slot = ranked _ slot _ (sym ((parted comparisons-rise).1 j d after h)) in omega (arith, above, same)
+
+  -- where none has it, those before the place that the search gives are below it, and those from there on above
+  pub parted : (i : ℕ) → i ≤ length ks → IsBinarySearchResult (λ k. nat_cmp k.slot slot) ks (Err i)
+      → record { below : (j : ℕ) (d : Kept) → j < i → (get_or ks j d).slot < slot; above : (j : ℕ) (d : Kept) → i ≤ j → j < length ks → slot < (get_or ks j d).slot }
+  parted i in-range apart = record {
+    below = λ j d before. ranked _ slot _ (sym ((apart comparisons-rise).0 j d (omega (arith, in-range)) before));
+    above = λ j d after h. ranked _ slot _ (sym ((apart comparisons-rise).1 j d after h));
+  }

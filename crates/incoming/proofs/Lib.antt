@@ -2,4 +2,5 @@ pub mod Words
 pub mod Sealed
 pub mod Pushing
 pub mod Found
+pub mod Inserting
 pub mod Opening

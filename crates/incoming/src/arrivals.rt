@@ -51,7 +51,7 @@ impl Model for IncomingBundles {
 }
 
 impl IncomingBundles {
-    ghost use Rattle.std.specs.Prelude.{◌≡◌, ◌<◌, [], ◌∷◌, ◌++◌, map, OnOk, OnErr, All};
+    ghost use Rattle.std.specs.Prelude.{◌≡◌, ◌<◌, ℕ, [], ◌∷◌, ◌++◌, map, OnOk, OnErr, All};
     ghost use Rattle.incoming.specs.Opened.{clear_of};
     ghost use Rattle.incoming.specs.Arrivals.{at_slot};
 
@@ -103,6 +103,34 @@ impl IncomingBundles {
             from,
             to,
         }) {
+            Ok(()) => Ok(()),
+            Err(_) => Err(OutOfMemory),
+        }
+    }
+
+    /// Adds a bundle in its slot, between the others. Where that slot has one, this stays.
+    pub fn insert(&mut self, slot: u16, bundle: Incoming<'_>) -> Result<(), OutOfMemory>
+        ensures added { OnOk result ((n : ℕ) → at_slot self.new n ≡ at_slot (self.old ++ record { slot = slot; bundle = bundle.entry } ∷ []) n) }
+        ensures same { OnErr result (self.new ≡ self.old) }
+    {
+        let Err(at) = self.kept.binary_search_by_key(&slot, |kept| kept.slot) else {
+            return Ok(());
+        };
+        let from = self.words.len();
+        let Ok(()) = self.words.extend_from_slice(bundle.payload) else {
+            return Err(OutOfMemory);
+        };
+        let to = self.words.len();
+        match self.kept.insert(
+            at,
+            Kept {
+                slot,
+                header: *bundle.header,
+                opens: bundle.opens,
+                from,
+                to,
+            },
+        ) {
             Ok(()) => Ok(()),
             Err(_) => Err(OutOfMemory),
         }

@@ -4,7 +4,7 @@ ghost use Rattle.std.specs.Prelude.{◌≡◌, ◌≤◌, ◌<◌, ◌%◌, ℕ,
 ghost use Rattle.bundle_store.specs.Containers.{AreInOrder};
 ghost use Rattle.bundle_texts.specs.Sealed.{HoldKeys};
 ghost use Rattle.incoming.specs.Opened.{opened, opened_as, words_in, AreOpened};
-ghost use Rattle.incoming.specs.Arrivals.{incoming_in};
+ghost use Rattle.incoming.specs.Arrivals.{at_slot, incoming_in};
 
 use crate::arrivals::{Incoming, IncomingBundles};
 use bundle_format::{head, read_bundle};
@@ -28,6 +28,24 @@ pub fn open_bundles(
         add_opened(alloc, keys, bundle.slot, &bundle.bytes, &mut incoming)?;
     }
     Ok(incoming)
+}
+
+/// Opens one more bundle, and adds it in its slot. Where that slot has one, this stays.
+pub fn open_one_more(
+    alloc: Global,
+    keys: &Keys,
+    bundle: &SlotBundle,
+    incoming: &mut IncomingBundles,
+) -> Result<(), OutOfMemory>
+    requires { length bundle.now.bytes ≤ 131072 }
+    ensures { (forward backward : List ℕ) → HoldKeys keys.now forward backward → OnOk result ((n : ℕ) → at_slot incoming.new n ≡ at_slot (incoming.old ++ incoming_in forward backward bundle.now ∷ []) n) }
+{
+    let mut one = IncomingBundles::new(alloc);
+    add_opened(alloc, keys, bundle.slot, &bundle.bytes, &mut one)?;
+    let Some(opened) = one.get(u64::from(bundle.slot)) else {
+        unreachable!()
+    };
+    incoming.insert(bundle.slot, opened)
 }
 
 /// Opens a bundle and adds it.

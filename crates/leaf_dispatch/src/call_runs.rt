@@ -23,7 +23,7 @@ impl<'a> CallRun<'a> {
     ghost use Rattle.leaf_dispatch.specs.Pausing.{AreWithoutInput, AreWithInput};
 
     /// The same run, as far as it is, without the bundle that its leaf was given, so that nothing is borrowed.
-    pub fn without_input(self) -> CallRun<'static>
+    pub fn without_input<'b>(self) -> CallRun<'b>
         ensures host { result.host ≡ self.entry.host }
         ensures other { AreWithoutInput self.entry.other result.other }
     {

@@ -45,7 +45,7 @@ impl<'a> Running<'a> {
     ghost use Rattle.leaf_dispatch.specs.Pausing.{IsWithoutInput, IsWithInput};
 
     /// The same run, as far as it is, without the bundle that its leaf was given, so that nothing is borrowed.
-    pub fn without_input(self) -> Running<'static>
+    pub fn without_input<'b>(self) -> Running<'b>
         ensures { IsWithoutInput self.entry result }
     {
         let Running { run } = self;

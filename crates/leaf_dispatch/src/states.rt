@@ -214,6 +214,13 @@ impl<'a> LpState<'a> {
         }
     }
 
+    /// Its calls from the present one on.
+    pub fn lines(&self) -> &'a [Call]
+        ensures { result.now ≡ (seen_of self.now).lines }
+    {
+        self.lines
+    }
+
     /// One for each call that is done, in order.
     pub fn replies(&self) -> &[Reply]
         ensures { result.now ≡ (seen_of self.now).replies }

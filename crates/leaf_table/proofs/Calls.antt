@@ -1,5 +1,5 @@
 -- The table's leaves, call by call and step by step.
-use Rattle.std.proofs.Common.{◌≡◌, ℕ, zero, suc, ◌^◌, ◌<◌, ◌≤◌, Bool, true, false, if◌then◌else◌, Option, List, [], slice_index, refl, sym, ◌∙◌, ap, subst, arith}
+use Rattle.std.proofs.Common.{◌≡◌, ℕ, zero, suc, ◌^◌, ◌<◌, ◌≤◌, Bool, true, false, if◌then◌else◌, Option, None, List, [], slice_index, refl, sym, ◌∙◌, ap, subst, arith}
 use Rattle.td_words.specs.declared.machines.Machine.{Machine}
 use Rattle.td_words.specs.declared.names.Access.{Access}
 use Rattle.td_words.specs.declared.names.Access.TheVariants.{Read, Write}
@@ -223,7 +223,7 @@ means g p (call.ExportStateTd tdr slot) m = td_state-means p tdr slot
 means g p (call.ExportStateVp tdr vp slot) m = vp_state-means p tdr vp slot (let few = m.pages.1 in omega arith)
 means g p (call.ExportAbortByToken tdr slot) m = abort_by_token-means p (g.bundles slot) tdr slot
 means g p (call.ImportStateImmutable tdr slot) m = import_immutable-means p (g.bundles slot) tdr slot
-means g p (call.ImportMem tdr slot page) m = page_import-means p (g.bundles slot) tdr slot page m
+means g p (call.ImportMem tdr slot page) m = page_import-means p (g.bundles slot) tdr slot page None m
 means g p (call.ImportTrack tdr slot) m = import_token-means p (g.bundles slot) tdr slot
 means g p (call.ImportStateTd tdr slot) m = import_td-means p (g.bundles slot) tdr slot
 means g p (call.ImportStateVp tdr vp slot) m = import_vp-means p (g.bundles slot) tdr vp slot (let few = m.pages.1 in omega arith)

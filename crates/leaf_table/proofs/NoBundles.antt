@@ -1,5 +1,5 @@
 -- The leaves that make no bundle, and those that report nothing.
-use Rattle.std.proofs.Common.{◌≡◌, ℕ, ◌-◌, List, [], Option, Some, None, true, false, Bool, refl, ap, ◌∙◌}
+use Rattle.std.proofs.Common.{◌≡◌, ℕ, ◌-◌, List, [], ◌∷◌, Option, Some, None, true, false, Bool, refl, ap, ◌∙◌}
 use Rattle.report_core.specs.declared.facts.Facts.{Facts}
 use Rattle.td_words.specs.declared.names.Access.{Access}
 use Rattle.td_words.specs.declared.names.Access.TheVariants.{Read, Write}
@@ -32,7 +32,8 @@ use Rattle.mem_remove.specs.declared.sept_removals.Table.{Table}
 use Rattle.mem_remove.specs.RemoveTrees.{scan_tree, given_tree}
 use Rattle.mem_remove.specs.RemoveStages.{table_rest, scanned, rest_of as sept_rest_of}
 use Rattle.import_pages.specs.declared.page_imports.Importing.{Importing}
-use Rattle.import_pages.specs.PageImportTrees.{end_by}
+use Rattle.import_pages.specs.PageImportTrees.{any_taken, end_where}
+use Rattle.leaf_engine.specs.Changes.{Change}
 use Rattle.import_pages.specs.PageImportStages.{rest_of as import_rest_of}
 use Rattle.import_states.specs.TdImportTrees.{td_import_tree}
 use Rattle.leaf_table.specs.Ends.{Ends, with_report, step_answer, step_reports, call_answer, call_makes, call_ends, step_tries, step_ends, EndsBy, EndsAs}
@@ -241,13 +242,13 @@ sept-bare p tdr gpa level (Some n) seen used told later = scanned-bare p.machine
 pub import_td-bare : (p : Place) (b : Option Incoming) (tdr slot : ℕ) (told : List ℕ) → IsBare (feed (td_import_tree p.machine (input_in b) tdr slot) told)
 import_td-bare p b tdr slot told = taking-bare b p (call.ImportStateTd tdr slot) told refl
 
-filled-bare : (pages tdr gpa : ℕ) (ws : ℕ → ℕ) (y : Importing) (o : Option ℕ) → IsBare (end_by pages tdr gpa ws y o)
-filled-bare pages tdr gpa ws y (Some n) = (refl, refl)
-filled-bare pages tdr gpa ws y None = (refl, refl)
+filled-bare : (b : Bool) (words behind : List Change) → IsBare (end_where b words behind)
+filled-bare true words behind = (refl, refl)
+filled-bare false words behind = (refl, refl)
 
 pub page_import-bare : (p : Place) (b : Option Incoming) (tdr slot page : ℕ) (o : Option Importing) (told : List ℕ) → IsBare (import_rest_of p.machine (input_in b) tdr slot page o told)
 page_import-bare p b tdr slot page None told = taking-bare b p (call.ImportMem tdr slot page) told refl
-page_import-bare p b tdr slot page (Some y) told = filled-bare p.machine.pages tdr (input_in b).header.gpa (input_in b).words y y.children
+page_import-bare p b tdr slot page (Some y) told = filled-bare (any_taken (y.filling ∷ [])) _ _
 
 -- those that make a bundle report nothing, and a report makes none
 pub state_td-quiet : (p : Place) (tdr slot : ℕ) (told : List ℕ) → IsQuiet (feed (td_tree p.machine tdr slot) told)

@@ -12,7 +12,7 @@ use Rattle.leaf_parts.specs.Arguments.{checked, two_pages}
 use Rattle.import_parts.specs.InputTrees.{input_tree}
 use Rattle.import_core.specs.TokenTrees.{import_token_task}
 use Rattle.import_core.specs.TokenAbortTrees.{abort_by_token_task}
-use Rattle.import_pages.specs.PageImportTrees.{page_import_arguments, page_import_task}
+use Rattle.import_pages.specs.PageImportTrees.{page_import_arguments, page_import_tree, page_import_task}
 use Rattle.import_states.specs.BeginImportTrees.{import_immutable_task}
 use Rattle.import_states.specs.TdImportTrees.{import_td_task}
 use Rattle.import_states.specs.VpImportTrees.{import_vp_task}
@@ -47,9 +47,10 @@ plan-refuses (plan.ImportImmutable l) = has-or-refuses l.input (λ b. (import_im
 plan-refuses (plan.ImportVp l) = has-or-refuses l.input (λ b. (import_vp_task l.place b l.tdr l.vp l.slot).tree) (none-refuses (two_pages l.place.machine l.tdr l.vp) l.slot [] (done [] []))
 
 pub leaf-refuses : (l : AnyLeaf) → HasBundle l ⊎ Refuses (settle (leaf_seen l).task.tree)
+unfolding page_import_tree
 leaf-refuses (leaf.ByBundle l) = plan-refuses l.plan
 leaf-refuses (leaf.ImportTd l) = has-or-refuses l.input (λ b. (import_td_task l.place b l.tdr l.slot).tree) (none-refuses ((nat_lt l.tdr l.place.machine.pages, OperandInvalid 1) ∷ []) l.slot [] (done [] []))
-leaf-refuses (leaf.PageImport l) = has-or-refuses l.input (λ b. (page_import_task l.place b l.tdr l.slot l.page).tree) (none-refuses (page_import_arguments l.place.machine l.tdr l.page) l.slot [] (done [] []))
+leaf-refuses (leaf.PageImport l) = has-or-refuses l.input (λ b. (page_import_task l.place b l.tdr l.slot l.page None).tree) (none-refuses (page_import_arguments l.place.machine l.tdr l.page None) l.slot [] (done [] []))
 leaf-refuses (leaf.ByPlan l) = inl refl
 leaf-refuses (leaf.Extend l) = inl refl
 leaf-refuses (leaf.SeptRemove l) = inl refl

@@ -89,8 +89,8 @@ use Rattle.export_states.specs.VpStateTrees.{vp_changes, vp_state_tree, register
 use Rattle.import_parts.specs.InputTrees.{tag_tree}
 use Rattle.import_core.specs.TokenTrees.{import_token_task}
 use Rattle.import_core.specs.AbortTrees.{import_abort_task}
-use Rattle.import_pages.specs.declared.page_imports.Importing.{Importing}
-use Rattle.import_pages.specs.PageImportTrees.{to_fill_tree, found_rest, end_by, page_import_end, page_import_task}
+use Rattle.import_pages.specs.declared.page_imports.Filling.{Filling}
+use Rattle.import_pages.specs.PageImportTrees.{to_fill_tree, found_rest, any_taken, arriving, end_where, page_import_end, page_import_tree, page_import_task}
 use Rattle.mem_build.specs.PageAugTrees.{page_aug_mapping}
 use Rattle.mem_build.specs.PageAddTrees.{page_add_tree, pages_tree, addition_end}
 use Rattle.mem_build.specs.ExtendTrees.{words_tree, measured_tree, measure_tree}
@@ -261,25 +261,28 @@ import_token-few p b tdr slot = (
 )
 
 -- a page that comes in
-filled-few : (tdr page at : ℕ) (room : Room) (s : EntryState) (named : ℕ) (k : Importing → Tree) → ((y : Importing) → TriesAtMost 0 (k y)) → TriesAtMost 1 (to_fill_tree tdr page at room s named k)
-filled-few tdr page at room entry.Free named k few = (omega arith, λ pamt children. few _)
-filled-few tdr page at room _ named k few = (omega arith, few _)
+filled-few : (tdr page at : ℕ) (s : EntryState) (named : ℕ) (k : Filling → Tree) → ((f : Filling) → TriesAtMost 0 (k f)) → TriesAtMost 1 (to_fill_tree tdr [] page at s named k)
+filled-few tdr page at entry.Free named k few = (omega arith, λ pamt children. few _)
+filled-few tdr page at _ named k few = (omega arith, few _)
 
-imported-few : (pages tdr gpa : ℕ) (ws : ℕ → ℕ) (y : Importing) (o : Option ℕ) → TriesAtMost 0 (end_by pages tdr gpa ws y o)
-imported-few pages tdr gpa ws y (Some n) = refl
-imported-few pages tdr gpa ws y None = refl
+imported-few : (b : Bool) (words behind : List Change) → TriesAtMost 0 (end_where b words behind)
+imported-few true words behind = refl
+imported-few false words behind = refl
 
-page_import-few : (p : Place) (b : Option Incoming) (tdr slot page : ℕ) → TriesAtMost 4 (page_import_task p b tdr slot page).tree
+page_import-few : (p : Place) (b : Option Incoming) (tdr slot page : ℕ) → TriesAtMost 4 (page_import_task p b tdr slot page None).tree
+unfolding page_import_tree
 page_import-few p b tdr slot page =
     let x : Input = input_in b in
-    let k : Importing → Tree = λ y. tag_tree x (page_import_end p.machine tdr x y) in (
+    let k : Room → Filling → Tree = λ room f. tag_tree x (page_import_end p.machine tdr (arriving x page None) room (f ∷ [])) in (
       omega arith,
       λ pamt life count tdcs. (
         omega arith,
         λ op. (
           omega arith,
-          λ streams session epoch stream counter. find-few 1 p.machine.pages tdr x.header.gpa 0 (λ (f : Found). found_rest tdr page (record { page = page_told p.machine.pages stream; counter = counter }) f k)
-              (λ f. filled-few tdr page f.page (record { page = page_told p.machine.pages stream; counter = counter }) f.entry.state f.entry.page k (λ y. imported-few p.machine.pages tdr x.header.gpa x.words y y.children)),
+          λ streams session epoch stream counter.
+              (let room : Room = record { page = page_told p.machine.pages stream; counter = counter } in
+              find-few 1 p.machine.pages tdr x.header.gpa 0 (λ (f : Found). found_rest tdr [] page f (k room))
+              (λ f. filled-few tdr page f.page f.entry.state f.entry.page (k room) (λ y. imported-few (any_taken (y ∷ [])) _ _))),
         ),
       ),
     )
@@ -631,6 +634,7 @@ unfolding page_add_tree
 page_add-begins m t gpa page source = refl
 
 pub begins_other : (g : Given) (p : Place) (c : Call) → BeginsUnderOther (task_of g p c).tree
+unfolding page_import_tree
 begins_other g p (call.HostRead page word) = refl
 begins_other g p (call.HostWrite page word value) = refl
 begins_other g p (call.PhymemPageRdmd page) = refl

@@ -1,5 +1,5 @@
 -- What contracts see of a leaf of any call.
-use Rattle.std.specs.Prelude.{ℕ, ◌+◌, ◌-◌, ◌*◌, Bool, if◌then◌else◌, List, Option, length}
+use Rattle.std.specs.Prelude.{ℕ, ◌+◌, ◌-◌, ◌*◌, Bool, if◌then◌else◌, List, Option, None, length}
 use Rattle.flat_core.specs.Opening.{Incoming}
 use Rattle.flat_core.specs.Inputs.{input_in}
 use Rattle.leaf_engine.specs.declared.plans.TheConstants.{ANSWERS}
@@ -64,7 +64,7 @@ td_seen b l = record {
 
 abbrev pub page_seen : Option Incoming → PageImport → LeafSeen
 page_seen b l = record {
-  task = page_import_task l.place b l.tdr l.slot l.page;
+  task = page_import_task l.place b l.tdr l.slot l.page None;
   rest = import_rest_of l.place.machine (input_in b) l.tdr l.slot l.page l.importing l.told.items;
   written = l.written;
   waits = l.waits;
@@ -136,4 +136,4 @@ leaves-mean (leaf.StateTd l) = td_state-means l.place l.tdr l.slot
 leaves-mean (leaf.PageExport l) = page_export-means l.place l.tdr l.gpa l.stream l.slot l.machine
 leaves-mean (leaf.Report l) = report-means l.place l.tdr l.vp l.line
 leaves-mean (leaf.ImportTd l) = import_td-means l.place l.input l.tdr l.slot
-leaves-mean (leaf.PageImport l) = page_import-means l.place l.input l.tdr l.slot l.page l.machine
+leaves-mean (leaf.PageImport l) = page_import-means l.place l.input l.tdr l.slot l.page None l.machine

@@ -1,5 +1,5 @@
 -- The table from calls, and from steps of guests, to their leaves.
-use Rattle.std.specs.Prelude.{ℕ, List, [], ◌∷◌, ◌==◌, ◌&&◌, if◌then◌else◌}
+use Rattle.std.specs.Prelude.{ℕ, None, List, [], ◌∷◌, ◌==◌, ◌&&◌, if◌then◌else◌}
 use Rattle.td_words.specs.Seen.{CodeSeen}
 use Rattle.td_words.specs.declared.machines.Machine.{Machine}
 use Rattle.td_words.specs.declared.names.Access.{Access}
@@ -104,7 +104,7 @@ task_of g p (call.ExportStateTd tdr slot) = td_state_task p tdr slot
 task_of g p (call.ExportStateVp tdr vp slot) = vp_state_task p tdr vp slot
 task_of g p (call.ExportAbortByToken tdr slot) = abort_by_token_task p (g.bundles slot) tdr slot
 task_of g p (call.ImportStateImmutable tdr slot) = import_immutable_task p (g.bundles slot) tdr slot
-task_of g p (call.ImportMem tdr slot page) = page_import_task p (g.bundles slot) tdr slot page
+task_of g p (call.ImportMem tdr slot page) = page_import_task p (g.bundles slot) tdr slot page None
 task_of g p (call.ImportTrack tdr slot) = import_token_task p (g.bundles slot) tdr slot
 task_of g p (call.ImportStateTd tdr slot) = import_td_task p (g.bundles slot) tdr slot
 task_of g p (call.ImportStateVp tdr vp slot) = import_vp_task p (g.bundles slot) tdr vp slot

@@ -12,7 +12,7 @@ ghost use Rattle.leaf_table.specs.Steps.{step_seen};
 ghost use Rattle.leaf_table.specs.PageRooms.{is_page_export, is_spare, leaf_room};
 ghost use Rattle.leaf_table.specs.Given.{Given as Inputs, given_in};
 ghost use Rattle.leaf_table.specs.BundlePlans.{plan_input, plan_slot, bundle_plan_task};
-ghost use Rattle.leaf_table.specs.Origins.{TakesFrom};
+ghost use Rattle.leaf_table.specs.Origins.{bundle_at, TakesFrom};
 ghost use Rattle.leaf_table.specs.Table.{task_of, operation_task, step_task};
 
 use crate::bundle_plans::BundlePlan;
@@ -32,6 +32,7 @@ use export_tokens::Token;
 use import_core::{AbortByToken, Commit, ImportAbort, ImportEnd, ImportToken};
 use import_pages::PageImport;
 use import_states::{ImportImmutable, ImportTd, ImportVp};
+use incoming::Incoming;
 use key_table::{CacheWb, FlushDone, FreeId, Reclaim};
 use leaf_engine::{Leaf, Need, Place, Planned, Write};
 use leaf_parts::page_told;
@@ -127,32 +128,32 @@ impl<'a> Leaf for AnyLeaf<'a> {
 }
 
 impl<'a> AnyLeaf<'a> {
-    ghost use Rattle.std.specs.Prelude.{Option};
-    ghost use Rattle.flat_core.specs.Opening.{Incoming};
+    ghost use Rattle.std.specs.Prelude.{Option, None, is_some};
+    ghost use Rattle.flat_core.specs.Opening.{Incoming as Arrived};
     ghost use Rattle.leaf_table.specs.Leaves.{leaf_seen, seen_with};
-    ghost use Rattle.leaf_table.specs.Origins.{slot_in, bundle_for, TakesFrom};
+    ghost use Rattle.leaf_table.specs.Origins.{slot_in, bundle_in, bundle_for, TakesFrom};
     ghost use Rattle.leaf_table.specs.PageRooms.{has_words};
 
-    /// The same leaf, as far as it is, without the bundle that it was given, so that nothing is borrowed.
-    pub fn without_input(self) -> AnyLeaf<'static>
-        ensures seen { (b : Option Incoming) → seen_with b result ≡ seen_with b self.entry }
+    /// The slot that its call names, if it takes a bundle.
+    fn slot(&self) -> Option<u64>
+        ensures { result ≡ slot_in self.now }
+    {
+        match self {
+            AnyLeaf::ByBundle(leaf) => Some(leaf.plan().slot()),
+            AnyLeaf::ImportTd(leaf) => Some(leaf.slot()),
+            AnyLeaf::PageImport(leaf) => Some(leaf.slot()),
+            _ => None,
+        }
+    }
+
+    /// The same leaf, as far as it is, without the bundle that it was given, so that nothing is borrowed: it stands for as
+    /// long as one likes.
+    pub fn without_input<'b>(self) -> AnyLeaf<'b>
+        ensures seen { (b : Option Arrived) → seen_with b result ≡ seen_with b self.entry }
         ensures slot { slot_in result ≡ slot_in self.entry }
         ensures words { has_words result ≡ has_words self.entry }
     {
-        match self {
-            AnyLeaf::ByPlan(leaf) => AnyLeaf::ByPlan(leaf),
-            AnyLeaf::ByBundle(leaf) => {
-                let (plan, progress) = leaf.into_parts();
-                AnyLeaf::ByBundle(Planned::resumed(plan.with_input(None), progress))
-            }
-            AnyLeaf::Extend(leaf) => AnyLeaf::Extend(leaf),
-            AnyLeaf::SeptRemove(leaf) => AnyLeaf::SeptRemove(leaf),
-            AnyLeaf::StateTd(leaf) => AnyLeaf::StateTd(leaf),
-            AnyLeaf::PageExport(leaf) => AnyLeaf::PageExport(leaf),
-            AnyLeaf::Report(leaf) => AnyLeaf::Report(leaf),
-            AnyLeaf::ImportTd(leaf) => AnyLeaf::ImportTd(leaf.with_input(None)),
-            AnyLeaf::PageImport(leaf) => AnyLeaf::PageImport(leaf.with_input(None)),
-        }
+        self.with_input(None)
     }
 
     /// The same leaf, as far as it is, with the bundle that its slot has here, if its call takes one.
@@ -162,11 +163,22 @@ impl<'a> AnyLeaf<'a> {
         ensures takes { TakesFrom (given_in given.entry) result }
         ensures words { has_words result ≡ has_words self.entry }
     {
+        let input = bundle_at(given, self.slot());
+        self.with_input(input)
+    }
+
+    // The same leaf, as far as it is, with this bundle in place of its own, if its call takes one.
+    fn with_input<'b>(self, input: Option<Incoming<'b>>) -> AnyLeaf<'b>
+        ensures seen { (b : Option Arrived) → seen_with b result ≡ seen_with b self.entry }
+        ensures slot { slot_in result ≡ slot_in self.entry }
+        ensures input { is_some (slot_in self.entry) ≡ true → bundle_in result ≡ input.entry }
+        ensures none { is_some (slot_in self.entry) ≡ false → bundle_in result ≡ None }
+        ensures words { has_words result ≡ has_words self.entry }
+    {
         match self {
             AnyLeaf::ByPlan(leaf) => AnyLeaf::ByPlan(leaf),
             AnyLeaf::ByBundle(leaf) => {
                 let (plan, progress) = leaf.into_parts();
-                let input = given.bundles.get(plan.slot());
                 AnyLeaf::ByBundle(Planned::resumed(plan.with_input(input), progress))
             }
             AnyLeaf::Extend(leaf) => AnyLeaf::Extend(leaf),
@@ -174,14 +186,8 @@ impl<'a> AnyLeaf<'a> {
             AnyLeaf::StateTd(leaf) => AnyLeaf::StateTd(leaf),
             AnyLeaf::PageExport(leaf) => AnyLeaf::PageExport(leaf),
             AnyLeaf::Report(leaf) => AnyLeaf::Report(leaf),
-            AnyLeaf::ImportTd(leaf) => {
-                let input = given.bundles.get(leaf.slot());
-                AnyLeaf::ImportTd(leaf.with_input(input))
-            }
-            AnyLeaf::PageImport(leaf) => {
-                let input = given.bundles.get(leaf.slot());
-                AnyLeaf::PageImport(leaf.with_input(input))
-            }
+            AnyLeaf::ImportTd(leaf) => AnyLeaf::ImportTd(leaf.with_input(input)),
+            AnyLeaf::PageImport(leaf) => AnyLeaf::PageImport(leaf.with_input(input)),
         }
     }
 
@@ -217,6 +223,16 @@ impl<'a> AnyLeaf<'a> {
             AnyLeaf::ImportTd(_) => None,
             AnyLeaf::PageImport(_) => None,
         }
+    }
+}
+
+// The bundle of a slot, of those that are given.
+fn bundle_at<'b>(given: Given<'b>, slot: Option<u64>) -> Option<Incoming<'b>>
+    ensures { result ≡ bundle_at (given_in given.entry) slot }
+{
+    match slot {
+        Some(slot) => given.bundles.get(slot),
+        None => None,
     }
 }
 

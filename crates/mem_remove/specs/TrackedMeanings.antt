@@ -20,7 +20,7 @@ use Rattle.flat_core.specs.Locks.{one_if}
 use Rattle.flat_core.specs.Row.{Item, Row}
 use Rattle.flat_core.specs.Access.{LawfulEpochs}
 use Rattle.flat_core.specs.Lawful.{Lawful, IsPageOf, ArePagesOf}
-use Rattle.flat_core.specs.Tracking.{entry_epochs, entered_at, is_tracked, tracked_page, previous_count}
+use Rattle.flat_core.specs.Tracking.{tracked, entry_epochs, entered_at, is_tracked, tracked_block, tracked_page, previous_count}
 use Rattle.flat_core.proofs.Tests.{by_test}
 use Rattle.word_rules.specs.Lines.{in_lines}
 use Rattle.word_rules.specs.Rules.{Class, EpochCount, Whole, reads, sees}
@@ -37,7 +37,7 @@ use Rattle.leaf_parts.proofs.Told.{pamt-shown, tdcs-shown, owner-small}
 use Rattle.tlb_epochs.specs.Epochs.{IsNear}
 use Rattle.tlb_epochs.proofs.Counted.{far, next_to}
 use Rattle.tlb_epochs.proofs.Entries.{counts}
-use Rattle.mem_remove.specs.TrackedTrees.{blocked_told, other_parity, previous_tree, tracked_from, tracked_tree}
+use Rattle.mem_remove.specs.TrackedTrees.{blocked_told, other_parity, previous_tree, tracked_from, block_tree, tracked_tree}
 
 -- BEPOCH, read back
 kind-small : (k : PageKind) → kind_number k < 16
@@ -164,32 +164,36 @@ module _ (m : Machine) (c : Instant) (row : Row) (t : ℕ) (hs : List Held) (la 
   pub previous-means : (further : ℕ → Tree) (rest : List (Item Reply)) → ((count == 0) ≡ false → has_acted (further count) ≡ true) → Means m c k hs (further count) rest → Means m c k hs (previous_tree d e further) rest
   previous-means further rest acts h = ((y.controls.tdcs_in, inside), count-loads further acts, subst (λ (n : ℕ). Means m c k hs (further n) rest) (sym count-told) h)
 
-  -- the block of a page that is held
-  module _ (limit : m.pages < 65536) (p : ℕ) (in_page : p < m.pages) (page_held : holds (hs ++ c.kept) (OfPage p) ≡ true) (further : Tree) (rest : List (Item Reply)) (h : is_tracked w t p ≡ true → Means m c k hs further rest) where
-    abbrev blocked : ℕ
-    blocked = c.state.world.pages.blocked p
+  -- a block at an epoch
+  module _ (blocked : ℕ) (further : Tree) (rest : List (Item Reply)) where
+    abbrev is_past : Bool
+    is_past = tracked blocked (c.state.world.tds.epochs t) (entry_epochs c.state.world.vps.entered (c.state.world.tds.vps t))
 
-    next-is : (blocked + 1 == e) ≡ true → (count == 0) ≡ is_tracked w t p
+    next-is : (blocked + 1 == e) ≡ true → (count == 0) ≡ is_past
     next-is same = (let is : blocked + 1 ≡ e = eqb-true (blocked + 1) e same in
         next_to blocked e count (omega (arith, is)) (omega (arith, is)) (entry_epochs w.vps.entered (w.tds.vps t)) near (counts.count w t))
 
-    far-is : (blocked + 1 == e) ≡ false → nat_lt blocked e ≡ is_tracked w t p
+    far-is : (blocked + 1 == e) ≡ false → nat_lt blocked e ≡ is_past
     far-is differ = by_test (nat_lt blocked e)
         (λ below. (let less : blocked < e = ltb-true blocked e below in let not : blocked + 1 ≡ e → ⊥ = eqb-false (blocked + 1) e differ in
         below ∙ far blocked e less (omega (arith, less, not)) (entry_epochs w.vps.entered (w.tds.vps t)) near))
         (λ n. rw n refl)
 
-    from-means : (x : Bool) → (blocked + 1 == e) ≡ x → Means m c k hs (tracked_from x d blocked e further) (tracked_page w t p ∷ rest)
-    from-means true same = previous-means (λ n. tree.needs (n == 0) TlbTrackingNotDone further) (tracked_page w t p ∷ rest) (λ some. rw some refl) (next-is same, λ f. refl, h)
-    from-means false differ = (far-is differ, λ f. refl, h)
+    module _ (h : is_past ≡ true → Means m c k hs further rest) where
+      from-means : (x : Bool) → (blocked + 1 == e) ≡ x → Means m c k hs (tracked_from x d blocked e further) (tracked_block w t blocked ∷ rest)
+      from-means true same = previous-means (λ n. tree.needs (n == 0) TlbTrackingNotDone further) (tracked_block w t blocked ∷ rest) (λ some. rw some refl) (next-is same, λ f. refl, h)
+      from-means false differ = (far-is differ, λ f. refl, h)
 
-    blocked-is : blocked_told (c.memory.words (place.Pamt p)) ≡ blocked
+      pub block-means : Means m c k hs (block_tree d blocked further) (tracked_block w t blocked ∷ rest)
+      block-means = epoch-told-means (λ n. tracked_from (blocked + 1 == n) d blocked n further) (tracked_block w t blocked ∷ rest) (from-means (blocked + 1 == e) refl)
+
+  -- the block of a page that is held
+  module _ (limit : m.pages < 65536) (p : ℕ) (in_page : p < m.pages) (page_held : holds (hs ++ c.kept) (OfPage p) ≡ true) (further : Tree) (rest : List (Item Reply)) (h : is_tracked w t p ≡ true → Means m c k hs further rest) where
+    abbrev blocked : ℕ
+    blocked = c.state.world.pages.blocked p
+
+    pub blocked-is : blocked_told (c.memory.words (place.Pamt p)) ≡ blocked
     blocked-is = ap blocked_told (pamt-shown m c.memory.words c.memory.slots c.state sh p in_page) ∙ blocked-back (w.pages.kinds p) (w.pages.owners p) blocked (owner-small m w p la limit)
 
     pub tracked-means : Means m c k hs (tracked_tree d p further) (tracked_page w t p ∷ rest)
-    tracked-means = (
-      in_page,
-      inl (inl (page_held, tt)),
-      subst (λ (x : ℕ). Means m c k hs (Load Whole (place.Word d TDCS_EPOCH) (λ n. tracked_from (x + 1 == n) d x n further)) (tracked_page w t p ∷ rest)) (sym blocked-is)
-          (epoch-told-means (λ n. tracked_from (blocked + 1 == n) d blocked n further) (tracked_page w t p ∷ rest) (from-means (blocked + 1 == e) refl)),
-    )
+    tracked-means = (in_page, inl (inl (page_held, tt)), subst (λ (x : ℕ). Means m c k hs (block_tree d x further) (tracked_page w t p ∷ rest)) (sym blocked-is) (block-means blocked further rest h))

@@ -24,9 +24,10 @@ abbrev pub tracked_from : (is_previous : Bool) → (tdcs blocked epoch : ℕ) �
 tracked_from true tdcs blocked epoch further = previous_tree tdcs epoch (λ count. needs (count == 0) TlbTrackingNotDone further)
 tracked_from false tdcs blocked epoch further = needs (nat_lt blocked epoch) TlbTrackingNotDone further
 
--- the block of a page is tracked
+-- a block at that epoch is tracked
+abbrev pub block_tree : (tdcs blocked : ℕ) → Tree → Tree
+block_tree tdcs blocked further = Load Whole (place.Word tdcs TDCS_EPOCH) (λ epoch. tracked_from (blocked + 1 == epoch) tdcs blocked epoch further)
+
+-- and that of a page
 abbrev pub tracked_tree : (tdcs page : ℕ) → Tree → Tree
-tracked_tree tdcs page further =
-    Load Whole (place.Pamt page) (λ pamt.
-    Load Whole (place.Word tdcs TDCS_EPOCH) (λ epoch.
-    tracked_from (blocked_told pamt + 1 == epoch) tdcs (blocked_told pamt) epoch further))
+tracked_tree tdcs page further = Load Whole (place.Pamt page) (λ pamt. block_tree tdcs (blocked_told pamt) further)

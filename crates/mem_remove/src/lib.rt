@@ -20,5 +20,5 @@ pub use metadata_reads::Rdmd;
 pub use named_entries::{Named, epoch_lock, find_named, taken};
 pub use removals::{PageRemove, REMOVED};
 pub use sept_removals::SeptRemove;
-pub use tracked_blocks::tracked;
+pub use tracked_blocks::{tracked, tracked_block};
 pub use trackings::Track;

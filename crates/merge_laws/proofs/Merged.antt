@@ -179,12 +179,10 @@ module _ (ls : Laws) (o : Opening) (trees : Trees) (s : State) (mem : Memory) (t
   next-piece : RestOf o trees p (pos p) (piece ∷ ps) end_ → Came o trees p s t pos piece ps end_
   next-piece rest = next-by-fill (pos p).fill refl rest
 
--- what is known of the state after an event
+-- what is known of each state of a run
 
 pub known-of : (ls : Laws) (o : Opening) (schedule : List ℕ) (s : State) → length o.calls ≤ 8 → s ≡ play o schedule (start o None) → s.lp_count ≡ length o.calls → s.world.outgoing.to_tell ≡ None → Known o s
 known-of ls o schedule s most is count tell = record {
-  schedule = schedule;
-  reached = is;
   count = count;
   lawful = subst (λ (z : State). Lawful o.machine z.world) (sym is) (ls.lawful o None schedule);
   exclusive = subst (λ (z : State). IsExclusive z) (sym is) (λ l. ls.exclude o None schedule l);
@@ -196,19 +194,36 @@ known-of ls o schedule s most is count tell = record {
   later = λ p. subst (λ (z : State). Facts (event o z p)) (sym is) (subst (λ (z : State). Facts z) (play_append o schedule (p ∷ []) (start o None)) (ls.facts o (schedule ++ p ∷ [])));
 }
 
-known-next : (ls : Laws) (o : Opening) (s : State) (p : ℕ) → length o.calls ≤ 8 → Known o s → Known o (event o s p)
-known-next ls o s p most known =
-    known-of ls o (known.schedule ++ p ∷ []) (event o s p) most (ap (λ (z : State). event o z p) known.reached ∙ sym (play_append o known.schedule (p ∷ []) (start o None)))
-    (count_stays o s p ∙ known.count) (ls.tell o s p known.nothing_to_tell)
+-- What is known of each state of which this is so, and so after each event.
+pub record Tells (o : Opening) (So : State → Type 0) : Type 0 where
+  pub known : (s : State) → So s → Known o s
+  pub next : (s : State) (p : ℕ) → So s → So (event o s p)
 
-known-after : (ls : Laws) (o : Opening) (s : State) (p : ℕ) (piece : Piece) → length o.calls ≤ 8 → Known o s → Known o (state_after o s p piece)
-known-after ls o s p (Unmarked x) most known = known
-known-after ls o s p (Marked x) most known = known-next ls o s p most known
-known-after ls o s p Wordless most known = known-next ls o s p most known
+-- a run has reached it
+pub record IsReached (o : Opening) (s : State) : Type 0 where
+  pub schedule : List ℕ
+  pub is : s ≡ play o schedule (start o None)
+  pub count : s.lp_count ≡ length o.calls
+  pub nothing_to_tell : s.world.outgoing.to_tell ≡ None
+
+pub runs-tell : (ls : Laws) (o : Opening) → length o.calls ≤ 8 → Tells o (IsReached o)
+runs-tell ls o most = record {
+  known = λ s h. known-of ls o h.schedule s most h.is h.count h.nothing_to_tell;
+  next = λ s p h. record {
+    schedule = h.schedule ++ p ∷ [];
+    is = ap (λ (z : State). event o z p) h.is ∙ sym (play_append o h.schedule (p ∷ []) (start o None));
+    count = count_stays o s p ∙ h.count;
+    nothing_to_tell = ls.tell o s p h.nothing_to_tell;
+  };
+}
+
+so-after : (o : Opening) (So : State → Type 0) → Tells o So → (s : State) (p : ℕ) (piece : Piece) → So s → So (state_after o s p piece)
+so-after o So tells s p (Unmarked x) so = so
+so-after o So tells s p (Marked x) so = tells.next s p so
+so-after o So tells s p Wordless so = tells.next s p so
 
 -- after all pieces
 pub record Through (o : Opening) (trees : Trees) (s : State) (u : Table) (ends : ℕ → WordLp) : Type 0 where
-  pub known : Known o s
   pub memory : Memory
   pub table : Table
   pub pos : ℕ → Position
@@ -233,16 +248,19 @@ part-other i is k e = ap (λ (b : Bool). if b then i.piece ∷ part k is else pa
     by true f = (let t : (k == i.lp) ≡ true = eq-eqb k i.lp (sym (eqb-true i.lp k f)) in cc)
 
 -- a merge is gone through, piece by piece: its items play, since no swap misses
-pub through : (ls : Laws) (o : Opening) (trees : Trees) (is : List Item) (s : State) (mem : Memory) (t u : Table) (pos : ℕ → Position) (ends : ℕ → WordLp) → length o.calls ≤ 8 → AreTrees o trees → Known o s → Stands o trees s mem t pos
+pub through : (ls : Laws) (o : Opening) (trees : Trees) (So : State → Type 0) → Tells o So → (is : List Item) (s : State) (mem : Memory) (t u : Table) (pos : ℕ → Position) (ends : ℕ → WordLp) → AreTrees o trees → So s → Stands o trees s mem t pos
     → ((p : ℕ) → p < length o.calls → RestOf o trees p (pos p) (part p is) (ends p)) → ((p : ℕ) → length o.calls ≤ p → part p is ≡ []) → MergePlays t is u
     → PlaysTo t (steps_taken is) u × Through o trees (play o (order is) s) u ends
-through ls o trees [] s mem t u pos ends most are known sd rests others plays =
-    (plays, record { known = known; memory = mem; table = t; pos = pos; stands = sd; words = plays.0; slots = plays.1; rest = rests })
-through ls o trees (i ∷ is) s mem t u pos ends most are known sd rests others plays =
-    by (cases_lt i.lp (length o.calls)) (λ s' mem' t' pos' k d r x y. through ls o trees is s' mem' t' u pos' ends most are k d r x y)
+through ls o trees So tells [] s mem t u pos ends are so sd rests others plays =
+    (plays, record { memory = mem; table = t; pos = pos; stands = sd; words = plays.0; slots = plays.1; rest = rests })
+through ls o trees So tells (i ∷ is) s mem t u pos ends are so sd rests others plays =
+    by (cases_lt i.lp (length o.calls)) (λ s' mem' t' pos' k d r x y. through ls o trees So tells is s' mem' t' u pos' ends are k d r x y)
   where
+    known : Known o s
+    known = tells.known s so
+
     by : (i.lp < length o.calls) ⊎ (length o.calls ≤ i.lp)
-        → ((s' : State) (mem' : Memory) (t' : Table) (pos' : ℕ → Position) → Known o s' → Stands o trees s' mem' t' pos' → ((p : ℕ) → p < length o.calls → RestOf o trees p (pos' p) (part p is) (ends p)) → ((p : ℕ) → length o.calls ≤ p → part p is ≡ [])
+        → ((s' : State) (mem' : Memory) (t' : Table) (pos' : ℕ → Position) → So s' → Stands o trees s' mem' t' pos' → ((p : ℕ) → p < length o.calls → RestOf o trees p (pos' p) (part p is) (ends p)) → ((p : ℕ) → length o.calls ≤ p → part p is ≡ [])
         → MergePlays t' is u → PlaysTo t' (steps_taken is) u × Through o trees (play o (order is) s') u ends)
         → PlaysTo t (steps_taken (i ∷ is)) u × Through o trees (play o (order (i ∷ is)) s) u ends
     by (inr out) further = (let none : i.piece ∷ part i.lp is ≡ [] = sym (part-own i is) ∙ others i.lp out in cc)
@@ -252,7 +270,7 @@ through ls o trees (i ∷ is) s mem t u pos ends most are known sd rests others 
         let answers = fits-answers is t p i.piece (λ k sw way. never k sw way mine (cases_lt way.lp (length o.calls))) plays.0 in
         let came = next-piece ls o trees s mem t pos p (ends p) i.piece (part p is) are known sd inside answers mine in
         let left =
-        further (state_after o s p i.piece) came.memory (table_after t i.piece) (put pos p came.now) (known-after ls o s p i.piece most known) came.stands
+        further (state_after o s p i.piece) came.memory (table_after t i.piece) (put pos p came.now) (so-after o So tells s p i.piece so) came.stands
         (λ k j. rest k j came (k == p) refl)
         (λ k out. no-part k out (k == p) refl) plays.1 in (
           plays-piece t u i.piece (steps_taken is) answers left.0,

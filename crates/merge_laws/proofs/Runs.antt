@@ -30,19 +30,19 @@ use Rattle.merge_laws.specs.Laws.{nothing_made, IsShownBy, IsWhere, MergesAreRun
 use Rattle.merge_laws.proofs.Stores.{Due, over-none, laid-none}
 use Rattle.merge_laws.proofs.Swaps.{SwapDue, last_put}
 use Rattle.merge_laws.proofs.Owing.{Owed, Stores, Swaps, stores_in, swaps_in, FirstSwaps, FirstMisses, AreOwed}
-use Rattle.merge_laws.proofs.Standing.{Trees, table_for, Trees, Laws, leaf_for, AreTrees, Known, on_table, HandKnown, guest_run, HasInHand, RunAt, StandsAt, Fill, Position, Rest, RestBy, RestOf, Stands}
-use Rattle.merge_laws.proofs.Merged.{known-of, Through, through}
+use Rattle.merge_laws.proofs.Standing.{Trees, table_for, Trees, Laws, leaf_for, AreTrees, on_table, HandKnown, guest_run, HasInHand, RunAt, StandsAt, Fill, Position, Rest, RestBy, RestOf, Stands}
+use Rattle.merge_laws.proofs.Merged.{IsReached, runs-tell, Through, through}
 
 -- leaves by their trees
 
-abbrev trees_of : (ℕ → LeafTable) → Trees
+abbrev pub trees_of : (ℕ → LeafTable) → Trees
 trees_of leaf = record {
   call = λ p c. ((leaf p).call c).tree;
   step = λ p t v line step. ((leaf p).step t v line step).tree;
   means = λ p t v line step. ((leaf p).step t v line step).meaning;
 }
 
-table-is : (o : Opening) (leaf : ℕ → LeafTable) → AreLeaves o leaf → (p : ℕ) → leaf p ≡ table_for o (trees_of leaf) p
+pub table-is : (o : Opening) (leaf : ℕ → LeafTable) → AreLeaves o leaf → (p : ℕ) → leaf p ≡ table_for o (trees_of leaf) p
 table-is o leaf are p = λ i. record {
   call = λ c. record { place = record { machine = are.machine p c i; lp = are.processor p c i }; tree = ((leaf p).call c).tree; meaning = are.row p c i };
   step = λ t v line step. record {
@@ -53,7 +53,7 @@ table-is o leaf are p = λ i. record {
   codes = λ t x. are.codes p t x i;
 }
 
-trees-are : (o : Opening) (leaf : ℕ → LeafTable) → AreLeaves o leaf → AreCodes o → AreTrees o (trees_of leaf)
+pub trees-are : (o : Opening) (leaf : ℕ → LeafTable) → AreLeaves o leaf → AreCodes o → AreTrees o (trees_of leaf)
 trees-are o leaf are codes = record {
   means = λ p c. subst (λ (t : LeafTable). MeansRow (t.call c)) (table-is o leaf are p) (are.means p c);
   steps = are.step_row;
@@ -85,13 +85,13 @@ starts ls o trees = record {
 -- the end
 
 -- what hasher a processor has in hand is known
-record HasKnown (at : WordLp) : Type 0 where
-  hasher : Option Measure
-  has : HasInHand at hasher
-  hand : Hand
-  is : IsHand hasher hand
+pub record HasKnown (at : WordLp) : Type 0 where
+  pub hasher : Option Measure
+  pub has : HasInHand at hasher
+  pub hand : Hand
+  pub is : IsHand hasher hand
 
-nothing-left : (ls : Laws) (o : Opening) (trees : Trees) (p : ℕ) (pos : Position) (end_ : WordLp) → RestOf o trees p pos [] end_ → (pos.owes ≡ []) × (pos.swaps ≡ []) × (pos.at ≡ end_) × HasKnown pos.at
+pub nothing-left : (ls : Laws) (o : Opening) (trees : Trees) (p : ℕ) (pos : Position) (end_ : WordLp) → RestOf o trees p pos [] end_ → (pos.owes ≡ []) × (pos.swaps ≡ []) × (pos.at ≡ end_) × HasKnown pos.at
 nothing-left ls o trees p pos end_ rest = by-fill pos.fill rest
   where
     line : (c : Call) (cs : List Call) (r : Option Standing) (g : Option WordGuest) (e : RunEvent) (after : WordLp) → LineTurn (leaf_for o trees p) o.machine c cs r g pos.at.replies pos.at.beside e [] after → ⊥
@@ -135,7 +135,7 @@ nothing-left ls o trees p pos end_ rest = by-fill pos.fill rest
     by-fill None re = by re re.owed refl re.are
     by-fill (Some f) re = absurd (act-left re.stores re.act (joined re.turns) re.pieces)
 
-ends-so : (ls : Laws) (o : Opening) (trees : Trees) (s : State) (u : Table) (ends : ℕ → WordLp) → Through o trees s u ends → IsShownBy o.machine u s × IsWhere o ends s
+pub ends-so : (ls : Laws) (o : Opening) (trees : Trees) (s : State) (u : Table) (ends : ℕ → WordLp) → Through o trees s u ends → IsShownBy o.machine u s × IsWhere o ends s
 ends-so ls o trees s u ends th =
     let left : (p : ℕ) → p < length o.calls → ((th.pos p).owes ≡ []) × ((th.pos p).swaps ≡ []) × ((th.pos p).at ≡ ends p) × HasKnown (th.pos p).at = λ p i. nothing-left ls o trees p (th.pos p) (ends p) (th.rest p i) in (
       record {
@@ -173,7 +173,7 @@ line-hand : (r : Standing) (h : Option Measure) (k : Hand) → IsHand h k → (r
 line-hand r h k is (inl e) = (k, subst (λ (z : Option Measure). IsHand z k) (sym e) is)
 line-hand r h k is (inr known) = known
 
-stands-so : (o : Opening) (trees : Trees) (p : ℕ) (w : World) (words : WordPlace → ℕ) (lp : Lp) (at : WordLp) → StandsAt o trees p w words lp at → HasKnown at → LpStands o (table_for o trees p) p w words lp at
+pub stands-so : (o : Opening) (trees : Trees) (p : ℕ) (w : World) (words : WordPlace → ℕ) (lp : Lp) (at : WordLp) → StandsAt o trees p w words lp at → HasKnown at → LpStands o (table_for o trees p) p w words lp at
 stands-so o trees p w words lp at st known = record { lines = st.lines; replies = st.replies; beside = st.beside; run = by at.lines at.run at.guest st.lines st.run known.has.0 }
   where
     by : (cs : List Call) (r : Option Standing) (g : Option WordGuest) → lines_left o p lp ≡ cs → RunAt o trees p w words lp cs r g at.replies at.beside → HandKnown r known.hasher
@@ -212,7 +212,7 @@ run-hand : (h : Option Measure) (k : Hand) → IsHand h k → (r : Option Standi
 run-hand h k is None known = (None, tt)
 run-hand h k is (Some r) known = line-hand r h k is known
 
-hand-at : (at : WordLp) → HasKnown at → (x : Hand) × IsHand (hasher_at at) x
+pub hand-at : (at : WordLp) → HasKnown at → (x : Hand) × IsHand (hasher_at at) x
 hand-at at known = by at.guest at.run known.has.0 known.has.1
   where
     in-guest : (x : WordGuest) (line : Standing) → HandKnown (Some line) known.hasher → HandKnown x.run known.hasher → (give : Bool) → (k : Hand) × IsHand (hasher_of (run_in x line give)) k
@@ -243,11 +243,11 @@ merges : (ls : Laws) (o : Opening) (leaf : ℕ → LeafTable) (is : List Item) (
 unfolding first_position
 merges ls o leaf is now u most are codes merge =
     let trees = trees_of leaf in
-    let known : Known o (start o None) = known-of ls o [] (start o None) most refl refl refl in
+    let first : IsReached o (start o None) = record { schedule = []; is = refl; count = refl; nothing_to_tell = refl } in
     let own : (p : ℕ) → p < length o.calls → OwnTurns (table_for o trees p) o.machine (first_lp (calls_of o.calls p)) (merge.own p) (now p) =
     λ p i. subst (λ (t : LeafTable). OwnTurns t o.machine (first_lp (calls_of o.calls p)) (merge.own p) (now p)) (table-is o leaf are p) (merge.turns p i) in
     let went =
-    through ls o trees is (start o None) no_memory no_table u (first_position o) now most (trees-are o leaf are codes) known (starts ls o trees)
+    through ls o trees (IsReached o) (runs-tell ls o most) is (start o None) no_memory no_table u (first_position o) now (trees-are o leaf are codes) first (starts ls o trees)
     (λ p i. rest-first p (part p is) (merge.own p) (merge.merge.each p i) (own p i)) merge.merge.nothing_else merge.plays in (
       went.0,
       ends-so ls o trees (play o (order is) (start o None)) u now went.1,

@@ -13,8 +13,8 @@ use Rattle.flat_core.specs.Opening.{Opening}
 use Rattle.flat_core.specs.Row.{Move, Refuses, Succeeds}
 use Rattle.flat_core.specs.Table.{row_of}
 use Rattle.flat_core.specs.Lawful.{Lawful}
-use Rattle.flat_core.specs.Event.{Event, next_event, State, start, lines_left, event}
-use Rattle.flat_core.specs.Run.{play, bundles_in}
+use Rattle.flat_core.specs.Event.{Event, next_event, State, lines_left, event}
+use Rattle.flat_core.specs.Run.{bundles_in}
 use Rattle.flat_core.specs.Laws.{EveryWorldIsLawful, LocksExclude, OthersStay, NoWordsToTell, IsBetween}
 use Rattle.flat_core.specs.Entered.{EventsSpare}
 use Rattle.word_rules.specs.Guards.{Grip}
@@ -104,10 +104,8 @@ pub record AreTrees (o : Opening) (trees : Trees) : Type 0 where
 abbrev pub TurnsTo : Opening → Trees → ℕ → WordLp → List (List Piece) → WordLp → Type 0
 TurnsTo o trees p at tps end_ = OwnTurns (table_for o trees p) o.machine at tps end_
 
--- what is known of a state that a run reaches
+-- what is known of a state, as of each that a run reaches
 pub record Known (o : Opening) (s : State) : Type 0 where
-  pub schedule : List ℕ
-  pub reached : s ≡ play o schedule (start o None)
   pub count : s.lp_count ≡ length o.calls
   pub lawful : Lawful o.machine s.world
   pub exclusive : IsExclusive s

@@ -1,5 +1,5 @@
 -- A session is imported once, and so given up once: what keeps it, act by act.
-use Rattle.std.proofs.Common.{◌≡◌, ◌≢◌, refl, sym, ◌∙◌, ap, subst, ℕ, zero, suc, ◌<◌, ◌≤◌, List, [], ◌∷◌, ◌++◌, Option, true, false, ◌==◌, arith}
+use Rattle.std.proofs.Common.{◌≡◌, ◌≢◌, refl, sym, ◌∙◌, ap, subst, ℕ, zero, suc, ◌<◌, ◌≤◌, List, [], ◌∷◌, ◌++◌, Option, None, true, false, ◌==◌, arith}
 use Rattle.std.specs.List.{All}
 use Rattle.std.proofs.lemmas.Bool.{eqb-true, eq-eqb, ltb-true}
 use Rattle.std.proofs.lemmas.List.Elements.{All-nil, All-push, All-weaker}
@@ -15,11 +15,12 @@ use Rattle.td_words.specs.declared.calls.GuestOp.{GuestOp}
 use Rattle.flat_core.specs.World.{World, Made}
 use Rattle.flat_core.specs.Opening.{Opening}
 use Rattle.flat_core.specs.Row.{OperationRow, Passes}
-use Rattle.flat_core.specs.Tree.{entry_at}
 use Rattle.flat_core.specs.Effects.{set_op, pass_operation, tell_words, leave_guest, add_bundle}
 use Rattle.flat_core.specs.Guest.{ByRow, operation_of, is_pending_at, reach}
 use Rattle.flat_core.specs.Inputs.{Input, input_in}
-use Rattle.flat_core.specs.ImportRows.{given_up_ops}
+use Rattle.flat_core.specs.PageLists.{page_count}
+use Rattle.flat_core.specs.BundleRows.{export_pages}
+use Rattle.flat_core.specs.ImportRows.{given_up_ops, import_pages}
 use Rattle.flat_core.specs.Table.{row_of}
 use Rattle.flat_core.specs.Lawful.{Lawful}
 use Rattle.flat_core.specs.Event.{start}
@@ -27,11 +28,11 @@ use Rattle.flat_core.proofs.Tests.{by_test, same_self}
 use Rattle.flat_core.proofs.Parts.{IsLive}
 use Rattle.flat_core.proofs.Operations.{operation_row, accepted}
 use Rattle.flat_core.proofs.Passed.{TdPassed, td_alive}
-use Rattle.flat_bundles.proofs.Fills.{fill_either}
 use Rattle.mig_laws.specs.Ivs.{is_forward, is_filling, IsImporting, AbortsHold}
 use Rattle.mig_laws.proofs.Ivs.{back_token, given_up_fills}
-use Rattle.mig_laws.proofs.Changes.{begins_import, each_counts}
-use Rattle.mig_laws.proofs.CallChanges.{call-changes, call-keeps}
+use Rattle.mig_laws.proofs.Changes.{begins_import, Changes, each_counts}
+use Rattle.mig_laws.proofs.Lists.{sent_bundle, sent_as, taken_as}
+use Rattle.mig_laws.proofs.CallChanges.{pages_export, pages_import, call-changes}
 
 -- what is said of each token back
 abbrev Back : (Made → Type 0) → Made → Type 0
@@ -119,8 +120,23 @@ module _ (o : Opening) (me : ℕ) (w : World) (l : Lawful o.machine w) (h : Abor
   abbrev After : Call → World
   After c = (row_of o me c).act w
 
+  goes_aborts : (c : Call) (v : World) → Changes c w v → begins_import c ≡ false → NoneComes w.outgoing.bundles v.outgoing.bundles → v.key_table.last_imported ≡ w.key_table.last_imported → AbortsHold v
+  goes_aborts c v changes off bundles last = aborts_stay w v bundles last (λ x a. (let k = each_counts changes off x a in record { importing = k.importing; session = k.session })) h
+
   rest_aborts : (c : Call) → Passes ((row_of o me c).items w) → begins_import c ≡ false → NoneComes w.outgoing.bundles (After c).outgoing.bundles → (After c).key_table.last_imported ≡ w.key_table.last_imported → AbortsHold (After c)
-  rest_aborts c ps off bundles last = aborts_stay w (After c) bundles last (λ x a. (let k = each_counts (call-changes o me w l c ps) off x a in record { importing = k.importing; session = k.session })) h
+  rest_aborts c ps = goes_aborts c (After c) (call-changes o me w l c ps)
+
+  pub pages_aborts : (t gpa k slot : ℕ) (count : Option ℕ) → Passes ((export_pages o.machine t gpa k slot count).items w) → AbortsHold ((export_pages o.machine t gpa k slot count).act w)
+  pages_aborts t gpa k slot count ps = goes_aborts (call.ExportMem t gpa k slot) ((export_pages o.machine t gpa k slot count).act w) (pages_export o me w l t gpa k slot count ps) refl
+      (sent_as o.machine t gpa k slot count w (λ v. NoneComes w.outgoing.bundles v.outgoing.bundles) (λ e c f done. forward (sent_bundle w t gpa k slot count) refl refl))
+      (sent_as o.machine t gpa k slot count w (λ v. v.key_table.last_imported ≡ w.key_table.last_imported) (λ e c f done. refl))
+
+  taken_aborts : (t slot page : ℕ) (count : Option ℕ) → Passes ((import_pages o.machine (o.bundles slot) t slot page count).items w) → AbortsHold ((import_pages o.machine (o.bundles slot) t slot page count).act w)
+  taken_aborts t slot page count ps =
+      let x : Input = input_in (o.bundles slot) in
+      goes_aborts (call.ImportMem t slot page) ((import_pages o.machine (o.bundles slot) t slot page count).act w) (pages_import o me w l t slot page count ps) refl
+      (taken_as t x.header.stream x.header.gpa page x.words (page_count count) w (λ v. NoneComes w.outgoing.bundles v.outgoing.bundles) (λ v taken. none refl))
+      (taken_as t x.header.stream x.header.gpa page x.words (page_count count) w (λ v. v.key_table.last_imported ≡ w.key_table.last_imported) (λ v taken. refl))
 
   pub row-aborts : (c : Call) → Passes ((row_of o me c).items w) → AbortsHold (After c)
   row-aborts (call.ImportStateImmutable t slot) ps =
@@ -128,15 +144,12 @@ module _ (o : Opening) (me : ℕ) (w : World) (l : Lawful o.machine w) (h : Abor
       let self = same_self t in
       begun_aborts w (After (call.ImportStateImmutable t slot)) h t x.header.session (ltb-true _ _ (search)) refl refl (rw self refl) (λ y z. rw z refl)
       (λ y z a. record { alive = record { kind = a.alive.kind; life = a.alive.life }; standing = rw z at a.standing })
-  row-aborts (call.ImportMem t slot page) ps =
-      let x : Input = input_in (o.bundles slot) in
-      rest_aborts (call.ImportMem t slot page) ps refl (none ((call-keeps o me w l (call.ImportMem t slot page)).made refl).0)
-      (fill_either (λ u. u.key_table.last_imported ≡ w.key_table.last_imported) t x.header.gpa page x.words (entry_at w t 0 x.header.gpa).state w refl refl)
+  row-aborts (call.ImportMem t slot page) ps = taken_aborts t slot page None ps
   row-aborts (call.ImportAbort t slot) ps =
       let td : TdPassed w t given_up_ops = search in
       given_up_aborts w h t slot (record { alive = td_alive td; standing = given_up_fills (w.tds.ops t) td.op })
   row-aborts (call.ExportStateImmutable t slot) ps = rest_aborts (call.ExportStateImmutable t slot) ps refl (forward _ refl refl) refl
-  row-aborts (call.ExportMem t gpa k slot) ps = rest_aborts (call.ExportMem t gpa k slot) ps refl (forward _ refl refl) refl
+  row-aborts (call.ExportMem t gpa k slot) ps = pages_aborts t gpa k slot None ps
   row-aborts (call.ExportTrack t slot zero) ps = rest_aborts (call.ExportTrack t slot zero) ps refl (forward _ refl refl) refl
   row-aborts (call.ExportTrack t slot (suc n)) ps = rest_aborts (call.ExportTrack t slot (suc n)) ps refl (forward _ refl refl) refl
   row-aborts (call.ExportStateTd t slot) ps = rest_aborts (call.ExportStateTd t slot) ps refl (forward _ refl refl) refl

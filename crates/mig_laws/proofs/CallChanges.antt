@@ -3,7 +3,7 @@ use Rattle.std.proofs.Common.{◌≡◌, ◌≢◌, refl, sym, ◌∙◌, ap, su
 use Rattle.std.specs.Prelude.{slice_get}
 use Rattle.std.specs.List.{list_any}
 use Rattle.std.proofs.Math.Nat.{le_trans}
-use Rattle.std.proofs.lemmas.Bool.{eqb-true, eq-eqb, ne_eqb, ltb-true, lt-ltb}
+use Rattle.std.proofs.lemmas.Bool.{eqb-true, eq-eqb, ne_eqb, and_left, ltb-true, lt-ltb}
 use Rattle.td_words.specs.declared.names.PageKind.{PageKind}
 use Rattle.td_words.specs.declared.names.PageKind.TheVariants as kind
 use Rattle.td_words.specs.declared.names.OpState.{OpState}
@@ -19,15 +19,16 @@ use Rattle.flat_core.specs.World.{World, put}
 use Rattle.flat_core.specs.Opening.{Opening}
 use Rattle.flat_core.specs.Row.{Passes}
 use Rattle.flat_core.specs.Conditions.{vp_limit, blocking_ops, augmented_ops, running_ops}
-use Rattle.flat_core.specs.Tree.{page_of_gpa, number_at, entry_at}
+use Rattle.flat_core.specs.Tree.{number_at, entry_at}
 use Rattle.flat_core.specs.Tracking.{entry_epochs}
-use Rattle.flat_core.specs.Effects.{put_in, set_op, set_register, set_vp_state, begin_memory}
+use Rattle.flat_core.specs.Effects.{put_in, set_op, set_register, set_vp_state}
 use Rattle.flat_core.specs.Sessions.{stream_page, stream_counter, count_bundle}
 use Rattle.flat_core.specs.Inputs.{Input, input_in}
 use Rattle.flat_core.specs.MemRows.{open_states}
 use Rattle.flat_core.specs.ExportRows.{stream_ops, live_ops, abortable_ops, restoring_ops, writable_states, write_blocked, write_unblocked}
-use Rattle.flat_core.specs.BundleRows.{session_ops, paused_ops}
-use Rattle.flat_core.specs.ImportRows.{first_ops, filling_ops, td_state_ops, vp_state_ops, import_token_ops, op_then, is_start}
+use Rattle.flat_core.specs.PageLists.{page_count}
+use Rattle.flat_core.specs.BundleRows.{session_ops, paused_ops, export_pages}
+use Rattle.flat_core.specs.ImportRows.{first_ops, filling_ops, td_state_ops, vp_state_ops, import_pages, import_token_ops, op_then, is_start}
 use Rattle.flat_core.specs.Table.{row_of}
 use Rattle.flat_core.specs.Lawful.{IsAlive, ArePagesOf, Lawful, is_exporting, is_free}
 use Rattle.flat_core.proofs.Tests.{by_test, host_kind, range_of, same_self}
@@ -39,10 +40,11 @@ use Rattle.flat_core.proofs.Exports.{free_unmarked}
 use Rattle.flat_core.proofs.Ranges.{abortable_exporting, paused_exporting, named_alive, write_passed, entry_alive, write_remarks, block_restates}
 use Rattle.flat_core.proofs.Streams.{page_among, stream_among}
 use Rattle.flat_core.proofs.ImportKeeps.{td_state_importing, vp_state_importing}
-use Rattle.flat_core.proofs.Passed.{TdPassed, td_alive, vp_of, block_passed, unblock_passed, remove_passed, relocate_passed, sept_remove_passed}
-use Rattle.flat_bundles.proofs.Fills.{fill_either}
+use Rattle.flat_core.proofs.PageLists.{TakenAs}
+use Rattle.flat_core.proofs.Passed.{TdPassed, td_alive, export_passed, vp_of, block_passed, unblock_passed, remove_passed, relocate_passed, sept_remove_passed}
 use Rattle.mig_laws.specs.Ivs.{is_filling, IsExporting, IsImporting}
 use Rattle.mig_laws.specs.Imports.{counts_of}
+use Rattle.mig_laws.proofs.Lists.{sent_as, taken_as, take_asked}
 use Rattle.mig_laws.proofs.OneMore.{filling_fills, td_state_fills, vp_state_fills, token_fills, fills_importing}
 use Rattle.mig_laws.proofs.Rest.{ImportStays, EmptyStays, new, old}
 use Rattle.mig_laws.proofs.Stays.{own, PageStays, same_page, tracks, tracked_still, entered_now}
@@ -371,20 +373,35 @@ module _ (o : Opening) (me : ℕ) (w : World) (l : Lawful o.machine w) where
         vp = λ p e r. (let off = fresh t p alive e in rw off refl);
       })
 
-  -- the page of IMPORT.MEM is taken, or is there already
-  page_imported : (t slot page : ℕ) → Passes ((row_of o me (call.ImportMem t slot page)).items w) → ((x : ℕ) → Back w (After (call.ImportMem t slot page)) x) → Changed (call.ImportMem t slot page)
-  page_imported t slot page ps back =
+  -- pages are exported, or come in, with any COUNT
+  pub pages_export : (t gpa k slot : ℕ) (count : Option ℕ) → Passes ((export_pages o.machine t gpa k slot count).items w)
+      → Changes (call.ExportMem t gpa k slot) w ((export_pages o.machine t gpa k slot count).act w)
+  pages_export t gpa k slot count ps =
+      let p = export_passed o.machine w t gpa k slot count ps in
+      let exporting = abortable_exporting (w.tds.ops t) p.td.op in
+      sent_as o.machine t gpa k slot count w (Changes (call.ExportMem t gpa k slot) w) (λ e c f done.
+      changing t (λ x a. record { kind = a.kind; life = a.life })
+      (λ x y. counted l t k _ (td_alive p.td) p.few refl refl x y (λ j. record (td w x) { leaves = λ n. done.outside x n (and_left (x == t) _ y) j }))
+      (sent (λ x a. record { kind = a.kind; life = a.life }) exporting (λ z. cc) exporting refl))
+
+  pub pages_import : (t slot page : ℕ) (count : Option ℕ) → Passes ((import_pages o.machine (o.bundles slot) t slot page count).items w)
+      → Changes (call.ImportMem t slot page) w ((import_pages o.machine (o.bundles slot) t slot page count).act w)
+  pages_import t slot page count ps =
       let x : Input = input_in (o.bundles slot) in
-      let td : TdPassed w t filling_ops = search in
-      let few : x.header.stream < length (w.tds.streams t) = ltb-true _ _ (search) in
-      let filling = (filling_fills (w.tds.ops t) td.op).0 in
+      let k : ℕ = x.header.stream in
+      let p = take_asked o.machine (o.bundles slot) w t slot page count ps in
+      let filling = (filling_fills (w.tds.ops t) p.td.op).0 in
+      taken_as t k x.header.gpa page x.words (page_count count) w (Changes (call.ImportMem t slot page) w) (λ v taken.
+      let back : (y : ℕ) → Back w (count_bundle t k (TakenAs w v)) y = λ y a. record { kind = taken.roots y a.kind; life = a.life } in
       changing t back
-      (fill_either (λ u. (y : ℕ) → (y == t) ≡ false → Same w (count_bundle t x.header.stream (begin_memory t (page_of_gpa x.header.gpa) x.words u)) y) t x.header.gpa page x.words (entry_at w t 0 x.header.gpa).state w
-      (λ y z. record { td_is = rw z refl; memories = λ n. rw z refl; counters = λ a q. off_counter l t y z a x.header.stream _ q (td_alive td) few; vps = λ a q e. refl; blocked = λ a n s. lower w.pages.blocked page _ })
-      (λ y z. record { td_is = refl; memories = λ n. rw z refl; counters = λ a q. off_counter l t y z a x.header.stream _ q (td_alive td) few; vps = λ a q e. refl; blocked = λ a n s. le_same _ }))
-      (imported filling_ops (fill_either (λ u. IsOneOf filling_ops (u.tds.ops t)) t x.header.gpa page x.words (entry_at w t 0 x.header.gpa).state w td.op td.op) refl (λ k. cc)
-      (λ k. fill_either (λ u. let v = count_bundle t x.header.stream (begin_memory t (page_of_gpa x.header.gpa) x.words u) in Back w v t → IsImporting v t → ImportGoes w v t) t x.header.gpa page x.words (entry_at w t 0 x.header.gpa).state w
-      (λ b. counting t x.header.stream filling b refl refl refl) (λ b. counting t x.header.stream filling b refl refl refl) (back t)))
+      (λ y z. record {
+        td_is = λ j. record (td w y) { leaves = λ n. taken.others y z j 0 n };
+        memories = λ n. taken.memories y n ∙ rw z refl;
+        counters = λ a q. off_counter l t y z a k _ q (td_alive p.td) p.few;
+        vps = λ a q e. refl;
+        blocked = λ a n s. taken.blocked _;
+      })
+      (imported filling_ops p.td.op refl (λ z. cc) (λ z. counting t k filling (back t) refl refl refl)))
 
   by-call : (c : Call) → Passes ((row_of o me c).items w) → ((x : ℕ) → Back w (After c) x) → Changed c
   by-call (call.PhymemPageReclaim t page) ps back =
@@ -493,10 +510,7 @@ module _ (o : Opening) (me : ℕ) (w : World) (l : Lawful o.machine w) where
         blocked = λ a n s. le_same _;
       })
       (sends (λ k. cc) (rw (same_self t) refl) (λ k. cc))
-  by-call (call.ExportMem t gpa k slot) ps back =
-      let td : TdPassed w t abortable_ops = search in
-      let exporting = abortable_exporting (w.tds.ops t) td.op in
-      changing t back (λ x y. counted l t k _ (td_alive td) (ltb-true _ _ (search)) refl refl x y (rw y refl)) (sent back exporting (λ k. cc) exporting refl)
+  by-call (call.ExportMem t gpa k slot) ps back = pages_export t gpa k slot None ps
   by-call (call.ExportTrack t slot zero) ps back =
       let td : TdPassed w t abortable_ops = search in
       let exporting = abortable_exporting (w.tds.ops t) td.op in
@@ -516,7 +530,7 @@ module _ (o : Opening) (me : ℕ) (w : World) (l : Lawful o.machine w) where
   by-call (call.ImportStateImmutable t slot) ps back =
       let td : TdPassed w t first_ops = search in
       changing t back (λ x y. counted l t 0 _ (td_alive td) (ltb-true _ _ (search)) refl refl x y (rw y refl)) (imported (op.MemoryImport ∷ []) (rw (same_self t) refl) refl (λ k. cc) (λ k. cc))
-  by-call (call.ImportMem t slot page) ps back = page_imported t slot page ps back
+  by-call (call.ImportMem t slot page) ps back = pages_import t slot page None ps
   by-call (call.ImportTrack t slot) ps back =
       let b : Bool = is_start (input_in (o.bundles slot)).header in
       let td : TdPassed w t (import_token_ops b) = search in
@@ -542,19 +556,25 @@ module _ (o : Opening) (me : ℕ) (w : World) (l : Lawful o.machine w) where
   call-changes c ps = by-call c ps (row_alive o me c w ps (λ u h e. cc))
 
   -- what is made and noted
+  export_keeps : (t gpa k slot : ℕ) (count : Option ℕ) → Kept (call.ExportMem t gpa k slot) w ((export_pages o.machine t gpa k slot count).act w)
+  export_keeps t gpa k slot count = sent_as o.machine t gpa k slot count w (Kept (call.ExportMem t gpa k slot) w) (λ e c f done. record { made = λ z. cc; paused = λ z. refl; given = λ z. refl })
+
+  pub import_keeps : (t slot page : ℕ) (count : Option ℕ) → Kept (call.ImportMem t slot page) w ((import_pages o.machine (o.bundles slot) t slot page count).act w)
+  import_keeps t slot page count =
+      let x : Input = input_in (o.bundles slot) in
+      taken_as t x.header.stream x.header.gpa page x.words (page_count count) w (Kept (call.ImportMem t slot page) w)
+      (λ v taken. record { made = λ k. (refl, refl, λ p. le_same _); paused = λ k. refl; given = λ k. refl })
+
   pub call-keeps : (c : Call) → Kept c w (After c)
   call-keeps (call.VpCreate t page) = record { made = λ k. (refl, refl, λ p. lower w.vps.exported page p); paused = λ k. refl; given = λ k. refl }
   call-keeps (call.ExportPause t) = record { made = λ k. (refl, refl, λ p. le_same _); paused = λ k. cc; given = λ k. refl }
   call-keeps (call.ExportStateImmutable t slot) = record { made = λ k. cc; paused = λ k. refl; given = λ k. refl }
-  call-keeps (call.ExportMem t gpa stream slot) = record { made = λ k. cc; paused = λ k. refl; given = λ k. refl }
+  call-keeps (call.ExportMem t gpa stream slot) = export_keeps t gpa stream slot None
   call-keeps (call.ExportTrack t slot zero) = record { made = λ k. cc; paused = λ k. refl; given = λ k. refl }
   call-keeps (call.ExportTrack t slot (suc n)) = record { made = λ k. cc; paused = λ k. refl; given = λ k. refl }
   call-keeps (call.ExportStateTd t slot) = record { made = λ k. cc; paused = λ k. refl; given = λ k. refl }
   call-keeps (call.ExportStateVp t p slot) = record { made = λ k. cc; paused = λ k. refl; given = λ k. refl }
-  call-keeps (call.ImportMem t slot page) =
-      let x : Input = input_in (o.bundles slot) in
-      fill_either (λ u. Kept (call.ImportMem t slot page) w (count_bundle t x.header.stream (begin_memory t (page_of_gpa x.header.gpa) x.words u))) t x.header.gpa page x.words (entry_at w t 0 x.header.gpa).state w
-      (record { made = λ k. (refl, refl, λ p. le_same _); paused = λ k. refl; given = λ k. refl }) (record { made = λ k. (refl, refl, λ p. le_same _); paused = λ k. refl; given = λ k. refl })
+  call-keeps (call.ImportMem t slot page) = import_keeps t slot page None
   call-keeps (call.ImportCommit t) = record { made = λ k. (refl, refl, λ p. le_same _); paused = λ k. refl; given = λ k. cc }
   call-keeps (call.ImportAbort t slot) = record { made = λ k. cc; paused = λ k. refl; given = λ k. refl }
   call-keeps (call.HostRead page word) = record { made = λ k. (refl, refl, λ p. le_same _); paused = λ k. refl; given = λ k. refl }

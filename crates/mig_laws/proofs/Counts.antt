@@ -87,15 +87,15 @@ module _ (s : ℕ) (counts : List ℕ) (epoch : ℕ) (before after : List Made) 
 
   pub last_stays : (n : ℕ) → is_page_at s n b ≡ false → last_imported s now n (before ++ b ∷ after) ≡ last_imported s counts n (before ++ b ∷ after)
   last_stays n off =
-      last-append (λ x. is_imported s now x && is_page_at s n x) before (b ∷ after)
+      last-append n (λ x. is_imported s now x && is_page_at s n x) before (b ∷ after)
       ∙ (rw (
-        last_same (λ x. is_imported s now x && is_page_at s n x) (λ x. is_imported s counts x && is_page_at s n x) before
+        last_same n (λ x. is_imported s now x && is_page_at s n x) (λ x. is_imported s counts x && is_page_at s n x) before
             (by_places (λ x. (is_imported s now x && is_page_at s n x) ≡ (is_imported s counts x && is_page_at s n x)) before
             (λ front back x is. ap (λ (z : Bool). z && is_page_at s n x) (front_same front back x is))),
-        last_same (λ x. is_imported s now x && is_page_at s n x) (λ x. is_imported s counts x && is_page_at s n x) after
+        last_same n (λ x. is_imported s now x && is_page_at s n x) (λ x. is_imported s counts x && is_page_at s n x) after
             (by_places (λ x. (is_imported s now x && is_page_at s n x) ≡ (is_imported s counts x && is_page_at s n x)) after
             (λ front back x is. ap (λ (z : Bool). z && is_page_at s n x) (back_same front back x is))),
         and_right (is_imported s now b) _ off,
         and_right (is_imported s counts b) _ off,
       ) refl
-      ∙ sym (last-append (λ x. is_imported s counts x && is_page_at s n x) before (b ∷ after)))
+      ∙ sym (last-append n (λ x. is_imported s counts x && is_page_at s n x) before (b ∷ after)))

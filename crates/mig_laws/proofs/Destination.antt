@@ -19,14 +19,14 @@ use Rattle.mig_laws.specs.Image.{Unforged, StartsFrom, StartsAs, StartsFromPause
 use Rattle.mig_laws.specs.Imports.{IsKeptWhere, DestinationHolds, TakesIn, DestinationIsKept}
 use Rattle.mig_laws.proofs.Rest.{destination_rests}
 use Rattle.mig_laws.proofs.RestRows.{row-rests, operation_rests, reach_rests, left_rests}
-use Rattle.mig_laws.proofs.ImportsKeep.{KeepsDestination, keeps_immutable, keeps_page, keeps_token, keeps_td, keeps_vp, keeps_commit}
+use Rattle.mig_laws.proofs.ImportsKeep.{KeepsDestination, keeps_immutable, keeps_pages, keeps_token, keeps_td, keeps_vp, keeps_commit}
 use Rattle.mig_laws.proofs.States.{short_image, pauses_are_short}
 use Rattle.mig_laws.proofs.Started.{every_run_is_a_source}
 
 module _ (source : World) (src : IsSource source) (o : Opening) where
   row-destination : (me : ℕ) (c : Call) → Unforged o source.outgoing.bundles → KeepsDestination source o (row_of o me c)
   row-destination me (call.ImportStateImmutable t slot) unforged = keeps_immutable source o src unforged t slot
-  row-destination me (call.ImportMem t slot page) unforged = keeps_page source o src unforged t slot page
+  row-destination me (call.ImportMem t slot page) unforged = keeps_pages source o src.made unforged t slot page None (λ e. src.single)
   row-destination me (call.ImportTrack t slot) unforged = keeps_token source o src unforged t slot
   row-destination me (call.ImportStateTd t slot) unforged = keeps_td source o src unforged t slot
   row-destination me (call.ImportStateVp t p slot) unforged = keeps_vp source o src unforged t p slot

@@ -1,7 +1,7 @@
 -- What a TD has that was imported up to its start token is what its source was at the pause.
-use Rattle.std.proofs.Common.{◌≡◌, refl, sym, ◌∙◌, ap, subst, ℕ, zero, suc, ◌+◌, ◌<◌, ◌≤◌, List, [], ◌∷◌, ◌++◌, length, map, Option, Some, None, Bool, true, ◌==◌, ◌&&◌, nat_lt, arith}
-use Rattle.std.specs.Prelude.{slice_get, option_map}
-use Rattle.std.specs.List.{All, list_any, range_with_len}
+use Rattle.std.proofs.Common.{◌≡◌, refl, sym, ◌∙◌, ap, subst, ℕ, ◌<◌, ◌≤◌, List, [], ◌∷◌, ◌++◌, length, map, Some, Bool, true, ◌==◌, ◌&&◌, nat_lt, arith}
+use Rattle.std.specs.Prelude.{slice_get}
+use Rattle.std.specs.List.{All, list_any}
 use Rattle.std.proofs.lemmas.Bool.{eqb-true, and_parts, ltb-true, ltb-false}
 use Rattle.std.proofs.lemmas.List.{length-map}
 use Rattle.std.proofs.lemmas.List.Elements.{All-weaker}
@@ -20,18 +20,12 @@ use Rattle.mig_laws.specs.WellMade.{is_of}
 use Rattle.mig_laws.specs.Imported.{is_imported, last_imported, AreImported}
 use Rattle.mig_laws.specs.States.{IsStateOf, IsVpState, vp_in_32_bits, in_32_bits}
 use Rattle.mig_laws.specs.Image.{IsComplete, IsVpFrom, StartsAs, IsStarted, IsSource}
-use Rattle.mig_laws.specs.Imports.{counts_of, given_words, IsVpGiven, HasState, ImportHolds}
+use Rattle.mig_laws.specs.Imports.{counts_of, IsVpGiven, HasState, ImportHolds}
+use Rattle.mig_laws.proofs.Lists.{same_words}
 use Rattle.mig_laws.proofs.Places.{at_place, in_front}
 use Rattle.mig_laws.proofs.States.{place_of_map}
 
 -- words that are made a payload, and given by it
-same_words : (f g : ℕ → ℕ) (a n : ℕ) → ((i : ℕ) → a ≤ i → i < a + n → f i ≡ g i) → map f (range_with_len a n) ≡ map g (range_with_len a n)
-same_words f g a zero h = refl
-same_words f g a (suc n) h =
-    let here : f a ≡ g a = h a (omega arith) (omega arith) in
-    let rest = same_words f g (a + 1) n (λ i low high. h i (omega (arith, low)) (omega (arith, high))) in
-    λ j. here j ∷ rest j
-
 pub given_again : (f : ℕ → ℕ) (n : ℕ) → payload_words (word_given (payload_words f n)) n ≡ payload_words f n
 given_again f n = same_words (word_given (payload_words f n)) f 0 n (λ i low high. get_or-map-range_with_len f 0 n i i 0 (omega (arith, high)) (omega arith))
 
@@ -51,18 +45,6 @@ found p (x ∷ xs) e = by_test (p x)
 
 pub found_has : (P : Made → Type 0) (p : Made → Bool) (xs : List Made) (f : IsFound p xs) → All P xs → P f.bundle
 found_has P p xs f h = at_place P f.front f.back f.bundle (subst (All P) f.place h)
-
--- what a payload gives is the page of an image whose words it has
-page_again : (page : Option (ℕ → ℕ)) (payload : List ℕ) → option_map (λ words. payload_words words 512) page ≡ Some payload → payload_words (word_given payload) 512 ≡ payload
-page_again None payload e = cc
-page_again (Some f) payload e =
-    let same : payload_words f 512 ≡ payload = cc in
-    subst (λ (z : List ℕ). payload_words (word_given z) 512 ≡ z) same (given_again f 512)
-
--- so a payload that is the page of an image gives itself
-page_sent : (image : Image) (n : ℕ) (last : Option (List ℕ)) → ((payload : List ℕ) → last ≡ Some payload → image_words image n ≡ Some payload) → given_words last ≡ last
-page_sent image n None has = refl
-page_sent image n (Some payload) has = ap (λ (z : List ℕ). Some z) (page_again (image.pages n) payload (has payload refl))
 
 -- none that was imported is of a later migration epoch than the last one
 within_last : (s : ℕ) (counts : List ℕ) (epoch : ℕ) (bundles : List Made) → epoch ≤ start_epoch → AreImported s counts epoch bundles → AreImported s counts start_epoch bundles
@@ -166,7 +148,7 @@ module _ (source w : World) (t : ℕ) (src : IsSource source) (epoch : w.tds.mig
 
   -- the TD has just the pages that have come, which are those that were sent before the token
   pages_come : (n : ℕ) → image_words (image_of w t) n ≡ last_imported s (counts_of w t) n bundles
-  pages_come n = h.pages n ∙ page_sent sent.image n (last_imported s (counts_of w t) n bundles) (λ payload e. sent.pages n payload (sym (c.pages n) ∙ e))
+  pages_come n = h.pages n
 
   pages_sent : (n : ℕ) → image_words (image_of w t) n ≡ last_payload s n c.before
   pages_sent n = pages_come n ∙ c.pages n

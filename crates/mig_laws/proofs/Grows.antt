@@ -11,10 +11,6 @@ use Rattle.td_words.specs.Slots.{output_slot}
 use Rattle.flat_core.specs.World.{World, Image, Made}
 use Rattle.flat_core.specs.Opening.{Opening}
 use Rattle.flat_core.specs.Row.{Passes}
-use Rattle.flat_core.specs.Tree.{page_of_gpa, entry_at}
-use Rattle.flat_core.specs.Effects.{begin_memory}
-use Rattle.flat_core.specs.Sessions.{count_bundle}
-use Rattle.flat_core.specs.Inputs.{Input, input_in}
 use Rattle.flat_core.specs.BundleRows.{start_epoch}
 use Rattle.flat_core.specs.Table.{row_of}
 use Rattle.flat_core.specs.Lawful.{Lawful}
@@ -25,7 +21,6 @@ use Rattle.flat_core.proofs.Ranges.{live_exporting}
 use Rattle.flat_core.proofs.Passed.{TdPassed, td_alive}
 use Rattle.flat_core.specs.ExportRows.{live_ops}
 use Rattle.flat_bundles.specs.Bundles.{AddsOwn}
-use Rattle.flat_bundles.proofs.Fills.{fill_either}
 use Rattle.flat_bundles.proofs.Rows.{calls-add, operation-adds, reach-adds}
 use Rattle.mig_laws.specs.Ivs.{IsExporting}
 use Rattle.mig_laws.specs.Source.{is_page_at}
@@ -34,10 +29,11 @@ use Rattle.mig_laws.specs.WellMade.{is_on, AreWellMade}
 use Rattle.mig_laws.specs.Imported.{is_imported, last_imported, AreImported}
 use Rattle.mig_laws.specs.States.{in_32_bits}
 use Rattle.mig_laws.specs.Image.{IsComplete, IsMade, HaveCome, StartsAs, IsStarted, IsSource}
-use Rattle.mig_laws.specs.Imports.{counts_of, given_words, HasState, begins_epoch, IsBegunBy, ImportHolds, DestinationHolds}
+use Rattle.mig_laws.specs.Imports.{counts_of, HasState, begins_epoch, IsBegunBy, ImportHolds, DestinationHolds}
 use Rattle.mig_laws.specs.Grows.{IsLater, SourcesGoOn, DestinationsFollow, UnforgedStays}
 use Rattle.mig_laws.proofs.Places.{by_places, at_place, count-append, last-append, last_none}
 use Rattle.mig_laws.proofs.Joined.{placed, not_imported}
+use Rattle.mig_laws.proofs.CallChanges.{import_keeps}
 use Rattle.mig_laws.proofs.OneMore.{any_at}
 use Rattle.mig_laws.proofs.GuestChanges.{Fixed, operation_fixed, reach_fixed}
 use Rattle.mig_laws.proofs.Paused.{not_post, only_live}
@@ -53,9 +49,9 @@ module _ (bundles more : List Made) (made : AreWellMade (bundles ++ more)) (s : 
 
   last_more : (n : ℕ) → last_imported s counts n (bundles ++ more) ≡ last_imported s counts n bundles
   last_more n =
-      let none : last_imported s counts n more ≡ None = last_none (λ b. is_imported s counts b && is_page_at s n b) more
+      let none : last_imported s counts n more ≡ None = last_none n (λ b. is_imported s counts b && is_page_at s n b) more
       (by_places (λ b. (is_imported s counts b && is_page_at s n b) ≡ false) more (λ f b y is. let off = at_place (λ x. is_imported s counts x ≡ false) f b y (subst (All (λ x. is_imported s counts x ≡ false)) is none_more) in rw off refl)) in
-      last-append (λ b. is_imported s counts b && is_page_at s n b) bundles more ∙ rw none refl
+      last-append n (λ b. is_imported s counts b && is_page_at s n b) bundles more ∙ rw none refl
 
   each_more : (P : Made → Type 0) → All (λ b. is_imported s counts b ≡ true → P b) bundles → All (λ b. is_imported s counts b ≡ true → P b) (bundles ++ more)
   each_more P h = All-append (λ b. is_imported s counts b ≡ true → P b) bundles more h
@@ -111,7 +107,7 @@ module _ (source later w : World) (src : IsSource later) (goes : IsLater source 
   import t i = record {
     have = have_more bundles more made (w.tds.sessions t) (counts_of w t) i.have.within (w.tds.mig_epochs t) i.have;
     tracked = λ first. some_then (begins_epoch (w.tds.sessions t) (counts_of w t) (w.tds.mig_epochs t)) bundles more (i.tracked first);
-    pages = λ n. i.pages n ∙ ap given_words (sym (last_more bundles more made (w.tds.sessions t) (counts_of w t) i.have.within n));
+    pages = λ n. i.pages n ∙ sym (last_more bundles more made (w.tds.sessions t) (counts_of w t) i.have.within n);
     begun = begun_more w t bundles more i.begun;
     states = each_more bundles more made (w.tds.sessions t) (counts_of w t) i.have.within (HasState w t) i.states;
     few = i.few;
@@ -180,9 +176,7 @@ module _ (o : Opening) (me : ℕ) (w : World) (l : Lawful o.machine w) (h : Paus
       rw off refl
   row-noted (call.ExportTrack t slot zero) ps s e = refl
   row-noted (call.ExportTrack t slot (suc n)) ps s e = refl
-  row-noted (call.ImportMem t slot page) ps s e =
-      let x : Input = input_in (o.bundles slot) in
-      fill_either (λ u. (count_bundle t x.header.stream (begin_memory t (page_of_gpa x.header.gpa) x.words u)).hidden.paused s ≡ w.hidden.paused s) t x.header.gpa page x.words (entry_at w t 0 x.header.gpa).state w refl refl
+  row-noted (call.ImportMem t slot page) ps s e = ap (λ (f : ℕ → Option Image). f s) ((import_keeps o me w l t slot page None).paused refl)
   row-noted c ps s e = refl
 
   adds : (x : Option ℕ) (before after : List Made) → AddsOwn x before after → (more : List Made) × (after ≡ before ++ more)

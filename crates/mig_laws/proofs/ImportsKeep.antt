@@ -1,5 +1,5 @@
 -- Each row of an import keeps what a destination has of its source's bundles, where no tag is forged.
-use Rattle.std.proofs.Common.{◌-◌, nat_lt, ◌≡◌, ◌≢◌, refl, sym, ◌∙◌, ap, subst, ℕ, ◌+◌, ◌^◌, ◌<◌, ◌≤◌, List, [], ◌∷◌, ◌++◌, length, map, Option, Some, None, Bool, true, false, ◌==◌, ◌&&◌, ◌||◌, get_or, arith}
+use Rattle.std.proofs.Common.{◌-◌, ◌≡◌, ◌≢◌, refl, sym, ◌∙◌, ap, subst, ℕ, ◌+◌, ◌*◌, ◌^◌, ◌<◌, ◌≤◌, List, ◌∷◌, ◌++◌, length, map, Option, Some, None, option_map, Bool, true, false, ◌==◌, ◌&&◌, ◌||◌, get_or, arith}
 use Rattle.std.specs.Prelude.{slice_get}
 use Rattle.std.specs.List.{All, list_any}
 use Rattle.std.proofs.lemmas.Bool.{eqb-true, eq-eqb, and_parts, and_left, ltb-true}
@@ -8,8 +8,6 @@ use Rattle.std.proofs.lemmas.List.Sums.{sum-map}
 use Rattle.td_words.specs.declared.names.PageKind.TheVariants as kind
 use Rattle.td_words.specs.declared.names.OpState.{OpState}
 use Rattle.td_words.specs.declared.names.OpState.TheVariants as op
-use Rattle.td_words.specs.declared.names.EntryState.{EntryState}
-use Rattle.td_words.specs.declared.names.EntryState.TheVariants as entry
 use Rattle.td_words.specs.declared.names.VcpuState.TheVariants as vcpu
 use Rattle.td_words.specs.declared.machines.Machine.{Machine}
 use Rattle.td_words.specs.NameNumber.{op_number}
@@ -17,33 +15,36 @@ use Rattle.flat_core.specs.World.{World, Image, ClearHeader, Made, put}
 use Rattle.flat_core.specs.Opening.{Opening}
 use Rattle.flat_core.specs.Row.{Row, Passes}
 use Rattle.flat_core.specs.Conditions.{same_kind}
-use Rattle.flat_core.specs.Tree.{page_of_gpa, number_at, entry_at}
-use Rattle.flat_core.specs.Effects.{set_op, begin_memory}
+use Rattle.flat_core.specs.Tree.{page_of_gpa}
+use Rattle.flat_core.specs.Effects.{set_op}
 use Rattle.flat_core.specs.Sessions.{stream_page, stream_counter, bundles_so_far, count_bundle, set_mig_epoch, payload_words}
-use Rattle.flat_core.specs.Inputs.{Input, input_in, tag_holds}
-use Rattle.flat_core.specs.ImportRows.{first_ops, td_state_ops, vp_state_ops, commit_ops, filling_ops, begin_import, import_immutable, page_to_fill, fill_page, import_pages, is_start, import_token_ops, epoch_due, op_then, import_token, give_rtmrs, import_td, give_vp_state, import_vp, note_commit, commit_import}
+use Rattle.flat_core.specs.Inputs.{Input, input_in, is_list, word_given}
+use Rattle.flat_core.specs.ImportRows.{first_ops, td_state_ops, vp_state_ops, commit_ops, filling_ops, begin_import, import_immutable, import_pages, is_start, import_token_ops, epoch_due, op_then, import_token, give_rtmrs, import_td, give_vp_state, import_vp, note_commit, commit_import}
 use Rattle.flat_core.specs.ExportRows.{image_of}
 use Rattle.flat_core.specs.Lawful.{IsAlive, Lawful, most_vps}
+use Rattle.flat_core.specs.PageLists.{page_count}
+use Rattle.flat_core.proofs.PageLists.{TakenAs}
+use Rattle.flat_guests.specs.Memory.{is_in_run}
 use Rattle.flat_core.proofs.Tests.{by_test, same_self}
 use Rattle.flat_core.proofs.ImportKeeps.{td_state_importing, vp_state_importing}
 use Rattle.flat_core.proofs.Ranges.{begun_of}
 use Rattle.flat_core.proofs.Streams.{stream_among}
 use Rattle.flat_core.proofs.Passed.{TdPassed, td_alive}
 use Rattle.mig_laws.specs.Ivs.{is_filling, IsImporting}
-use Rattle.mig_laws.specs.Source.{is_page_at, known_words}
+use Rattle.mig_laws.specs.Source.{pages_in, has_gpa_page, is_page_at, page_words, known_words}
 use Rattle.mig_laws.specs.WellMade.{is_of, is_token, AreWellMade}
 use Rattle.mig_laws.specs.Imported.{is_imported, last_imported, one_more, counted_on, AreImported, IsNext, TokenFits, AreAllBefore, LatestIsLast}
 use Rattle.mig_laws.specs.States.{in_32_bits}
-use Rattle.mig_laws.specs.Image.{IsComplete, Unforged, StartsAs, IsSource}
-use Rattle.mig_laws.specs.Imports.{counts_of, given_words, IsVpGiven, HasState, begins_epoch, ImportHolds, DestinationHolds}
-use Rattle.mig_laws.proofs.Places.{by_places, last_none}
+use Rattle.mig_laws.specs.Image.{IsComplete, Unforged, StartsAs, AreSingle, IsSource}
+use Rattle.mig_laws.specs.Imports.{counts_of, IsVpGiven, HasState, begins_epoch, ImportHolds, DestinationHolds}
+use Rattle.mig_laws.proofs.Lists.{AreTaken, taken_as, take_asked, is_due}
+use Rattle.mig_laws.proofs.Places.{by_places, at_place, last_none}
 use Rattle.mig_laws.proofs.Joined.{token-brings-all, not_imported}
 use Rattle.mig_laws.proofs.Latest.{imports-stay-in-order, imports-keep-last}
 use Rattle.mig_laws.proofs.Begun.{imports-begin}
-use Rattle.mig_laws.proofs.Rows.{taken_back}
 use Rattle.mig_laws.proofs.States.{place_in, is_vp_kind}
 use Rattle.mig_laws.proofs.Counts.{counts_more, count_at, counts_zero, still_front, all_more, last_stays}
-use Rattle.mig_laws.proofs.Rest.{IsAtRest, destination_rests, import_stays, empty_stays, at_rest}
+use Rattle.mig_laws.proofs.Rest.{destination_rests, import_stays, empty_stays, at_rest}
 use Rattle.mig_laws.proofs.Changes.{Alone, same_imports, same_empty, imports_alone, empty_alone}
 use Rattle.mig_laws.proofs.CallChanges.{le_same, off_counter, counted, vp_counted, stays_on}
 use Rattle.mig_laws.proofs.OneMore.{IsTaken, taken, only_kind, token_kind, no_token, other_kind, off_kind, is_created, first_op, filling_fills, td_state_fills, vp_state_fills, commit_fills, token_fills, fills_importing, any_at, now_imported, one_more_holds, same_epoch, same_pages, start_later}
@@ -58,8 +59,12 @@ fills_begun : (s : OpState) → is_filling s ≡ true → s ≡ op.Uninitialized
 fills_begun op.Uninitialized e f = cc
 fills_begun _ e f = cc
 
+-- the world where only what guests know is as in another
+abbrev with_memories : World → World → World
+with_memories w v = record w { hidden = record (w.hidden) { memories = v.hidden.memories } }
+
 -- A TD takes a bundle that is the next of stream k
-module _ (source : World) (src : IsSource source) (m : Machine) (w : World) (l : Lawful m w) (h : DestinationHolds source w) (t : ℕ) (alive : IsAlive w.pages w.tds t) (k : ℕ) (few : k < length (w.tds.streams t)) where
+module _ (source : World) (well : AreWellMade source.outgoing.bundles) (m : Machine) (w : World) (l : Lawful m w) (h : DestinationHolds source w) (t : ℕ) (alive : IsAlive w.pages w.tds t) (k : ℕ) (few : k < length (w.tds.streams t)) where
   abbrev bundles : List Made
   bundles = source.outgoing.bundles
 
@@ -83,7 +88,7 @@ module _ (source : World) (src : IsSource source) (m : Machine) (w : World) (l :
     list = tk.before ++ tk.bundle ∷ tk.after
 
     made : AreWellMade list
-    made = subst AreWellMade tk.place src.made
+    made = subst AreWellMade tk.place well
 
     own_of : (s : ℕ) → x.header.session ≡ s → is_of s b ≡ true
     own_of s e =
@@ -124,14 +129,14 @@ module _ (source : World) (src : IsSource source) (m : Machine) (w : World) (l :
       own_state : HasState begun t b
       own_state = record { td = λ e. absurd (other_kind b.header.kind 0 1 kind_is refl e); vp = λ e. absurd (other_kind b.header.kind 0 2 kind_is refl e) }
 
-      no_pages : (n : ℕ) → known_words begun t n ≡ given_words (last_imported s (one_more (counted_on b) (counts_of w t)) n list)
+      no_pages : (n : ℕ) → known_words begun t n ≡ last_imported s (one_more (counted_on b) (counts_of w t)) n list
       no_pages n =
           let empty = h.empty t alive new n in
-          let none : last_imported s (counts_of w t) n list ≡ None = last_none (λ y. is_imported s (counts_of w t) y && is_page_at s n y) list
+          let none : last_imported s (counts_of w t) n list ≡ None = last_none n (λ y. is_imported s (counts_of w t) y && is_page_at s n y) list
           (by_places (λ y. (is_imported s (counts_of w t) y && is_page_at s n y) ≡ false) list (λ front back y is. and_left (is_imported s (counts_of w t) y) _ (none_yet y))) in
           let known : known_words begun t n ≡ None = rw empty refl in
           let page : is_page_at s n b ≡ false = and_left (b.header.kind == 3) _ (off_kind b.header.kind 3 (other_kind b.header.kind 0 3 kind_is refl)) in
-          known ∙ ap given_words (sym (last_stays s (counts_of w t) 0 tk.before tk.after b made next n page ∙ none))
+          known ∙ sym (last_stays s (counts_of w t) 0 tk.before tk.after b made next n page ∙ none)
 
       holds_here : (session : ℕ) (mig : ℕ) → session ≡ s → mig ≡ 1 → begun.tds.sessions t ≡ session → begun.tds.mig_epochs t ≡ mig → ImportHolds list begun t
       holds_here session mig is one at_session at_epoch =
@@ -145,7 +150,7 @@ module _ (source : World) (src : IsSource source) (m : Machine) (w : World) (l :
             have = now (λ z c. AreImported z c (begun.tds.mig_epochs t) list)
                 (imports-stay-in-order s (counts_of w t) 1 (begun.tds.mig_epochs t) tk.before tk.after b made (imports-begin s (counts_of w t) 1 list zeros) next (omega (arith, epoch)) (omega (arith, epoch, b_epoch)));
             tracked = λ later. absurd (later epoch);
-            pages = λ n. now (λ z c. known_words begun t n ≡ given_words (last_imported z c n list)) (no_pages n);
+            pages = λ n. now (λ z c. known_words begun t n ≡ last_imported z c n list) (no_pages n);
             begun = record {
               before = tk.before;
               after = tk.after;
@@ -192,13 +197,14 @@ module _ (source : World) (src : IsSource source) (m : Machine) (w : World) (l :
       b_kind : b.header.kind ≡ x.header.kind
       b_kind = ap (λ (z : ClearHeader). z.kind) tk.same
 
-      -- IMPORT.MEM
-      module _ (open_still : w.tds.ops t ≢ op.PostImport) (page_kind : x.header.kind ≡ 3) (same_epochs : x.header.epoch ≡ w.tds.mig_epochs t) where
+      -- IMPORT.MEM, of as many pages as the bundle has
+      module _ (open_still : w.tds.ops t ≢ op.PostImport) (page_kind : x.header.kind ≡ 3) (same_epochs : x.header.epoch ≡ w.tds.mig_epochs t)
+          (count : ℕ) (many : pages_in x.header ≡ count) (v : World) (taken_in : AreTaken w t x.header.gpa count x.words v) where
         abbrev g : ℕ
         g = page_of_gpa x.header.gpa
 
         abbrev filled_in : World
-        filled_in = count_bundle t k (begin_memory t g x.words w)
+        filled_in = count_bundle t k (with_memories w v)
 
         kind_three : b.header.kind ≡ 3
         kind_three = b_kind ∙ page_kind
@@ -209,24 +215,23 @@ module _ (source : World) (src : IsSource source) (m : Machine) (w : World) (l :
         latest : LatestIsLast session was list b
         latest = imports-keep-last session was (w.tds.mig_epochs t) tk.before tk.after b made held.have (record { next = nexts; page = kind_three; now = b_now })
 
-        b_page : page_of_gpa b.header.gpa ≡ g
-        b_page = ap (λ (z : ClearHeader). page_of_gpa z.gpa) tk.same
+        has_page_is : (n : ℕ) → has_gpa_page b.header n ≡ is_in_run g count n
+        has_page_is n = ap (λ (z : ClearHeader). has_gpa_page z n) tk.same ∙ ap (λ (z : ℕ). is_in_run g z n) many
 
-        pages_now : (n : ℕ) → known_words filled_in t n ≡ given_words (last_imported session now n list)
-        pages_now n = by_test (n == g)
-            (λ y. (let self = same_self t in
-            let own : last_imported session now n list ≡ Some b.payload = subst (λ (z : ℕ). last_imported session now z list ≡ Some b.payload) (b_page ∙ sym (eqb-true n g y)) latest.own in
-            let known : known_words filled_in t n ≡ Some (payload_words x.words 512) = rw (self, y) refl in
-            known ∙ (ap (λ (f : ℕ → ℕ). Some (payload_words f 512)) tk.words ∙ ap given_words (sym own))))
-            (λ y. (let off : (page_of_gpa b.header.gpa == n) ≡ false = by_test (page_of_gpa b.header.gpa == n)
-            (λ z. absurd (let same : n ≡ g = sym (eqb-true _ n z) ∙ b_page in let no : true ≡ false = sym (eq-eqb n g same) ∙ y in cc))
-            (λ z. z) in
-            let known : known_words filled_in t n ≡ known_words w t n = rw (y, and_no (t == t)) refl in
-            known ∙ (held.pages n ∙ ap given_words (sym (latest.others n off)))))
-          where
-            and_no : (a : Bool) → (a && false) ≡ false
-            and_no true = refl
-            and_no false = refl
+        words_are : (n : ℕ) → payload_words (λ i. x.words (512 * (n - g) + i)) 512 ≡ page_words n b
+        words_are n =
+            ap (λ (f : ℕ → ℕ). payload_words (λ i. f (512 * (n - g) + i)) 512) tk.words
+            ∙ ap (λ (z : ClearHeader). payload_words (λ i. word_given b.payload (512 * (n - page_of_gpa z.gpa) + i)) 512) (sym tk.same)
+
+        pages_now : (n : ℕ) → known_words filled_in t n ≡ last_imported session now n list
+        pages_now n =
+            let self = same_self t in
+            by_test (is_in_run g count n)
+            (λ y. (let known : v.hidden.memories t n ≡ Some (λ i. x.words (512 * (n - g) + i)) = taken_in.memories t n ∙ rw (self, y) refl in
+            ap (option_map (λ words. payload_words words 512)) known
+            ∙ (ap (λ (z : List ℕ). Some z) (words_are n) ∙ sym (latest.own n (has_page_is n ∙ y)))))
+            (λ y. (let known : v.hidden.memories t n ≡ w.hidden.memories t n = taken_in.memories t n ∙ rw (self, y) refl in
+            ap (option_map (λ words. payload_words words 512)) known ∙ (held.pages n ∙ sym (latest.others n (has_page_is n ∙ y)))))
 
         pub page_holds : DestinationHolds source filled_in
         page_holds = holds_after filled_in
@@ -245,7 +250,7 @@ module _ (source : World) (src : IsSource source) (m : Machine) (w : World) (l :
             (λ e. fills_begun (w.tds.ops t) filling e) refl
             (record {
               back = λ y z a. record { kind = a.kind; life = a.life };
-              same = λ y z. record { td_is = refl; memories = λ n. rw z refl; counters = λ a q e. off_counter l t y z a k _ q alive few e; vps = λ a q e. refl; blocked = λ a n e. le_same _ };
+              same = λ y z. record { td_is = refl; memories = λ n. taken_in.memories y n ∙ rw z refl; counters = λ a q e. off_counter l t y z a k _ q alive few e; vps = λ a q e. refl; blocked = λ a n e. le_same _ };
             })
 
       -- where a bundle other than a page comes in: IMPORT.STATE.TD
@@ -388,22 +393,6 @@ module _ (source : World) (src : IsSource source) (m : Machine) (w : World) (l :
             })))
             (λ e. begun_still (rw self at e)) refl alone
 
--- the page of IMPORT.MEM is taken, or is there already
-page_rests : (w : World) (t k gpa page : ℕ) (ws : ℕ → ℕ) (s : EntryState) → IsAtRest (count_bundle t k (begin_memory t (page_of_gpa gpa) ws w)) (count_bundle t k (begin_memory t (page_of_gpa gpa) ws (fill_page t gpa page ws s w)))
-page_rests w t k gpa page ws entry.Free =
-    let v : World = count_bundle t k (begin_memory t (page_of_gpa gpa) ws (fill_page t gpa page ws entry.Free w)) in
-    at_rest (count_bundle t k (begin_memory t (page_of_gpa gpa) ws w)) v refl
-    (λ x a. let was = taken_back w page kind.Reg t 0 (number_at 0 gpa) (λ e. cc) v.tds refl x (record { kind = a.kind; life = a.life }) in record { kind = was.kind; life = was.life })
-page_rests w t k gpa page ws _ = at_rest (count_bundle t k (begin_memory t (page_of_gpa gpa) ws w)) _ refl (λ x a. record { kind = a.kind; life = a.life })
-
-fill_tag : (w : World) (t gpa page : ℕ) (x : Input) (s : EntryState) → Passes (page_to_fill w t [] gpa page s ++ tag_holds x ∷ []) → x.tag_right ≡ true
-fill_tag w t gpa page x entry.Free ps = search
-fill_tag w t gpa page x _ ps = search
-
--- the counter of a bundle that is taken is the one that is due
-pub is_due : (due n : ℕ) → (n == due && nat_lt due (2 ^ 32 - 1)) ≡ true → n ≡ due
-is_due due n h = eqb-true n due (and_parts (n == due) _ h).0
-
 -- what a token asks of the op state and the migration epoch
 start_is : (h : ClearHeader) → is_start h ≡ true → h.kind ≡ 5
 start_is h e = eqb-true h.kind 5 e
@@ -413,73 +402,79 @@ token_op : (b : Bool) (s : OpState) → list_any (λ a. op_number a == op_number
 token_op true s h = (token_fills true s h, λ e. cc, λ n e. cc, λ e. refl)
 token_op false s h = (token_fills false s h, begun_of filling_ops s refl h, λ n. n, λ e. absurd ((filling_fills s h).1 e))
 
-module _ (source : World) (o : Opening) (src : IsSource source) (unforged : Unforged o source.outgoing.bundles) where
+known_kind : (n m : ℕ) → n ≡ m → (m == 6) ≡ false → (n == 6) ≡ false
+known_kind n m is off = ap (λ (z : ℕ). z == 6) is ∙ off
+
+on_first : (bundles : List Made) (x : Input) (tk : IsTaken bundles x) → (x.header.kind == 3) ≡ false → counted_on tk.bundle ≡ 0
+on_first bundles x tk off = let kind : (tk.bundle.header.kind == 3) ≡ false = ap (λ (z : ClearHeader). z.kind == 3) tk.same ∙ off in rw kind refl
+
+-- pages, of any source whose bundles are well made: a call with COUNT takes lists, and as long as none without it asks for the version
+-- there must be none for it
+module _ (source : World) (o : Opening) (well : AreWellMade source.outgoing.bundles) (unforged : Unforged o source.outgoing.bundles) where
   abbrev made_there : List Made
   made_there = source.outgoing.bundles
 
-  known_kind : (n m : ℕ) → n ≡ m → (m == 6) ≡ false → (n == 6) ≡ false
-  known_kind n m is off = ap (λ (z : ℕ). z == 6) is ∙ off
+  pub keeps_pages : (t slot page : ℕ) (count : Option ℕ) → (count ≡ None → AreSingle made_there) → KeepsDestination source o (import_pages o.machine (o.bundles slot) t slot page count)
+  keeps_pages t slot page count single w l h ps =
+      let x : Input = input_in (o.bundles slot) in
+      let k : ℕ = x.header.stream in
+      let p = take_asked o.machine (o.bundles slot) w t slot page count ps in
+      let three = only_kind 3 x.header.kind p.kind in
+      let six = known_kind x.header.kind 3 three refl in
+      let tk = taken o made_there unforged slot p.form p.tag six in
+      let alive = td_alive p.td in
+      let ops = filling_fills (w.tds.ops t) p.td.op in
+      let on : counted_on tk.bundle ≡ k = (let kind : (tk.bundle.header.kind == 3) ≡ true = ap (λ (z : ClearHeader). z.kind == 3) tk.same ∙ eq-eqb x.header.kind 3 three in rw kind (ap (λ (z : ClearHeader). z.stream) tk.same)) in
+      let one : count ≡ None → is_list x.header ≡ false = λ e. ap is_list (sym tk.same) ∙ at_place (λ b. is_list b.header ≡ false) tk.before tk.after tk.bundle (subst AreSingle tk.place (single e)) in
+      taken_as t k x.header.gpa page x.words (page_count count) w (DestinationHolds source) (λ v taken_in.
+      destination_rests source (count_bundle t k (with_memories w v)) (count_bundle t k (TakenAs w v))
+      (at_rest (count_bundle t k (with_memories w v)) (count_bundle t k (TakenAs w v)) refl (λ y a. record { kind = taken_in.roots y a.kind; life = a.life }))
+      (page_holds source well o.machine w l h t alive k p.few x tk six on p.counter ops.0 p.session ops.1 three p.epoch (page_count count) (p.many one) v taken_in))
 
-  on_first : (x : Input) (tk : IsTaken made_there x) → (x.header.kind == 3) ≡ false → counted_on tk.bundle ≡ 0
-  on_first x tk off = let kind : (tk.bundle.header.kind == 3) ≡ false = ap (λ (z : ClearHeader). z.kind == 3) tk.same ∙ off in rw kind refl
+module _ (source : World) (o : Opening) (src : IsSource source) (unforged : Unforged o source.outgoing.bundles) where
+  abbrev all_made : List Made
+  all_made = source.outgoing.bundles
 
   pub keeps_immutable : (t slot : ℕ) → KeepsDestination source o (import_immutable o.machine (o.bundles slot) t slot)
   keeps_immutable t slot w l h ps =
       let x : Input = input_in (o.bundles slot) in
       let zero = only_kind 0 x.header.kind (search) in
       let six = known_kind x.header.kind 0 zero refl in
-      let tk = taken o made_there unforged slot (search) (search) six in
+      let tk = taken o all_made unforged slot (search) (search) six in
       let td : TdPassed w t first_ops = search in
       let alive = td_alive td in
       let few : 0 < length (w.tds.streams t) = ltb-true _ _ (search) in
       let new = first_op (w.tds.ops t) td.op in
       let none : stream_counter w t 0 ≡ 0 = l.streams.uncounted t (stream_page w t 0) alive new (stream_among (w.tds.streams t) 0 few) in
       let due : x.header.counter ≡ stream_counter w t 0 = is_due 0 x.header.counter (search) ∙ sym none in
-      immutable_holds source src o.machine w l h t alive 0 few x tk six (on_first x tk (ap (λ (z : ℕ). z == 3) zero)) due zero (eqb-true x.header.epoch 1 (search)) new (record { back = λ y z a. record { kind = a.kind; life = a.life }; same = λ y z. counted l t 0 _ alive few refl refl y z (rw z refl) })
-
-  pub keeps_page : (t slot page : ℕ) → KeepsDestination source o (import_pages o.machine (o.bundles slot) t slot page None)
-  keeps_page t slot page w l h ps =
-      let x : Input = input_in (o.bundles slot) in
-      let gpa : ℕ = x.header.gpa in
-      let s : EntryState = (entry_at w t 0 gpa).state in
-      let three = only_kind 3 x.header.kind (search) in
-      let six = known_kind x.header.kind 3 three refl in
-      let tk = taken o made_there unforged slot (search) (fill_tag w t gpa page x s (search)) six in
-      let td : TdPassed w t filling_ops = search in
-      let alive = td_alive td in
-      let ops = filling_fills (w.tds.ops t) td.op in
-      let few : x.header.stream < length (w.tds.streams t) = ltb-true _ _ (search) in
-      let due : x.header.counter ≡ stream_counter w t x.header.stream = is_due (stream_counter w t x.header.stream) x.header.counter (search) in
-      let on : counted_on tk.bundle ≡ x.header.stream = (let kind : (tk.bundle.header.kind == 3) ≡ true = ap (λ (z : ClearHeader). z.kind == 3) tk.same ∙ eq-eqb x.header.kind 3 three in rw kind (ap (λ (z : ClearHeader). z.stream) tk.same)) in
-      destination_rests source (count_bundle t x.header.stream (begin_memory t (page_of_gpa gpa) x.words w)) _ (page_rests w t x.header.stream gpa page x.words s)
-      (page_holds source src o.machine w l h t alive x.header.stream few x tk six on due ops.0 (eqb-true _ _ (search)) ops.1 three (eqb-true _ _ (search)))
+      immutable_holds source src.made o.machine w l h t alive 0 few x tk six (on_first all_made x tk (ap (λ (z : ℕ). z == 3) zero)) due zero (eqb-true x.header.epoch 1 (search)) new (record { back = λ y z a. record { kind = a.kind; life = a.life }; same = λ y z. counted l t 0 _ alive few refl refl y z (rw z refl) })
 
   pub keeps_td : (t slot : ℕ) → KeepsDestination source o (import_td o.machine (o.bundles slot) t slot)
   keeps_td t slot w l h ps =
       let x : Input = input_in (o.bundles slot) in
       let one = only_kind 1 x.header.kind (search) in
       let six = known_kind x.header.kind 1 one refl in
-      let tk = taken o made_there unforged slot (search) (search) six in
+      let tk = taken o all_made unforged slot (search) (search) six in
       let td : TdPassed w t td_state_ops = search in
       let alive = td_alive td in
       let ops = td_state_fills (w.tds.ops t) td.op in
       let few : 0 < length (w.tds.streams t) = l.sessions.import_stream t (td_state_importing (w.tds.ops t) td.op) in
       let due : x.header.counter ≡ stream_counter w t 0 = is_due (stream_counter w t 0) x.header.counter (search) in
-      td_holds source src o.machine w l h t alive 0 few x tk six (on_first x tk (ap (λ (z : ℕ). z == 3) one)) due ops.0 (eqb-true _ _ (search)) one (eqb-true _ _ (search)) ops.1 (record { back = λ y z a. record { kind = a.kind; life = a.life }; same = λ y z. counted l t 0 _ alive few refl refl y z (rw z refl) })
+      td_holds source src.made o.machine w l h t alive 0 few x tk six (on_first all_made x tk (ap (λ (z : ℕ). z == 3) one)) due ops.0 (eqb-true _ _ (search)) one (eqb-true _ _ (search)) ops.1 (record { back = λ y z a. record { kind = a.kind; life = a.life }; same = λ y z. counted l t 0 _ alive few refl refl y z (rw z refl) })
 
   pub keeps_vp : (t p slot : ℕ) → KeepsDestination source o (import_vp o.machine (o.bundles slot) t p slot)
   keeps_vp t p slot w l h ps =
       let x : Input = input_in (o.bundles slot) in
       let two = only_kind 2 x.header.kind (search) in
       let six = known_kind x.header.kind 2 two refl in
-      let tk = taken o made_there unforged slot (search) (search) six in
+      let tk = taken o all_made unforged slot (search) (search) six in
       let td : TdPassed w t vp_state_ops = search in
       let alive = td_alive td in
       let ops = vp_state_fills (w.tds.ops t) td.op in
       let its = and_parts (same_kind (w.pages.kinds p) kind.Tdvpr) (w.pages.owners p == t) (search) in
       let few : 0 < length (w.tds.streams t) = l.sessions.import_stream t (vp_state_importing (w.tds.ops t) td.op) in
       let due : x.header.counter ≡ stream_counter w t 0 = is_due (stream_counter w t 0) x.header.counter (search) in
-      vp_holds source src o.machine w l h t alive 0 few x tk six (on_first x tk (ap (λ (z : ℕ). z == 3) two)) due ops.0 (eqb-true _ _ (search)) p two (eqb-true _ _ (search)) ops.1
+      vp_holds source src.made o.machine w l h t alive 0 few x tk six (on_first all_made x tk (ap (λ (z : ℕ). z == 3) two)) due ops.0 (eqb-true _ _ (search)) p two (eqb-true _ _ (search)) ops.1
       its.0 (eqb-true _ _ its.1) (is_created (w.vps.states p) (search)) (eqb-true _ _ (search)) (record { back = λ y z a. record { kind = a.kind; life = a.life }; same = λ y z. vp_counted l t p _ alive few (eqb-true _ _ its.1) refl refl (λ q off. rw off refl) refl y z refl })
 
   -- the start token is of a later migration epoch than the TD is in
@@ -493,25 +488,25 @@ module _ (source : World) (o : Opening) (src : IsSource source) (unforged : Unfo
       let token = token_kind x.header.kind (search) in
       let six : (x.header.kind == 6) ≡ false = off_kind x.header.kind 6 (no_token x.header.kind 6 refl token) in
       let three : (x.header.kind == 3) ≡ false = off_kind x.header.kind 3 (no_token x.header.kind 3 refl token) in
-      let tk = taken o made_there unforged slot (search) (search) six in
+      let tk = taken o all_made unforged slot (search) (search) six in
       let td : TdPassed w t (import_token_ops (is_start x.header)) = search in
       let alive = td_alive td in
       let st : OpState = op_then (is_start x.header) (w.tds.ops t) in
       let ops = token_op (is_start x.header) (w.tds.ops t) td.op in
       let few : 0 < length (w.tds.streams t) = l.sessions.import_stream t (fills_importing (w.tds.ops t) ops.0) in
       let due : x.header.counter ≡ stream_counter w t 0 = is_due (stream_counter w t 0) x.header.counter (search) in
-      let on = on_first x tk three in
+      let on = on_first all_made x tk three in
       let same_session = eqb-true x.header.session (w.tds.sessions t) (search) in
       let b_token : is_token tk.bundle ≡ true = ap (λ (z : ClearHeader). z.kind == 4 || z.kind == 5) tk.same ∙ token in
       let epoch = eqb-true x.header.epoch (epoch_due (is_start x.header) (w.tds.mig_epochs t)) (search) in
       let b_epoch : tk.bundle.header.epoch ≡ x.header.epoch = ap (λ (z : ClearHeader). z.epoch) tk.same in
-      let have = held source src o.machine w l h t alive 0 few x tk six on due ops.0 same_session in
-      let next = nexts source src o.machine w l h t alive 0 few x tk six on due ops.0 same_session in
+      let have = held source src.made o.machine w l h t alive 0 few x tk six on due ops.0 same_session in
+      let next = nexts source src.made o.machine w l h t alive 0 few x tk six on due ops.0 same_session in
       let later = token_later (is_start x.header) (w.tds.mig_epochs t) x.header.epoch epoch (l.sessions.mig_epoch t)
       (λ e le. let five : tk.bundle.header.kind ≡ 5 = ap (λ (z : ClearHeader). z.kind) tk.same ∙ start_is x.header e in
       let high : 1 < tk.bundle.header.epoch = start_high (is_start x.header) (w.tds.mig_epochs t) x.header.epoch tk.bundle.header.epoch e epoch b_epoch in
-      let less = start_later tk.before tk.after tk.bundle (made source src o.machine w l h t alive 0 few x tk six on due) w t have next five high (omega (arith, le, b_epoch)) in omega (arith, less, b_epoch)) in
-      token_holds source src o.machine w l h t alive 0 few x tk six on due ops.0 same_session st b_token later ops.1 ops.2 (λ e. start_is x.header (ops.3 e)) (sym (eqb-true _ _ (search))) (record { back = λ y z a. record { kind = a.kind; life = a.life }; same = λ y z. counted l t 0 _ alive few refl refl y z (rw z refl) })
+      let less = start_later tk.before tk.after tk.bundle (made source src.made o.machine w l h t alive 0 few x tk six on due) w t have next five high (omega (arith, le, b_epoch)) in omega (arith, less, b_epoch)) in
+      token_holds source src.made o.machine w l h t alive 0 few x tk six on due ops.0 same_session st b_token later ops.1 ops.2 (λ e. start_is x.header (ops.3 e)) (sym (eqb-true _ _ (search))) (record { back = λ y z a. record { kind = a.kind; life = a.life }; same = λ y z. counted l t 0 _ alive few refl refl y z (rw z refl) })
     where
       start_high : (b : Bool) (own epoch made_epoch : ℕ) → b ≡ true → epoch ≡ epoch_due b own → made_epoch ≡ epoch → 1 < made_epoch
       start_high true own epoch made_epoch e is same = omega (arith, is, same)
@@ -529,7 +524,7 @@ module _ (source : World) (o : Opening) (src : IsSource source) (unforged : Unfo
       let v : World = set_op t op.LiveImport (note_commit t w) in
       let alone : Alone w v t = record { back = λ y z a. record { kind = a.kind; life = a.life }; same = λ y z. stays_on refl (λ q. le_same _) (rw z refl) } in
       record {
-        imports = λ x a. (let stays = imports_alone w v t alone (λ k. absurd (let no : false ≡ true = rw self at k.standing in cc)) x a in import_stays made_there w v x stays (h.imports x stays.importing));
+        imports = λ x a. (let stays = imports_alone w v t alone (λ k. absurd (let no : false ≡ true = rw self at k.standing in cc)) x a in import_stays all_made w v x stays (h.imports x stays.importing));
         empty = λ x a e. empty_stays source w v x h (empty_alone w v t alone (λ k z. absurd (let no : op.LiveImport ≡ op.Uninitialized = rw self at z in cc)) x a e);
         given = λ s start e. by_test (s == w.tds.sessions t)
             (λ y. (let same : image_of w t ≡ start = same_start (image_of w t) start (rw y at e) in

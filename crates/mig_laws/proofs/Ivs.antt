@@ -1,5 +1,5 @@
 -- No IV comes twice: what keeps it, act by act.
-use Rattle.std.proofs.Common.{◌≡◌, ◌≢◌, refl, sym, ◌∙◌, ap, subst, ℕ, zero, suc, ◌+◌, ◌%◌, ◌^◌, ◌<◌, ◌≤◌, List, [], length, true, false, ◌==◌, get_or, arith}
+use Rattle.std.proofs.Common.{◌≡◌, ◌≢◌, refl, sym, ◌∙◌, ap, subst, ℕ, zero, suc, ◌+◌, ◌%◌, ◌^◌, ◌<◌, ◌≤◌, List, [], length, Option, None, true, false, ◌==◌, get_or, arith}
 use Rattle.std.specs.List.{All, list_any}
 use Rattle.std.proofs.lemmas.Bool.{eqb-true, eq-eqb, ltb-true}
 use Rattle.std.proofs.lemmas.List.Elements.{All-push, All-weaker}
@@ -7,7 +7,6 @@ use Rattle.std.proofs.lemmas.List.Quantifiers.{all_pairs_push}
 use Rattle.td_words.specs.declared.names.PageKind.TheVariants as kind
 use Rattle.td_words.specs.declared.names.OpState.{OpState}
 use Rattle.td_words.specs.declared.names.OpState.TheVariants as op
-use Rattle.td_words.specs.declared.names.EntryState.TheVariants as entry
 use Rattle.td_words.specs.declared.calls.Call.{Call}
 use Rattle.td_words.specs.declared.calls.Call.TheVariants as call
 use Rattle.td_words.specs.NameNumber.{op_number}
@@ -15,20 +14,20 @@ use Rattle.flat_core.specs.World.{World, Made}
 use Rattle.flat_core.specs.Opening.{Opening}
 use Rattle.flat_core.specs.Row.{Passes}
 use Rattle.flat_core.specs.Digests.{six_words}
-use Rattle.flat_core.specs.Tree.{number_at, entry_at}
-use Rattle.flat_core.specs.Effects.{set_op, restate, add_bundle}
-use Rattle.flat_core.specs.Sessions.{About, about, header_of, stream_page, stream_counter, bundles_so_far, payload_words, count_bundle, make_bundle, begin_session, set_mig_epoch, count_export, note_td_export, note_vp_export}
-use Rattle.flat_core.specs.BundleRows.{session_ops, paused_ops, start_epoch}
+use Rattle.flat_core.specs.Effects.{set_op, add_bundle}
+use Rattle.flat_core.specs.Sessions.{About, about, header_of, stream_page, stream_counter, bundles_so_far, payload_words, count_bundle, make_bundle, begin_session, set_mig_epoch, note_td_export, note_vp_export}
+use Rattle.flat_core.specs.BundleRows.{session_ops, paused_ops, start_epoch, about_pages, export_pages}
 use Rattle.flat_core.specs.ImportRows.{given_up_ops, abort_header}
 use Rattle.flat_core.specs.Table.{row_of}
 use Rattle.flat_core.specs.Lawful.{IsAlive, Lawful, is_exporting}
 use Rattle.flat_core.proofs.Tests.{by_test, same_self}
 use Rattle.flat_core.proofs.Ranges.{paused_exporting, abortable_exporting}
 use Rattle.flat_core.proofs.Streams.{stream_owned}
-use Rattle.flat_core.proofs.Passed.{TdPassed, td_alive}
+use Rattle.flat_core.proofs.Passed.{TdPassed, td_alive, export_passed}
 use Rattle.flat_core.specs.ExportRows.{abortable_ops}
 use Rattle.mig_laws.specs.Ivs.{is_forward, SealedWith, sealed_with, FitsIv, AreSealedOnce, IsExporting, IsCounted, IvsHold, is_filling, IsImporting, AbortsHold}
 use Rattle.mig_laws.proofs.Stays.{SessionStays, IsBeside}
+use Rattle.mig_laws.proofs.Lists.{exported_so, all_words, sent_as}
 use Rattle.mig_laws.proofs.Rows.{not_among, over_beside, row-beside}
 
 -- what is said of one bundle
@@ -226,17 +225,15 @@ module _ (o : Opening) (me : ℕ) (w : World) (l : Lawful o.machine w) (h : IvsH
       (rw (same_self t) (omega (arith, room)))
       (by_test (list_any (λ p. p == stream_page w t 0) (w.tds.streams t)) (λ y. rw y (omega arith)) (λ y. rw y (l.streams.counter (stream_page w t 0))))
 
-  page_ivs : (t gpa k slot : ℕ) → Passes ((row_of o me (call.ExportMem t gpa k slot)).items w) → IvsHold (After (call.ExportMem t gpa k slot))
-  page_ivs t gpa k slot ps =
-      let td : TdPassed w t abortable_ops = search in
-      let alive = td_alive td in
-      let e = entry_at w t 0 gpa in
-      let v : World = count_export t k e.state (restate t (number_at 0 gpa) entry.ExportedBlockedW (w.tds.mig_epochs t) w) in
-      let standing = abortable_exporting (w.tds.ops t) td.op in
-      bundle_ivs t slot (record (about 3 (w.tds.mig_epochs t)) { stream = k; gpa = gpa }) (payload_words (w.words e.page) 512) v (record { alive = alive; standing = standing })
-      (ltb-true k (length (w.tds.streams t)) (search)) refl refl refl
-      (λ x a. session_same w v x (record { alive = record { kind = a.alive.kind; life = a.alive.life }; standing = a.standing }) (λ z. z) refl refl (λ j. omega arith))
-      (record { alive = record { kind = alive.kind; life = alive.life }; standing = standing }) refl refl refl
+  pub pages_ivs : (t gpa k slot : ℕ) (count : Option ℕ) → Passes ((export_pages o.machine t gpa k slot count).items w) → IvsHold ((export_pages o.machine t gpa k slot count).act w)
+  pages_ivs t gpa k slot count ps =
+      let p = export_passed o.machine w t gpa k slot count ps in
+      let alive = td_alive p.td in
+      let standing = abortable_exporting (w.tds.ops t) p.td.op in
+      sent_as o.machine t gpa k slot count w IvsHold (λ e c f done.
+      bundle_ivs t slot (about_pages w t k gpa count) (all_words w t gpa count) (exported_so w e c f) (record { alive = alive; standing = standing }) p.few refl refl refl
+      (λ x a. session_same w (exported_so w e c f) x (record { alive = record { kind = a.alive.kind; life = a.alive.life }; standing = a.standing }) (λ z. z) refl refl (λ j. omega arith))
+      (record { alive = record { kind = alive.kind; life = alive.life }; standing = standing }) refl refl refl)
 
   token_ivs : (t slot start : ℕ) → Passes ((row_of o me (call.ExportTrack t slot start)).items w) → IvsHold (After (call.ExportTrack t slot start))
   token_ivs t slot zero ps =
@@ -288,7 +285,7 @@ module _ (o : Opening) (me : ℕ) (w : World) (l : Lawful o.machine w) (h : IvsH
 
   pub row-ivs : AbortsHold w → (c : Call) → Passes ((row_of o me c).items w) → IvsHold (After c)
   row-ivs a (call.ExportStateImmutable t slot) ps = immutable_ivs t slot ps
-  row-ivs a (call.ExportMem t gpa k slot) ps = page_ivs t gpa k slot ps
+  row-ivs a (call.ExportMem t gpa k slot) ps = pages_ivs t gpa k slot None ps
   row-ivs a (call.ExportTrack t slot start) ps = token_ivs t slot start ps
   row-ivs a (call.ExportStateTd t slot) ps = td_ivs t slot ps
   row-ivs a (call.ExportStateVp t p slot) ps = vp_ivs t p slot ps

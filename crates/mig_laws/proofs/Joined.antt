@@ -216,13 +216,13 @@ module _ (s : ℕ) (counts : List ℕ) (epoch : ℕ) (before after : List Made) 
 
   last_pages : (n : ℕ) → last_imported s counts n (before ++ b ∷ after) ≡ last_payload s n before
   last_pages n =
-      last-append (λ x. is_imported s counts x && is_page_at s n x) before (b ∷ after)
+      last-append n (λ x. is_imported s counts x && is_page_at s n x) before (b ∷ after)
       ∙ rw (
-        last_same (λ x. is_imported s counts x && is_page_at s n x) (is_page_at s n) before
+        last_same n (λ x. is_imported s counts x && is_page_at s n x) (is_page_at s n) before
             (by_places (λ x. (is_imported s counts x && is_page_at s n x) ≡ is_page_at s n x) before (λ front back x is. by_test (is_page_at s n x)
             (λ y. rw (y, brought front back x is (page_of_session s n x y)) refl)
             (λ y. and_right (is_imported s counts x) _ y ∙ sym y))),
-        last_none (λ x. is_imported s counts x && is_page_at s n x) (b ∷ after)
+        last_none n (λ x. is_imported s counts x && is_page_at s n x) (b ∷ after)
             (by_places (λ x. (is_imported s counts x && is_page_at s n x) ≡ false) (b ∷ after) (λ front back x is. and_left (is_imported s counts x) _
             (at_place (λ x. is_imported s counts x ≡ false) front back x (subst (All (λ x. is_imported s counts x ≡ false)) is not_yet)))),
       ) refl

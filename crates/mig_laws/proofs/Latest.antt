@@ -5,9 +5,8 @@ use Rattle.std.proofs.lemmas.Bool.{eqb-true, eq-eqb, and_parts, and_left, and_ri
 use Rattle.std.proofs.lemmas.List.{get_or-set_same, get_or-set_other}
 use Rattle.std.proofs.lemmas.List.Elements.{All-cons, All-append}
 use Rattle.flat_core.specs.World.{Made}
-use Rattle.flat_core.specs.Tree.{page_of_gpa}
-use Rattle.flat_core.proofs.Tests.{by_test, same_self}
-use Rattle.mig_laws.specs.Source.{is_page_at}
+use Rattle.flat_core.proofs.Tests.{by_test}
+use Rattle.mig_laws.specs.Source.{has_gpa_page, is_page_at, page_words}
 use Rattle.mig_laws.specs.WellMade.{is_of, is_on, AreWellMade}
 use Rattle.mig_laws.specs.Imported.{is_imported, last_imported, one_more, counted_on, AreImported, IsNext, ImportsStayInOrder, LatestIsLast, ImportsKeepLast}
 use Rattle.mig_laws.proofs.Places.{by_places, at_place, in_front, in_back, count-append, count_yes, last-append, last_none, last_same}
@@ -88,50 +87,47 @@ module _ (s : ℕ) (counts : List ℕ) (epoch : ℕ) (before after : List Made) 
         in_time x same was e = omega (arith, was (sym same ∙ e), le)
 
     module _ (page : b.header.kind ≡ 3) (now : b.header.epoch ≡ epoch) where
-      abbrev n0 : ℕ
-      n0 = page_of_gpa b.header.gpa
-
-      -- none of its page that was made after it was imported
-      none_behind : (front back : List Made) (x : Made) → after ≡ front ++ x ∷ back → (is_imported s more x && is_page_at s n0 x) ≡ false
-      none_behind front back x is = by_test (is_imported s counts x)
-          (λ t. by_test (is_page_at s n0 x)
+      -- none of its pages that was made after it was imported
+      none_behind : (n : ℕ) → has_gpa_page b.header n ≡ true → (front back : List Made) (x : Made) → after ≡ front ++ x ∷ back → (is_imported s more x && is_page_at s n x) ≡ false
+      none_behind n has front back x is = by_test (is_imported s counts x)
+          (λ t. by_test (is_page_at s n x)
           (λ g. absurd (
           let of = (and_parts (is_of s x) _ t).0 in
           let parts = and_parts (x.header.kind == 3) _ g in
-          let place : page_of_gpa x.header.gpa ≡ n0 = eqb-true (page_of_gpa x.header.gpa) n0 (and_parts (x.header.session == s) _ parts.1).1 in
+          let there : has_gpa_page x.header n ≡ true = (and_parts (x.header.session == s) _ parts.1).1 in
           let same : b.header.session ≡ x.header.session = session_of s b next.of_session ∙ sym (session_of s x of) in
-          let at : is_page_at x.header.session (page_of_gpa x.header.gpa) b ≡ true = rw (eq-eqb b.header.kind 3 page, eq-eqb _ _ same, eq-eqb n0 (page_of_gpa x.header.gpa) (sym place)) refl in
-          let up = (behind_own s counts epoch before after b made next front back x is of).page (eqb-true x.header.kind 3 parts.0) at in
+          let at : is_page_at x.header.session n b ≡ true = rw (has, eq-eqb b.header.kind 3 page, eq-eqb _ _ same) refl in
+          let up = (behind_own s counts epoch before after b made next front back x is of).page (eqb-true x.header.kind 3 parts.0) n there at in
           let low = at_place WasInTime (b ∷ front) back x (subst (λ (z : List Made). All WasInTime (b ∷ z)) is (in_back WasInTime before (b ∷ after) have.epochs)) t in
           omega (arith, up, low, now)))
           (λ g. and_right (is_imported s more x) _ g))
           (λ t. and_left (is_imported s more x) _ (same_behind front back x is ∙ t))
 
-      own_last : last_imported s more n0 (before ++ b ∷ after) ≡ Some b.payload
-      own_last =
-          let none = last_none (λ x. is_imported s more x && is_page_at s n0 x) after (by_places (λ x. (is_imported s more x && is_page_at s n0 x) ≡ false) after none_behind) in
-          let at : is_page_at s n0 b ≡ true = rw (eq-eqb b.header.kind 3 page, eq-eqb b.header.session s (session_of s b next.of_session), same_self n0) refl in
-          last-append (λ x. is_imported s more x && is_page_at s n0 x) before (b ∷ after) ∙ rw (now_taken, at, none) refl
+      own_last : (n : ℕ) → has_gpa_page b.header n ≡ true → last_imported s more n (before ++ b ∷ after) ≡ Some (page_words n b)
+      own_last n has =
+          let none = last_none n (λ x. is_imported s more x && is_page_at s n x) after (by_places (λ x. (is_imported s more x && is_page_at s n x) ≡ false) after (none_behind n has)) in
+          let at : is_page_at s n b ≡ true = rw (has, eq-eqb b.header.kind 3 page, eq-eqb b.header.session s (session_of s b next.of_session)) refl in
+          last-append n (λ x. is_imported s more x && is_page_at s n x) before (b ∷ after) ∙ rw (now_taken, at, none) refl
 
-      other_last : (n : ℕ) → (n0 == n) ≡ false → last_imported s more n (before ++ b ∷ after) ≡ last_imported s counts n (before ++ b ∷ after)
+      other_last : (n : ℕ) → has_gpa_page b.header n ≡ false → last_imported s more n (before ++ b ∷ after) ≡ last_imported s counts n (before ++ b ∷ after)
       other_last n off =
-          last-append (λ x. is_imported s more x && is_page_at s n x) before (b ∷ after)
+          last-append n (λ x. is_imported s more x && is_page_at s n x) before (b ∷ after)
           ∙ (rw (
-            last_same (λ x. is_imported s more x && is_page_at s n x) (λ x. is_imported s counts x && is_page_at s n x) before
+            last_same n (λ x. is_imported s more x && is_page_at s n x) (λ x. is_imported s counts x && is_page_at s n x) before
                 (by_places (IsAlike n) before (λ front back x is. ap (λ (z : Bool). z && is_page_at s n x) (same_before front back x is))),
-            last_same (λ x. is_imported s more x && is_page_at s n x) (λ x. is_imported s counts x && is_page_at s n x) after
+            last_same n (λ x. is_imported s more x && is_page_at s n x) (λ x. is_imported s counts x && is_page_at s n x) after
                 (by_places (IsAlike n) after (λ front back x is. ap (λ (z : Bool). z && is_page_at s n x) (same_behind front back x is))),
             neither (is_imported s more b),
             neither (is_imported s counts b),
           ) refl
-          ∙ sym (last-append (λ x. is_imported s counts x && is_page_at s n x) before (b ∷ after)))
+          ∙ sym (last-append n (λ x. is_imported s counts x && is_page_at s n x) before (b ∷ after)))
         where
           neither : (a : Bool) → (a && is_page_at s n b) ≡ false
           neither a = and_right a _ (and_right (b.header.kind == 3) _ (and_right (b.header.session == s) _ off))
 
       pub latest : LatestIsLast s counts (before ++ b ∷ after) b
       latest = record {
-        own = ap (λ (j : ℕ). last_imported s (one_more j counts) n0 (before ++ b ∷ after)) on ∙ own_last;
+        own = λ n has. ap (λ (j : ℕ). last_imported s (one_more j counts) n (before ++ b ∷ after)) on ∙ own_last n has;
         others = λ n off. ap (λ (j : ℕ). last_imported s (one_more j counts) n (before ++ b ∷ after)) on ∙ other_last n off;
       }
 

@@ -1,5 +1,6 @@
 pub mod Stays
 pub mod Entries
+pub mod Lists
 pub mod Changes
 pub mod CallChanges
 pub mod GuestChanges
@@ -27,8 +28,10 @@ pub mod Still
 pub mod States
 pub mod Given
 pub mod ImportsKeep
+pub mod Single
 pub mod Started
 pub mod Destination
 pub mod Grows
 pub mod Hosts
 pub mod Once
+pub mod ListLaws

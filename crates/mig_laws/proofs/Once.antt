@@ -15,13 +15,13 @@ use Rattle.td_words.specs.Slots.{input_slot}
 use Rattle.flat_core.specs.World.{World, ClearHeader, put}
 use Rattle.flat_core.specs.Processor.{Phase, Trying, Undoing, Answered, Held}
 use Rattle.flat_core.specs.Opening.{Opening, Incoming}
-use Rattle.flat_core.specs.Row.{Item, Check, Try, OperationRow, Succeeds, Passes, next, next_in}
-use Rattle.flat_core.specs.Tree.{page_of_gpa, entry_at}
-use Rattle.flat_core.specs.Effects.{begin_memory, pass_operation, tell_words}
+use Rattle.flat_core.specs.Row.{Item, Row, Check, Try, OperationRow, Succeeds, Passes, next, next_in}
+use Rattle.flat_core.specs.Effects.{pass_operation, tell_words}
 use Rattle.flat_core.specs.Guest.{ByRow, operation_of, is_pending_at, reach}
-use Rattle.flat_core.specs.Sessions.{stream_page, stream_counter, count_bundle}
+use Rattle.flat_core.specs.Sessions.{stream_page, stream_counter}
 use Rattle.flat_core.specs.Inputs.{Input, input_in, has_no_fault, fault_of_input, header_of_input, has_values, most_stream}
-use Rattle.flat_core.specs.ImportRows.{filling_ops, td_state_ops, vp_state_ops, import_token_ops, is_start}
+use Rattle.flat_core.specs.PageLists.{page_count}
+use Rattle.flat_core.specs.ImportRows.{td_state_ops, vp_state_ops, import_pages, import_token_ops, is_start}
 use Rattle.flat_core.specs.Table.{row_of}
 use Rattle.flat_core.specs.Lawful.{Lawful}
 use Rattle.flat_core.specs.Event.{State, Event, OfCall, start, after_event, event}
@@ -36,7 +36,6 @@ use Rattle.flat_core.proofs.Induction.{play_append}
 use Rattle.flat_core.proofs.Memories.{memories_kept}
 use Rattle.flat_core.proofs.Operations.{operation_row, accepted}
 use Rattle.flat_core.proofs.Passed.{TdPassed, td_alive}
-use Rattle.flat_bundles.proofs.Fills.{fill_either}
 use Rattle.mig_laws.specs.Ivs.{IsImporting, AbortsHold}
 use Rattle.mig_laws.specs.Imports.{counts_of}
 use Rattle.mig_laws.specs.Once.{BundleNumber, number_of, TakesBundle, NoBundleIsTakenTwice, IsSpent, TakenAreSpent}
@@ -44,10 +43,10 @@ use Rattle.mig_laws.proofs.Counts.{count_at}
 use Rattle.mig_laws.proofs.OneMore.{only_kind, token_kind, no_token, other_kind, filling_fills}
 use Rattle.mig_laws.proofs.OneMore.{td_state_fills, vp_state_fills, token_fills, fills_importing}
 use Rattle.mig_laws.proofs.Rest.{IsAtRest}
-use Rattle.mig_laws.proofs.Changes.{begins_import, ImportGoes, import_goes, each_counts}
-use Rattle.mig_laws.proofs.CallChanges.{counts_grow, one_higher, call-changes}
+use Rattle.mig_laws.proofs.Changes.{begins_import, Changes, ImportGoes, import_goes, each_counts}
+use Rattle.mig_laws.proofs.CallChanges.{counts_grow, one_higher, pages_import, call-changes}
 use Rattle.mig_laws.proofs.RestRows.{operation_rests, reach_rests, left_rests}
-use Rattle.mig_laws.proofs.ImportsKeep.{is_due}
+use Rattle.mig_laws.proofs.Lists.{taken_as, take_asked, is_due}
 use Rattle.mig_laws.proofs.Source.{always_source}
 
 count_within : (f : ℕ → ℕ) (ps : List ℕ) (k : ℕ) → get_or (map f ps) k 0 ≤ f (get_or ps k 0)
@@ -104,11 +103,20 @@ module _ (o : Opening) (me : ℕ) (w : World) (l : Lawful o.machine w) where
   abbrev more_counted : (t k : ℕ) → ℕ → ℕ
   more_counted t k = put w.streams.counters (stream_page w t k) (stream_counter w t k + 1)
 
-  rest_stays : (c : Call) → Passes ((row_of o me c).items w) → begins_import c ≡ false → (After c).key_table.last_imported ≡ w.key_table.last_imported → Stays w (After c)
-  rest_stays c ps off last = record { last = omega (arith, last); each = λ x a. goes_on (each_counts (call-changes o me w l c ps) off x a) }
+  goes_stays : (c : Call) (v : World) → Changes c w v → begins_import c ≡ false → v.key_table.last_imported ≡ w.key_table.last_imported → Stays w v
+  goes_stays c v changes off last = record { last = omega (arith, last); each = λ x a. goes_on (each_counts changes off x a) }
 
-  abbrev with_page : (t k gpa : ℕ) → (ℕ → ℕ) → World → World
-  with_page t k gpa ws u = count_bundle t k (begin_memory t (page_of_gpa gpa) ws u)
+  rest_stays : (c : Call) → Passes ((row_of o me c).items w) → begins_import c ≡ false → (After c).key_table.last_imported ≡ w.key_table.last_imported → Stays w (After c)
+  rest_stays c ps = goes_stays c (After c) (call-changes o me w l c ps)
+
+  abbrev taking : (t slot page : ℕ) → Option ℕ → Row
+  taking t slot page count = import_pages o.machine (o.bundles slot) t slot page count
+
+  pages_stay : (t slot page : ℕ) (count : Option ℕ) → Passes ((taking t slot page count).items w) → Stays w ((taking t slot page count).act w)
+  pages_stay t slot page count ps =
+      let x : Input = input slot in
+      goes_stays (call.ImportMem t slot page) ((taking t slot page count).act w) (pages_import o me w l t slot page count ps) refl
+      (taken_as t x.header.stream x.header.gpa page x.words (page_count count) w (λ v. v.key_table.last_imported ≡ w.key_table.last_imported) (λ v taken. refl))
 
   row-stays : (c : Call) → Passes ((row_of o me c).items w) → Stays w (After c)
   row-stays (call.ImportStateImmutable t slot) ps =
@@ -123,9 +131,7 @@ module _ (o : Opening) (me : ℕ) (w : World) (l : Lawful o.machine w) where
               counts = counts_grow w.streams.counters (more_counted t 0) (w.tds.streams x) (one_higher w.streams.counters (stream_page w t 0));
             }));
       }
-  row-stays (call.ImportMem t slot page) ps =
-      let x : Input = input slot in
-      rest_stays (call.ImportMem t slot page) ps refl (fill_either (λ u. u.key_table.last_imported ≡ w.key_table.last_imported) t x.header.gpa page x.words (entry_at w t 0 x.header.gpa).state w refl refl)
+  row-stays (call.ImportMem t slot page) ps = pages_stay t slot page None ps
   row-stays (call.ExportTrack t slot zero) ps = rest_stays (call.ExportTrack t slot zero) ps refl refl
   row-stays (call.ExportTrack t slot (suc n)) ps = rest_stays (call.ExportTrack t slot (suc n)) ps refl refl
   row-stays c ps = rest_stays c ps refl refl
@@ -182,16 +188,10 @@ module _ (o : Opening) (me : ℕ) (w : World) (l : Lawful o.machine w) where
     due = due ∙ ap (stream_counter w t) (sym first);
   }
 
-  page_fits : (t slot page : ℕ) → Passes ((row_of o me (call.ImportMem t slot page)).items w) → Fits t (input slot).header
-  page_fits t slot page ps =
-      let x : Input = input slot in
-      let td : TdPassed w t filling_ops = search in
-      record {
-        importing = record { alive = td_alive td; standing = (filling_fills (w.tds.ops t) td.op).0 };
-        session = eqb-true x.header.session (w.tds.sessions t) (search);
-        few = ltb-true _ _ (search);
-        due = is_due (stream_counter w t x.header.stream) x.header.counter (search);
-      }
+  pages_fit : (t slot page : ℕ) (count : Option ℕ) → Passes ((taking t slot page count).items w) → Fits t (input slot).header
+  pages_fit t slot page count ps =
+      let p = take_asked o.machine (o.bundles slot) w t slot page count ps in
+      record { importing = record { alive = td_alive p.td; standing = (filling_fills (w.tds.ops t) p.td.op).0 }; session = p.session; few = p.few; due = p.counter }
 
   token_fits : (t slot : ℕ) → Passes ((row_of o me (call.ImportTrack t slot)).items w) → Fits t (input slot).header
   token_fits t slot ps =
@@ -247,19 +247,14 @@ module _ (o : Opening) (me : ℕ) (w : World) (l : Lawful o.machine w) where
   first_never t slot ps s =
       let later : w.key_table.last_imported < (input slot).header.session = ltb-true _ _ (search) in let low = s.begun in omega (arith, later, low)
 
-  page_spent : (t slot page : ℕ) → AbortsHold w → Passes ((row_of o me (call.ImportMem t slot page)).items w)
-      → IsSpent (After (call.ImportMem t slot page)) (number_of (input slot).header)
-  page_spent t slot page a ps =
+  pub pages_spent : (t slot page : ℕ) (count : Option ℕ) → AbortsHold w → Passes ((taking t slot page count).items w) → IsSpent ((taking t slot page count).act w) (number_of (input slot).header)
+  pages_spent t slot page count a ps =
       let x : Input = input slot in
       let k : ℕ = x.header.stream in
-      let g : ℕ = x.header.gpa in
-      let f = page_fits t slot page ps in
+      let f = pages_fit t slot page count ps in
       let counted = put_here w.streams.counters (stream_page w t k) (stream_counter w t k + 1) in
-      fill_either (λ u. Stays w (with_page t k g x.words u) → IsSpent (with_page t k g x.words u) (number_of x.header))
-      t g page x.words (entry_at w t 0 g).state w
-      (λ s. fitting_spent _ t x.header a f s refl counted)
-      (λ s. fitting_spent _ t x.header a f s refl counted)
-      (row-stays (call.ImportMem t slot page) ps)
+      taken_as t k x.header.gpa page x.words (page_count count) w (λ u. Stays w u → IsSpent u (number_of x.header)) (λ v taken s. fitting_spent _ t x.header a f s refl counted)
+      (pages_stay t slot page count ps)
 
   row-spends : (c : Call) (slot : ℕ) → input_slot c ≡ Some slot → ((input slot).header.kind == 6) ≡ false → AbortsHold w
       → Passes ((row_of o me c).items w) → IsSpent (After c) (number_of (input slot).header)
@@ -282,7 +277,7 @@ module _ (o : Opening) (me : ℕ) (w : World) (l : Lawful o.machine w) where
       by (call.ImportStateImmutable t at) e ps = (let is : at ≡ slot = cc in
           subst (λ (z : ℕ). IsSpent (After (call.ImportStateImmutable t at)) (number_of (input z).header)) is (first_spent t at a ps))
       by (call.ImportMem t at page) e ps = (let is : at ≡ slot = cc in
-          subst (λ (z : ℕ). IsSpent (After (call.ImportMem t at page)) (number_of (input z).header)) is (page_spent t at page a ps))
+          subst (λ (z : ℕ). IsSpent (After (call.ImportMem t at page)) (number_of (input z).header)) is (pages_spent t at page None a ps))
       by (call.ImportTrack t at) e ps = (let f = token_fits t at ps in
           let kind = no_token (input at).header.kind 3 refl (token_kind (input at).header.kind (search)) in
           let first = first_stream t at (search) (ne_eqb (input at).header.kind 3 kind) in
@@ -298,6 +293,9 @@ module _ (o : Opening) (me : ℕ) (w : World) (l : Lawful o.machine w) where
           spent (call.ImportStateVp t p at) t at is f (row-stays (call.ImportStateVp t p at) ps) refl (counted_first t (input at).header first))
       by c e ps = cc
 
+  pub pages_never : (t slot page : ℕ) (count : Option ℕ) → Passes ((taking t slot page count).items w) → IsSpent w (number_of (input slot).header) → ⊥
+  pages_never t slot page count ps s = never t (input slot).header (pages_fit t slot page count ps) s
+
   row-never : (c : Call) (slot : ℕ) → input_slot c ≡ Some slot → ((input slot).header.kind == 6) ≡ false → Passes ((row_of o me c).items w)
       → IsSpent w (number_of (input slot).header) → ⊥
   row-never c slot e forward ps s = by c e ps
@@ -310,7 +308,7 @@ module _ (o : Opening) (me : ℕ) (w : World) (l : Lawful o.machine w) where
           let six = only_kind 6 (input at).header.kind (search) in
           let no : true ≡ false = sym (ap (λ (n : ℕ). n == 6) six) ∙ subst (λ (z : ℕ). ((input z).header.kind == 6) ≡ false) (sym is) forward in cc)
       by (call.ImportStateImmutable t at) e ps = first_never t at ps (at_slot at cc)
-      by (call.ImportMem t at page) e ps = never t (input at).header (page_fits t at page ps) (at_slot at cc)
+      by (call.ImportMem t at page) e ps = pages_never t at page None ps (at_slot at cc)
       by (call.ImportTrack t at) e ps = never t (input at).header (token_fits t at ps) (at_slot at cc)
       by (call.ImportStateTd t at) e ps = never t (input at).header (td_fits t at ps) (at_slot at cc)
       by (call.ImportStateVp t p at) e ps = never t (input at).header (vp_fits t p at ps) (at_slot at cc)
@@ -334,7 +332,8 @@ module _ (o : Opening) (me : ℕ) (w : World) (l : Lawful o.machine w) where
           let due = is_due 0 (input at).header.counter (search) in
           subst (λ (z : ℕ). ((input z).header.stream ≡ 0) × ((input z).header.counter ≡ 0)) is (first, due))
       by (call.ExportAbortByToken t at) e ps = absurd (let is : at ≡ slot = cc in other at 6 is (only_kind 6 (input at).header.kind (search)) refl)
-      by (call.ImportMem t at page) e ps = absurd (let is : at ≡ slot = cc in other at 3 is (only_kind 3 (input at).header.kind (search)) refl)
+      by (call.ImportMem t at page) e ps = absurd (let is : at ≡ slot = cc in
+          other at 3 is (only_kind 3 (input at).header.kind (take_asked o.machine (o.bundles at) w t at page None ps).kind) refl)
       by (call.ImportTrack t at) e ps = absurd (let is : at ≡ slot = cc in
           no_token (input at).header.kind 0 refl (token_kind (input at).header.kind (search)) (at_slot at is))
       by (call.ImportStateTd t at) e ps = absurd (let is : at ≡ slot = cc in other at 1 is (only_kind 1 (input at).header.kind (search)) refl)

@@ -24,7 +24,7 @@ use Rattle.mig_laws.specs.Source.{known_words}
 use Rattle.mig_laws.specs.WellMade.{is_of, is_token, IsBehind, AreWellMade}
 use Rattle.mig_laws.specs.Imported.{is_imported, last_imported, one_more, counted_on, AreImported, IsNext}
 use Rattle.mig_laws.specs.Image.{IsComplete, IsMade, Unforged}
-use Rattle.mig_laws.specs.Imports.{counts_of, given_words, HasState, begins_epoch, ImportHolds}
+use Rattle.mig_laws.specs.Imports.{counts_of, HasState, begins_epoch, ImportHolds}
 use Rattle.mig_laws.proofs.Places.{by_places, at_place}
 use Rattle.mig_laws.proofs.Joined.{IsPlaced, imported_of, not_imported, own_place, next_counter, behind_own}
 use Rattle.mig_laws.proofs.Latest.{imports-stay-in-order}
@@ -166,7 +166,7 @@ module _ (before after : List Made) (b : Made) (made : AreWellMade (before ++ b 
     pub later : w.tds.mig_epochs t ≤ v.tds.mig_epochs t
     pub in_time : b.header.epoch ≤ v.tds.mig_epochs t
     pub epoch : v.tds.mig_epochs t ≢ 1 → list_any (begins_epoch s now (v.tds.mig_epochs t)) (before ++ b ∷ after) ≡ true
-    pub pages : (n : ℕ) → known_words v t n ≡ given_words (last_imported s now n (before ++ b ∷ after))
+    pub pages : (n : ℕ) → known_words v t n ≡ last_imported s now n (before ++ b ∷ after)
     pub mrtd : v.tds.mrtds t ≡ w.tds.mrtds t
     pub expected : v.tds.vps_expected t ≡ w.tds.vps_expected t
     pub vps : v.tds.vps t ≡ w.tds.vps t
@@ -179,7 +179,7 @@ module _ (before after : List Made) (b : Made) (made : AreWellMade (before ++ b 
       record {
         have = as_now (λ q c. AreImported q c (v.tds.mig_epochs t) bundles) (imports-stay-in-order s was (w.tds.mig_epochs t) (v.tds.mig_epochs t) before after b made h.have next k.later k.in_time);
         tracked = λ first. as_now (λ q c. list_any (begins_epoch q c (v.tds.mig_epochs t)) bundles ≡ true) (k.epoch first);
-        pages = λ n. as_now (λ q c. known_words v t n ≡ given_words (last_imported q c n bundles)) (k.pages n);
+        pages = λ n. as_now (λ q c. known_words v t n ≡ last_imported q c n bundles) (k.pages n);
         begun = record {
           before = h.begun.before;
           after = h.begun.after;
@@ -206,10 +206,10 @@ module _ (before after : List Made) (b : Made) (made : AreWellMade (before ++ b 
       (h.tracked (λ e. first (same ∙ e))))
 
   -- where it has no page, and no page is given
-  pub same_pages : (h : ImportHolds bundles w t) → (b.header.kind == 3) ≡ false → ((n : ℕ) → v.hidden.memories t n ≡ w.hidden.memories t n) → (n : ℕ) → known_words v t n ≡ given_words (last_imported s now n bundles)
+  pub same_pages : (h : ImportHolds bundles w t) → (b.header.kind == 3) ≡ false → ((n : ℕ) → v.hidden.memories t n ≡ w.hidden.memories t n) → (n : ℕ) → known_words v t n ≡ last_imported s now n bundles
   same_pages h kind memories n =
       let known : known_words v t n ≡ known_words w t n = rw (memories n) refl in
-      known ∙ (h.pages n ∙ ap given_words (sym (last_stays s was 0 before after b made next n (and_left (b.header.kind == 3) _ kind))))
+      known ∙ (h.pages n ∙ sym (last_stays s was 0 before after b made next n (and_left (b.header.kind == 3) _ kind)))
 
 -- The start token comes in a later migration epoch: one before it that begins the last epoch would be made before it, too late,
 -- or after it, where pages alone are.

@@ -1,5 +1,5 @@
 -- What was paused, and what a start token says: what keeps it, event by event.
-use Rattle.std.proofs.Common.{◌≡◌, refl, sym, ◌∙◌, ap, subst, ℕ, zero, suc, ◌+◌, ◌-◌, ◌%◌, ◌^◌, List, [], ◌∷◌, ◌++◌, length, Option, Some, option_map, Bool, true, false, ◌==◌, ◌||◌, arith}
+use Rattle.std.proofs.Common.{◌≡◌, refl, sym, ◌∙◌, ap, subst, ℕ, zero, suc, ◌+◌, ◌-◌, ◌%◌, ◌^◌, List, [], ◌∷◌, ◌++◌, length, Option, Some, None, option_map, Bool, true, false, ◌==◌, ◌||◌, arith}
 use Rattle.std.specs.List.{All, list_any, sum_by}
 use Rattle.std.proofs.lemmas.Bool.{eqb-true, eq-eqb, ne_eqb, and_left, and_right}
 use Rattle.std.proofs.lemmas.List.Elements.{All-head, All-tail, All-weaker}
@@ -7,8 +7,8 @@ use Rattle.td_words.specs.declared.names.Access.{Access}
 use Rattle.td_words.specs.declared.names.PageKind.TheVariants as kind
 use Rattle.td_words.specs.declared.names.OpState.{OpState}
 use Rattle.td_words.specs.declared.names.OpState.TheVariants as op
-use Rattle.td_words.specs.declared.names.EntryState.TheVariants as entry
 use Rattle.td_words.specs.declared.machines.Machine.{Machine}
+use Rattle.td_words.specs.Packing.{Entry}
 use Rattle.td_words.specs.declared.calls.Call.{Call}
 use Rattle.td_words.specs.declared.calls.Call.TheVariants as call
 use Rattle.td_words.specs.declared.calls.GuestOp.{GuestOp}
@@ -18,13 +18,13 @@ use Rattle.flat_core.specs.Opening.{Opening, Incoming}
 use Rattle.flat_core.specs.Row.{OperationRow, Passes}
 use Rattle.flat_core.specs.Conditions.{running_ops}
 use Rattle.flat_core.specs.Digests.{six_words}
-use Rattle.flat_core.specs.Tree.{page_of_gpa, number_at, entry_at}
-use Rattle.flat_core.specs.Effects.{set_op, restate, tell_words, add_bundle}
+use Rattle.flat_core.specs.Tree.{page_of_gpa}
+use Rattle.flat_core.specs.Effects.{set_op, tell_words, add_bundle}
 use Rattle.flat_core.specs.Translations.{look_up}
 use Rattle.flat_core.specs.Guest.{ByRow, operation_of, reach}
-use Rattle.flat_core.specs.Sessions.{About, about, header_of, dirty_count, bundles_so_far, payload_words, make_bundle, begin_session, set_mig_epoch, count_export, note_td_export, note_vp_export}
+use Rattle.flat_core.specs.Sessions.{About, about, header_of, dirty_count, bundles_so_far, payload_words, make_bundle, begin_session, set_mig_epoch, note_td_export, note_vp_export}
 use Rattle.flat_core.specs.ExportRows.{live_ops, abortable_ops, image_of, note_pause}
-use Rattle.flat_core.specs.BundleRows.{start_epoch, paused_ops}
+use Rattle.flat_core.specs.BundleRows.{start_epoch, paused_ops, export_pages}
 use Rattle.flat_core.specs.Exports.{is_dirty}
 use Rattle.flat_core.specs.Table.{row_of}
 use Rattle.flat_core.specs.Lawful.{IsPageOf, IsAlive, Lawful, is_exporting}
@@ -37,14 +37,15 @@ use Rattle.flat_core.proofs.Acts.{event_world}
 use Rattle.flat_core.proofs.Induction.{in_runs}
 use Rattle.flat_core.proofs.Always.{occ-of}
 use Rattle.flat_core.proofs.Ranges.{live_exporting, paused_exporting, abortable_exporting}
-use Rattle.flat_core.proofs.Passed.{TdPassed, td_alive}
+use Rattle.flat_core.proofs.Passed.{TdPassed, td_alive, export_passed}
 use Rattle.mig_laws.specs.Ivs.{is_forward, IsExporting, IvsHold}
-use Rattle.mig_laws.specs.Source.{is_page_at, last_payload, ArePagesSent, SourceHolds}
+use Rattle.mig_laws.specs.Source.{has_gpa_page, is_page_at, last_payload, ArePagesSent, SourceHolds}
 use Rattle.mig_laws.specs.Paused.{is_start, has_start, IsSentAsPaused, StartedAreSentAsPaused, is_paused, IsAsPaused, PausesHold, PausesAreKept}
 use Rattle.mig_laws.proofs.Stays.{IsBeside, unmoved}
 use Rattle.mig_laws.proofs.Rows.{over_beside, row-beside}
 use Rattle.mig_laws.proofs.Ivs.{IsGiven, back_token}
-use Rattle.mig_laws.proofs.Sent.{last_beside}
+use Rattle.mig_laws.proofs.Lists.{sent_bundle, sent_world, sent_as}
+use Rattle.mig_laws.proofs.Places.{last_beside}
 use Rattle.mig_laws.proofs.Calm.{IsCalm, calm_over, row-calm}
 use Rattle.mig_laws.proofs.Changes.{Alone}
 use Rattle.mig_laws.proofs.GuestChanges.{Fixed, fixed, operation_fixed, reach_fixed, operation_alone, reach_alone}
@@ -109,7 +110,7 @@ module _ (t slot : ℕ) (a : About) (payload : List ℕ) (w : World) (other : (a
     paused = λ x b p. (let old = h.paused x (record { alive = record { kind = b.alive.kind; life = b.alive.life }; standing = b.standing }) p in record { image = old.image; noted = old.noted; pages = old.pages });
     started = λ x b e. h.started x (record { alive = record { kind = b.alive.kind; life = b.alive.life }; standing = b.standing }) (sym (same_starts (w.tds.sessions x)) ∙ e);
     sent = λ s e. (let old = h.sent s (sym (same_starts s) ∙ e) in
-        record { image = old.image; noted = old.noted; pages = λ n p is. old.pages n p (sym (last_beside (is_page_at s n) w.outgoing.bundles new (rw other refl)) ∙ is) });
+        record { image = old.image; noted = old.noted; pages = λ n p is. old.pages n p (sym (last_beside n (is_page_at s n) w.outgoing.bundles new (rw other refl)) ∙ is) });
   }
 
 -- the token back to a source neither starts nor has a page
@@ -118,7 +119,7 @@ pauses_back w token six h = record {
   paused = λ x b p. (let old = h.paused x (record { alive = b.alive; standing = b.standing }) p in record { image = old.image; noted = old.noted; pages = old.pages });
   started = λ x b e. h.started x (record { alive = b.alive; standing = b.standing }) (sym (no_starts (w.tds.sessions x)) ∙ e);
   sent = λ s e. (let old = h.sent s (sym (no_starts s) ∙ e) in
-      record { image = old.image; noted = old.noted; pages = λ n p is. old.pages n p (sym (last_beside (is_page_at s n) w.outgoing.bundles token (rw six refl)) ∙ is) });
+      record { image = old.image; noted = old.noted; pages = λ n p is. old.pages n p (sym (last_beside n (is_page_at s n) w.outgoing.bundles token (rw six refl)) ∙ is) });
 }
   where
     no_starts : (s : ℕ) → has_start s (w.outgoing.bundles ++ token ∷ []) ≡ has_start s w.outgoing.bundles
@@ -140,30 +141,25 @@ begun_pauses t w i h = record {
 pub not_post : (w : World) (t : ℕ) → PausesHold w → IsExporting w t → (w.tds.ops t ≡ op.PostExport → ⊥) → has_start (w.tds.sessions t) w.outgoing.bundles ≡ false
 not_post w t h a never = by_test (has_start (w.tds.sessions t) w.outgoing.bundles) (λ y. absurd (never (h.started t a y))) (λ y. y)
 
--- a page is exported, of a session without a start token
-page_pauses : (t gpa k slot : ℕ) (w : World) → PausesHold w → IsExporting w t → (w.tds.ops t ≡ op.PostExport → ⊥)
-    → PausesHold (make_bundle t slot (record (about 3 (w.tds.mig_epochs t)) { stream = k; gpa = gpa }) (payload_words (w.words (entry_at w t 0 gpa).page) 512)
-    (count_export t k (entry_at w t 0 gpa).state (restate t (number_at 0 gpa) entry.ExportedBlockedW (w.tds.mig_epochs t) w)))
-page_pauses t gpa k slot w h exporting never = record {
+-- pages are exported, of a session without a start token
+pages_pauses : (t gpa k slot : ℕ) (count : Option ℕ) (w : World) (entries : ℕ → ℕ → ℕ → Entry) (cleaned first : ℕ → ℕ) → PausesHold w → IsExporting w t → (w.tds.ops t ≡ op.PostExport → ⊥)
+    → PausesHold (sent_world w t gpa k slot count entries cleaned first)
+pages_pauses t gpa k slot count w entries cleaned first h exporting never = record {
   paused = λ x b p. (let old = h.paused x (record { alive = record { kind = b.alive.kind; life = b.alive.life }; standing = b.standing }) p in record { image = old.image; noted = old.noted; pages = old.pages });
   started = λ x b e. h.started x (record { alive = record { kind = b.alive.kind; life = b.alive.life }; standing = b.standing }) (sym (same_starts (w.tds.sessions x)) ∙ e);
   sent = λ s e. (let started = sym (same_starts s) ∙ e in
       let old = h.sent s started in
-      record { image = old.image; noted = old.noted; pages = λ n p is. old.pages n p (sym (last_beside (is_page_at s n) w.outgoing.bundles new (elsewhere s n started)) ∙ is) });
+      record { image = old.image; noted = old.noted; pages = λ n p is. old.pages n p (sym (last_beside n (is_page_at s n) w.outgoing.bundles new (elsewhere s n started)) ∙ is) });
 }
   where
     new : Made
-    new = record {
-      slot = slot;
-      header = header_of (count_export t k (entry_at w t 0 gpa).state (restate t (number_at 0 gpa) entry.ExportedBlockedW (w.tds.mig_epochs t) w)) t (record (about 3 (w.tds.mig_epochs t)) { stream = k; gpa = gpa });
-      payload = payload_words (w.words (entry_at w t 0 gpa).page) 512;
-    }
+    new = sent_bundle w t gpa k slot count
 
     same_starts : (s : ℕ) → has_start s (w.outgoing.bundles ++ new ∷ []) ≡ has_start s w.outgoing.bundles
     same_starts s = start_end (is_start s) w.outgoing.bundles new refl
 
     elsewhere : (s n : ℕ) → has_start s w.outgoing.bundles ≡ true → is_page_at s n new ≡ false
-    elsewhere s n e = and_left (w.tds.sessions t == s) (page_of_gpa gpa == n) (by_test (w.tds.sessions t == s)
+    elsewhere s n e = and_left (w.tds.sessions t == s) (has_gpa_page new.header n) (by_test (w.tds.sessions t == s)
         (λ y. absurd (let some : has_start (w.tds.sessions t) w.outgoing.bundles ≡ true = subst (λ (z : ℕ). has_start z w.outgoing.bundles ≡ true) (sym (eqb-true _ s y)) e in let no : true ≡ false = sym some ∙ not_post w t h exporting never in cc))
         (λ y. y))
 
@@ -199,7 +195,7 @@ module _ (m : Machine) (t slot : ℕ) (a : About) (w : World) (l : Lawful m w) (
         image = old.image;
         noted = old.noted;
         pages = λ n p is.
-            let known = (sent_by t n p exporting (sym (last_beside (is_page_at (w.tds.sessions t) n) w.outgoing.bundles token (no_page (w.tds.sessions t) n)) ∙ is)).known (clean n) in
+            let known = (sent_by t n p exporting (sym (last_beside n (is_page_at (w.tds.sessions t) n) w.outgoing.bundles token (no_page (w.tds.sessions t) n)) ∙ is)).known (clean n) in
             ap (option_map (λ words. payload_words words 512)) (old.pages n) ∙ known;
       }
 
@@ -214,7 +210,7 @@ module _ (m : Machine) (t slot : ℕ) (a : About) (w : World) (l : Lawful m w) (
     sent = λ s e. by_test (w.tds.sessions t == s)
         (λ y. subst (λ (z : ℕ). IsSentAsPaused after z) (eqb-true _ s y) own_sent)
         (λ y. (let old = h.sent s (sym (starts_other s y) ∙ e) in
-        record { image = old.image; noted = old.noted; pages = λ n p is. old.pages n p (sym (last_beside (is_page_at s n) w.outgoing.bundles token (no_page s n)) ∙ is) }));
+        record { image = old.image; noted = old.noted; pages = λ n p is. old.pages n p (sym (last_beside n (is_page_at s n) w.outgoing.bundles token (no_page s n)) ∙ is) }));
   }
 
 -- EXPORT.PAUSE
@@ -305,15 +301,19 @@ module _ (o : Opening) (me : ℕ) (w : World) (l : Lawful o.machine w) (src : So
       started_pauses o.machine t slot (record (about 5 start_epoch) { total = bundles_so_far w t }) w l src.ivs src.sent h (record { alive = alive; standing = paused_exporting (w.tds.ops t) td.op })
       (is_pausing (w.tds.ops t) td.op) refl (none_dirty_here o.machine w l t alive (search))
 
+  pub sent_pauses : (t gpa k slot : ℕ) (count : Option ℕ) → Passes ((export_pages o.machine t gpa k slot count).items w) → PausesHold ((export_pages o.machine t gpa k slot count).act w)
+  sent_pauses t gpa k slot count ps =
+      let td = (export_passed o.machine w t gpa k slot count ps).td in
+      sent_as o.machine t gpa k slot count w PausesHold (λ e c f done.
+      pages_pauses t gpa k slot count w e c f h (record { alive = td_alive td; standing = abortable_exporting (w.tds.ops t) td.op }) (abortable_stands (w.tds.ops t) td.op))
+
   pub row-pauses : (c : Call) → Passes ((row_of o me c).items w) → PausesHold (After c)
   row-pauses (call.ExportPause t) ps =
       let td : TdPassed w t live_ops = search in
       held_pauses t w src.ivs h (record { alive = td_alive td; standing = live_exporting (w.tds.ops t) td.op }) (only_live (w.tds.ops t) td.op)
   row-pauses (call.ExportStateImmutable t slot) ps =
       pauses_made t slot (record (about 0 1) { info = length (w.tds.vps t) }) (six_words (w.tds.mrtds t)) (begin_session t w) refl refl (begun_pauses t w src.ivs h)
-  row-pauses (call.ExportMem t gpa k slot) ps =
-      let td : TdPassed w t abortable_ops = search in
-      page_pauses t gpa k slot w h (record { alive = td_alive td; standing = abortable_exporting (w.tds.ops t) td.op }) (abortable_stands (w.tds.ops t) td.op)
+  row-pauses (call.ExportMem t gpa k slot) ps = sent_pauses t gpa k slot None ps
   row-pauses (call.ExportTrack t slot start) ps = token_pauses t slot start ps
   row-pauses (call.ExportStateTd t slot) ps =
       pauses_made t slot (about 1 (w.tds.mig_epochs t)) (payload_words (w.hidden.rtmrs t) 24) (note_td_export t w) refl refl (before_pauses _ (unmoved w _ refl refl (λ x n. refl) refl refl) refl refl refl)

@@ -6,7 +6,7 @@ use Rattle.std.proofs.lemmas.List.Sums.{sum_by-cons, sum_by-append}
 use Rattle.flat_core.specs.World.{Made}
 use Rattle.flat_core.specs.Locks.{sum_below}
 use Rattle.flat_core.proofs.Tests.{by_test}
-use Rattle.mig_laws.specs.Source.{later_of, last_of}
+use Rattle.mig_laws.specs.Source.{page_words, later_of, last_of}
 
 -- what holds at each place of a list holds of each, and the other way round
 pub by_places : (P : Made → Type 0) (xs : List Made) → ((front back : List Made) (x : Made) → xs ≡ front ++ x ∷ back → P x) → All P xs
@@ -96,18 +96,26 @@ later_none : (x : Option (List ℕ)) → later_of None x ≡ x
 later_none None = refl
 later_none (Some p) = refl
 
-pub last-append : (p : Made → Bool) (xs ys : List Made) → last_of p (xs ++ ys) ≡ later_of (last_of p xs) (last_of p ys)
-last-append p [] ys = sym (later_none (last_of p ys))
-last-append p (x ∷ xs) ys =
-    ap (later_of (if p x then Some x.payload else None)) (last-append p xs ys) ∙ later_later (if p x then Some x.payload else None) (last_of p xs) (last_of p ys)
+pub last-append : (n : ℕ) (p : Made → Bool) (xs ys : List Made) → last_of n p (xs ++ ys) ≡ later_of (last_of n p xs) (last_of n p ys)
+last-append n p [] ys = sym (later_none (last_of n p ys))
+last-append n p (x ∷ xs) ys =
+    let own : Option (List ℕ) = if p x then Some (page_words n x) else None in
+    ap (later_of own) (last-append n p xs ys) ∙ later_later own (last_of n p xs) (last_of n p ys)
 
-pub last_none : (p : Made → Bool) (xs : List Made) → All (λ x. p x ≡ false) xs → last_of p xs ≡ None
-last_none p [] h = refl
-last_none p (x ∷ xs) h = rw (All-head (λ y. p y ≡ false) x xs h, last_none p xs (All-tail (λ y. p y ≡ false) x xs h)) refl
+pub last_none : (n : ℕ) (p : Made → Bool) (xs : List Made) → All (λ x. p x ≡ false) xs → last_of n p xs ≡ None
+last_none n p [] h = refl
+last_none n p (x ∷ xs) h = rw (All-head (λ y. p y ≡ false) x xs h, last_none n p xs (All-tail (λ y. p y ≡ false) x xs h)) refl
 
-pub last_same : (p q : Made → Bool) (xs : List Made) → All (λ x. p x ≡ q x) xs → last_of p xs ≡ last_of q xs
-last_same p q [] h = refl
-last_same p q (x ∷ xs) h = rw (All-head (λ y. p y ≡ q y) x xs h, last_same p q xs (All-tail (λ y. p y ≡ q y) x xs h)) refl
+pub last_same : (n : ℕ) (p q : Made → Bool) (xs : List Made) → All (λ x. p x ≡ q x) xs → last_of n p xs ≡ last_of n q xs
+last_same n p q [] h = refl
+last_same n p q (x ∷ xs) h = rw (All-head (λ y. p y ≡ q y) x xs h, last_same n p q xs (All-tail (λ y. p y ≡ q y) x xs h)) refl
+
+-- with one more at the end
+pub last_beside : (n : ℕ) (p : Made → Bool) (xs : List Made) (x : Made) → p x ≡ false → last_of n p (xs ++ x ∷ []) ≡ last_of n p xs
+last_beside n p xs x e = last-append n p xs (x ∷ []) ∙ rw e refl
+
+pub last_new : (n : ℕ) (p : Made → Bool) (xs : List Made) (x : Made) → p x ≡ true → last_of n p (xs ++ x ∷ []) ≡ Some (page_words n x)
+last_new n p xs x e = last-append n p xs (x ∷ []) ∙ rw e refl
 
 -- a sum over a list, by places
 sum_front : (f : ℕ → ℕ) (n : ℕ) → sum_below f (suc n) ≡ f 0 + sum_below (λ k. f (suc k)) n

@@ -16,7 +16,7 @@ use Rattle.mig_laws.specs.Source.{known_words}
 use Rattle.mig_laws.specs.WellMade.{is_of}
 use Rattle.mig_laws.specs.Imported.{is_imported, last_imported, AreImported}
 use Rattle.mig_laws.specs.Image.{IsComplete}
-use Rattle.mig_laws.specs.Imports.{counts_of, given_words, IsVpGiven, HasState, begins_epoch, ImportHolds, DestinationHolds}
+use Rattle.mig_laws.specs.Imports.{counts_of, IsVpGiven, HasState, begins_epoch, ImportHolds, DestinationHolds}
 
 -- what is said of one TD besides its virtual processors and its guest's memory
 pub record Filled : Type 0 where
@@ -96,7 +96,7 @@ module _ (bundles : List Made) (w v : World) (x : ℕ) (k : ImportStays w v x) (
         (subst (λ (c : List ℕ). list_any (begins_epoch (w.tds.sessions x) c (w.tds.mig_epochs x)) bundles ≡ true) (sym k.counts) (h.tracked (λ e. first (ap (λ (z : Filled). z.epoch) k.own ∙ e))));
     pages = λ n. (let known : known_words v x n ≡ known_words w x n = rw (k.memories n) refl in
         let last : last_imported (v.tds.sessions x) (counts_of v x) n bundles ≡ last_imported (w.tds.sessions x) (counts_of w x) n bundles = λ j. last_imported (k.own j).session (k.counts j) n bundles in
-        known ∙ (h.pages n ∙ ap given_words (sym last)));
+        known ∙ (h.pages n ∙ sym last));
     begun = record {
       before = h.begun.before;
       after = h.begun.after;

@@ -1,8 +1,8 @@
 -- What was sent of a source's pages: what keeps it, act by act.
-use Rattle.std.proofs.Common.{◌≡◌, refl, sym, ◌∙◌, ap, subst, ℕ, zero, suc, ◌+◌, ◌%◌, ◌^◌, List, [], ◌∷◌, ◌++◌, length, Option, Some, None, option_map, Bool, true, false, ◌==◌, ◌&&◌, if◌then◌else◌, arith}
-use Rattle.std.specs.List.{All, list_any}
+use Rattle.std.proofs.Common.{◌≡◌, refl, sym, ◌∙◌, ap, subst, ℕ, zero, suc, ◌+◌, ◌%◌, ◌^◌, List, [], ◌∷◌, length, Option, Some, None, option_map, Bool, true, false, ◌==◌, ◌&&◌, arith}
+use Rattle.std.specs.List.{list_any}
 use Rattle.std.proofs.lemmas.Bool.{eqb-true, eq-eqb, ne_eqb, and_left, and_parts}
-use Rattle.std.proofs.lemmas.List.Elements.{All-head, All-tail, All-weaker}
+use Rattle.std.proofs.lemmas.List.Elements.{All-weaker}
 use Rattle.td_words.specs.declared.names.OpState.{OpState}
 use Rattle.td_words.specs.declared.names.OpState.TheVariants as op
 use Rattle.td_words.specs.declared.names.EntryState.{EntryState}
@@ -15,58 +15,34 @@ use Rattle.flat_core.specs.World.{World, Made}
 use Rattle.flat_core.specs.Opening.{Opening}
 use Rattle.flat_core.specs.Row.{Passes}
 use Rattle.flat_core.specs.Digests.{six_words}
-use Rattle.flat_core.specs.Tree.{page_of_gpa, number_at, entry_at, same_state}
+use Rattle.flat_core.specs.Tree.{page_of_gpa, same_state}
 use Rattle.flat_core.specs.Tracking.{is_tracked}
-use Rattle.flat_core.specs.Effects.{set_op, restate, add_bundle}
-use Rattle.flat_core.specs.Sessions.{About, about, header_of, bundles_so_far, unrestored_count, payload_words, make_bundle, begin_session, set_mig_epoch, count_export, note_td_export, note_vp_export}
-use Rattle.flat_core.specs.BundleRows.{session_ops, start_epoch, exportable, tracked_in}
+use Rattle.flat_core.specs.Effects.{set_op, add_bundle}
+use Rattle.flat_core.specs.Sessions.{About, about, header_of, bundles_so_far, unrestored_count, payload_words, make_bundle, begin_session, set_mig_epoch, note_td_export, note_vp_export}
+use Rattle.flat_core.specs.BundleRows.{session_ops, start_epoch, exportable, export_pages}
 use Rattle.flat_core.specs.Exports.{is_dirty}
 use Rattle.flat_core.specs.Table.{row_of}
 use Rattle.flat_core.specs.Lawful.{IsAlive, Lawful, is_exporting}
-use Rattle.flat_core.specs.Laws.{AreSoMany, holds_memory, memory_of, ArePagesKnown}
+use Rattle.flat_core.specs.Laws.{AreSoMany, holds_memory, ArePagesKnown}
 use Rattle.flat_core.proofs.Tests.{by_test, same_self}
 use Rattle.flat_core.proofs.Counted.{are_counted}
 use Rattle.flat_core.proofs.Ranges.{paused_exporting, abortable_exporting}
-use Rattle.flat_core.proofs.Passed.{TdPassed, td_alive}
-use Rattle.flat_core.specs.ExportRows.{abortable_ops}
+use Rattle.flat_core.proofs.Passed.{TdPassed, td_alive, export_passed}
+use Rattle.flat_guests.specs.Memory.{is_in_run}
+use Rattle.flat_core.specs.PageLists.{page_count}
 use Rattle.mig_laws.specs.Ivs.{is_forward, IsExporting, IvsHold, AbortsHold}
-use Rattle.mig_laws.specs.Source.{is_page_at, later_of, last_of, last_payload, IsSent, ArePagesSent, AreSentTracked, SourceHolds}
+use Rattle.mig_laws.specs.Source.{has_gpa_page, is_page_at, page_words, last_payload, IsSent, ArePagesSent, AreSentTracked, SourceHolds}
 use Rattle.mig_laws.proofs.Stays.{PageStays, IsBeside, beside, unmoved}
 use Rattle.mig_laws.proofs.CallChanges.{le_same}
 use Rattle.mig_laws.proofs.Rows.{over_beside, row-beside}
-use Rattle.mig_laws.proofs.Ivs.{IsGiven, back_token, beside_ivs, row-ivs}
-use Rattle.mig_laws.proofs.Aborts.{row-aborts}
-
--- the last payload after one more bundle
-
-abbrev payload_if : (Made → Bool) → Made → Option (List ℕ)
-payload_if f b = if f b then Some b.payload else None
-
-later_none : (x : Option (List ℕ)) → later_of None x ≡ x
-later_none None = refl
-later_none (Some p) = refl
-
-later_later : (x y z : Option (List ℕ)) → later_of x (later_of y z) ≡ later_of (later_of x y) z
-later_later x y None = refl
-later_later x y (Some p) = refl
-
-last_end : (f : Made → Bool) (bs : List Made) (b : Made) → last_of f (bs ++ b ∷ []) ≡ later_of (last_of f bs) (payload_if f b)
-last_end f [] b = sym (later_none (payload_if f b))
-last_end f (c ∷ bs) b = ap (later_of (payload_if f c)) (last_end f bs b) ∙ later_later (payload_if f c) (last_of f bs) (payload_if f b)
-
-pub last_beside : (f : Made → Bool) (bs : List Made) (b : Made) → f b ≡ false → last_of f (bs ++ b ∷ []) ≡ last_of f bs
-last_beside f bs b e = last_end f bs b ∙ rw e refl
-
-pub last_new : (f : Made → Bool) (bs : List Made) (b : Made) → f b ≡ true → last_of f (bs ++ b ∷ []) ≡ Some b.payload
-last_new f bs b e = last_end f bs b ∙ rw e refl
-
-pub none_passes : (f : Made → Bool) (bs : List Made) → All (λ b. f b ≡ false) bs → last_of f bs ≡ None
-none_passes f [] h = refl
-none_passes f (b ∷ bs) h = rw (All-head (λ b. f b ≡ false) b bs h, none_passes f bs (All-tail (λ b. f b ≡ false) b bs h)) refl
+use Rattle.mig_laws.proofs.Lists.{AreExported, sent_bundle, sent_world, sent_as, NewHasPages, new_has_pages, pages_passed, each_tracked, words_of_page}
+use Rattle.mig_laws.proofs.Places.{last_none, last_beside, last_new}
+use Rattle.mig_laws.proofs.Ivs.{IsGiven, back_token, beside_ivs, pages_ivs, row-ivs}
+use Rattle.mig_laws.proofs.Aborts.{pages_aborts, row-aborts}
 
 -- no bundle has the number that the next session gets
 pub none_yet : (w : World) (n : ℕ) → IvsHold w → last_payload (w.key_table.last_exported + 1) n w.outgoing.bundles ≡ None
-none_yet w n h = none_passes (is_page_at (w.key_table.last_exported + 1) n) w.outgoing.bundles (All-weaker (IsGiven w) (λ b. is_page_at (w.key_table.last_exported + 1) n b ≡ false) old w.outgoing.bundles h.given)
+none_yet w n h = last_none n (is_page_at (w.key_table.last_exported + 1) n) w.outgoing.bundles (All-weaker (IsGiven w) (λ b. is_page_at (w.key_table.last_exported + 1) n b ≡ false) old w.outgoing.bundles h.given)
   where
     forward : (b : Made) → b.header.kind ≡ 3 → is_forward b ≡ true
     forward b k = rw k refl
@@ -105,7 +81,7 @@ module _ (t slot : ℕ) (a : About) (payload : List ℕ) (w : World) (other : (a
   pub sent_made : ArePagesSent w → ArePagesSent made
   sent_made h x n p b e =
       let s = h x n p (record { alive = record { kind = b.alive.kind; life = b.alive.life }; standing = b.standing })
-      (sym (last_beside (is_page_at (w.tds.sessions x) n) w.outgoing.bundles (record { slot = slot; header = header_of w t a; payload = payload }) (rw other refl)) ∙ e) in
+      (sym (last_beside n (is_page_at (w.tds.sessions x) n) w.outgoing.bundles (record { slot = slot; header = header_of w t a; payload = payload }) (rw other refl)) ∙ e) in
       record { exported = s.exported; known = s.known }
 
   pub tracked_made : AreSentTracked w → AreSentTracked made
@@ -114,7 +90,7 @@ module _ (t slot : ℕ) (a : About) (payload : List ℕ) (w : World) (other : (a
 -- nor has the token back to a source
 sent_back : (w : World) (token : Made) → token.header.kind ≡ 6 → ArePagesSent w → ArePagesSent (add_bundle token w)
 sent_back w token six h x n p b e =
-    let s = h x n p (record { alive = b.alive; standing = b.standing }) (sym (last_beside (is_page_at (w.tds.sessions x) n) w.outgoing.bundles token (rw six refl)) ∙ e) in
+    let s = h x n p (record { alive = b.alive; standing = b.standing }) (sym (last_beside n (is_page_at (w.tds.sessions x) n) w.outgoing.bundles token (rw six refl)) ∙ e) in
     record { exported = s.exported; known = s.known }
 
 tracked_back : (w : World) (token : Made) → AreSentTracked w → AreSentTracked (add_bundle token w)
@@ -157,73 +133,58 @@ exportable_holds _ entry.Pending h = cc
 exportable_holds _ entry.PendingBlocked h = cc
 exportable_holds _ _ h = refl
 
-tracked_then : (s : OpState) (w : World) (t gpa : ℕ) → Passes (tracked_in s w t (gpa ∷ [])) → s ≡ op.LiveExport → is_tracked w t (entry_at w t 0 gpa).page ≡ true
-tracked_then op.LiveExport w t gpa ps e = ps.0
-tracked_then _ w t gpa ps e = cc
-
-module _ (t gpa k slot : ℕ) (w : World) (i : IvsHold w) (exporting : IsExporting w t) where
-  abbrev e : Entry
-  e = entry_at w t 0 gpa
-
-  abbrev g : ℕ
-  g = page_of_gpa gpa
-
-  abbrev about_page : About
-  about_page = record (about 3 (w.tds.mig_epochs t)) { stream = k; gpa = gpa }
-
+-- so pages are: each has its words in the bundle, and its entry says so
+module _ (t gpa k slot : ℕ) (count : Option ℕ) (w : World) (i : IvsHold w) (exporting : IsExporting w t) (many : NewHasPages w t gpa k slot count)
+    (entries : ℕ → ℕ → ℕ → Entry) (cleaned first : ℕ → ℕ) (done : AreExported w.tds t gpa (page_count count) entries) where
   abbrev sent : World
-  sent = make_bundle t slot about_page (payload_words (w.words e.page) 512) (count_export t k e.state (restate t (number_at 0 gpa) entry.ExportedBlockedW (w.tds.mig_epochs t) w))
+  sent = sent_world w t gpa k slot count entries cleaned first
 
   abbrev new : Made
-  new = record {
-    slot = slot;
-    header = header_of (count_export t k e.state (restate t (number_at 0 gpa) entry.ExportedBlockedW (w.tds.mig_epochs t) w)) t about_page;
-    payload = payload_words (w.words e.page) 512;
-  }
+  new = sent_bundle w t gpa k slot count
+
+  abbrev in_list : ℕ → Bool
+  in_list n = is_in_run (page_of_gpa gpa) (page_count count) n
 
   was : (x : ℕ) → IsExporting sent x → IsExporting w x
   was x a = record { alive = record { kind = a.alive.kind; life = a.alive.life }; standing = a.standing }
 
-  -- where it isn't the page, the entry is as it was
-  stays : (x n : ℕ) → (x == t && n == g) ≡ false → sent.tds.entries x 0 n ≡ w.tds.entries x 0 n
-  stays x n off = by_test (x == t)
-      (λ y. let z : (n == g) ≡ false = rw y at off in rw (y, z) (ap (λ (j : ℕ). w.tds.entries j 0 n) (sym (eqb-true x t y))))
-      (λ y. rw y refl)
-
-  off_page : (x n : ℕ) → (x == t && n == g) ≡ true → is_page_at (w.tds.sessions x) n new ≡ true
+  off_page : (x n : ℕ) → (x == t && in_list n) ≡ true → is_page_at (w.tds.sessions x) n new ≡ true
   off_page x n y =
-      let both = and_parts (x == t) (n == g) y in
+      let both = and_parts (x == t) (in_list n) y in
       let a : (w.tds.sessions t == w.tds.sessions x) ≡ true = eq-eqb _ _ (ap w.tds.sessions (sym (eqb-true x t both.0))) in
-      let b : (g == n) ≡ true = eq-eqb _ _ (sym (eqb-true n g both.1)) in
+      let b : has_gpa_page new.header n ≡ true = many n ∙ both.1 in
       rw (a, b) refl
 
-  module _ (known : w.hidden.memories t g ≡ Some (w.words e.page)) where
-    here : IsSent sent t g (payload_words (w.words e.page) 512)
-    here = record { exported = rw (same_self t, same_self g) refl; known = λ d. ap (option_map (λ words. payload_words words 512)) known }
+  module _ (known : (n : ℕ) → in_list n ≡ true → w.hidden.memories t n ≡ Some (w.words (w.tds.entries t 0 n).page)) where
+    here : (n : ℕ) → in_list n ≡ true → IsSent sent t n (page_words n new)
+    here n e = record {
+      exported = ap (λ (z : Entry). is_exported z.state) (done.inside t n (let self = same_self t in rw (self, e) refl));
+      known = λ d. ap (option_map (λ words. payload_words words 512)) (known n e) ∙ ap (λ (z : List ℕ). Some z) (sym (words_of_page w t gpa (page_count count) n e));
+    }
 
     sent_now : (x n : ℕ) (p : List ℕ) → IsExporting sent x → is_page_at (w.tds.sessions x) n new ≡ true → last_payload (w.tds.sessions x) n sent.outgoing.bundles ≡ Some p → IsSent sent x n p
     sent_now x n p a f is =
-        let parts : ((w.tds.sessions t == w.tds.sessions x) ≡ true) × ((g == n) ≡ true) = and_parts (w.tds.sessions t == w.tds.sessions x) (g == n) f in
+        let parts : ((w.tds.sessions t == w.tds.sessions x) ≡ true) × (has_gpa_page new.header n ≡ true) = and_parts (w.tds.sessions t == w.tds.sessions x) (has_gpa_page new.header n) f in
         let same : t ≡ x = i.one t x exporting (was x a) (eqb-true _ _ parts.0) in
-        let place : g ≡ n = eqb-true _ _ parts.1 in
-        let what : Some (payload_words (w.words e.page) 512) ≡ Some p = sym (last_new (is_page_at (w.tds.sessions x) n) w.outgoing.bundles new f) ∙ is in
-        let words : payload_words (w.words e.page) 512 ≡ p = cc in
-        subst (λ (q : List ℕ). IsSent sent x n q) words (subst (λ (z : ℕ). IsSent sent x z (payload_words (w.words e.page) 512)) place (subst (λ (z : ℕ). IsSent sent z g (payload_words (w.words e.page) 512)) same here))
+        let what : Some (page_words n new) ≡ Some p = sym (last_new n (is_page_at (w.tds.sessions x) n) w.outgoing.bundles new f) ∙ is in
+        let words : page_words n new ≡ p = cc in
+        subst (λ (q : List ℕ). IsSent sent x n q) words (subst (λ (z : ℕ). IsSent sent z n (page_words n new)) same (here n (sym (many n) ∙ parts.1)))
 
-    pub page_sent : ArePagesSent w → ArePagesSent sent
-    page_sent h x n p a is = by_test (is_page_at (w.tds.sessions x) n new)
+    pub pages_sent : ArePagesSent w → ArePagesSent sent
+    pages_sent h x n p a is = by_test (is_page_at (w.tds.sessions x) n new)
         (λ f. sent_now x n p a f is)
-        (λ f. (let s = h x n p (was x a) (sym (last_beside (is_page_at (w.tds.sessions x) n) w.outgoing.bundles new f) ∙ is) in
-        let off : (x == t && n == g) ≡ false = by_test (x == t && n == g) (λ y. absurd (let no : true ≡ false = sym (off_page x n y) ∙ f in cc)) (λ y. y) in
-        let same = stays x n off in
+        (λ f. (let s = h x n p (was x a) (sym (last_beside n (is_page_at (w.tds.sessions x) n) w.outgoing.bundles new f) ∙ is) in
+        let off : (x == t && in_list n) ≡ false = by_test (x == t && in_list n) (λ y. absurd (let no : true ≡ false = sym (off_page x n y) ∙ f in cc)) (λ y. y) in
+        let same = done.outside x n off in
         record { exported = ap (λ (z : Entry). is_exported z.state) same ∙ s.exported; known = λ d. s.known (ap (λ (z : Entry). is_dirty z.state) (sym same) ∙ d) }))
 
-  pub page_tracked : (w.tds.ops t ≡ op.LiveExport → is_tracked w t e.page ≡ true) → AreSentTracked w → AreSentTracked sent
-  page_tracked over h x n a live s = by_test (x == t && n == g)
-      (λ y. (let both = and_parts (x == t) (n == g) y in
-      subst (λ (z : ℕ). is_tracked sent z (sent.tds.entries z 0 n).page ≡ true) (sym (eqb-true x t both.0)) (subst (λ (z : ℕ). is_tracked sent t (sent.tds.entries t 0 z).page ≡ true) (sym (eqb-true n g both.1))
-      (rw (same_self t, same_self g) (over (ap w.tds.ops (sym (eqb-true x t both.0)) ∙ live))))))
-      (λ y. (let same = stays x n y in
+  pub pages_tracked : (w.tds.ops t ≡ op.LiveExport → (n : ℕ) → in_list n ≡ true → is_tracked w t (w.tds.entries t 0 n).page ≡ true) → AreSentTracked w → AreSentTracked sent
+  pages_tracked over h x n a live s = by_test (x == t && in_list n)
+      (λ y. (let both = and_parts (x == t) (in_list n) y in
+      let own : is_tracked w t (w.tds.entries t 0 n).page ≡ true = over (ap w.tds.ops (sym (eqb-true x t both.0)) ∙ live) n both.1 in
+      let page : (entries x 0 n).page ≡ (w.tds.entries t 0 n).page = ap (λ (z : Entry). z.page) (done.inside x n y) in
+      subst (λ (q : ℕ). is_tracked w x q ≡ true) (sym page) (subst (λ (z : ℕ). is_tracked w z (w.tds.entries t 0 n).page ≡ true) (sym (eqb-true x t both.0)) own)))
+      (λ y. (let same = done.outside x n y in
       subst (λ (z : Entry). is_tracked w x z.page ≡ true) (sym same) (h x n (record { kind = a.kind; life = a.life }) live (ap (λ (z : Entry). z.state) (sym same) ∙ s))))
 
 -- The rows
@@ -246,19 +207,20 @@ module _ (o : Opening) (me : ℕ) (w : World) (l : Lawful o.machine w) (known : 
         tracked = tracked_made t slot a (six_words (w.tds.mrtds t)) (begin_session t w) refl (tracked_begun o.machine w l h.ivs t alive (search) h.tracked);
       }
 
-  page_source : (t gpa k slot : ℕ) → Passes ((row_of o me (call.ExportMem t gpa k slot)).items w) → SourceHolds (After (call.ExportMem t gpa k slot))
-  page_source t gpa k slot ps =
-      let td : TdPassed w t abortable_ops = search in
-      let alive = td_alive td in
-      let exporting : IsExporting w t = record { alive = alive; standing = abortable_exporting (w.tds.ops t) td.op } in
-      let e = entry_at w t 0 gpa in
-      let holds = exportable_holds (w.tds.ops t) e.state (search) in
-      let has : memory_of (w.tds.entries t 0 (page_of_gpa gpa)) w.words ≡ Some (w.words e.page) = rw holds refl in
+  pub pages_source : (t gpa k slot : ℕ) (count : Option ℕ) → Passes ((export_pages o.machine t gpa k slot count).items w) → SourceHolds ((export_pages o.machine t gpa k slot count).act w)
+  pages_source t gpa k slot count ps =
+      let p = export_passed o.machine w t gpa k slot count ps in
+      let alive = td_alive p.td in
+      let exporting : IsExporting w t = record { alive = alive; standing = abortable_exporting (w.tds.ops t) p.td.op } in
+      let many = new_has_pages o.machine w t gpa k slot count ps in
+      let has : (n : ℕ) → is_in_run (page_of_gpa gpa) (page_count count) n ≡ true → w.hidden.memories t n ≡ Some (w.words (w.tds.entries t 0 n).page) = λ n e.
+      (let holds = exportable_holds (w.tds.ops t) (w.tds.entries t 0 n).state (pages_passed o.machine w t gpa k slot count ps n e).state in known t n alive ∙ rw holds refl) in
       record {
-        ivs = row-ivs o me w l h.ivs h.aborts (call.ExportMem t gpa k slot) ps;
-        aborts = row-aborts o me w l h.aborts (call.ExportMem t gpa k slot) ps;
-        sent = page_sent t gpa k slot w h.ivs exporting (known t (page_of_gpa gpa) alive ∙ has) h.sent;
-        tracked = page_tracked t gpa k slot w h.ivs exporting (tracked_then (w.tds.ops t) w t gpa (search)) h.tracked;
+        ivs = pages_ivs o me w l h.ivs t gpa k slot count ps;
+        aborts = pages_aborts o me w l h.aborts t gpa k slot count ps;
+        sent = sent_as o.machine t gpa k slot count w ArePagesSent (λ e c f done. pages_sent t gpa k slot count w h.ivs exporting many e c f done has h.sent);
+        tracked = sent_as o.machine t gpa k slot count w AreSentTracked (λ e c f done. pages_tracked t gpa k slot count w h.ivs exporting many e c f done
+            (λ live. each_tracked (w.tds.ops t) w t (page_count count) gpa p.tracked live) h.tracked);
       }
 
   -- a bundle without a page, where the world before it differs in what isn't asked
@@ -281,7 +243,7 @@ module _ (o : Opening) (me : ℕ) (w : World) (l : Lawful o.machine w) (known : 
 
   pub row-source : (c : Call) → Passes ((row_of o me c).items w) → SourceHolds (After c)
   row-source (call.ExportStateImmutable t slot) ps = immutable_source t slot ps
-  row-source (call.ExportMem t gpa k slot) ps = page_source t gpa k slot ps
+  row-source (call.ExportMem t gpa k slot) ps = pages_source t gpa k slot None ps
   row-source (call.ExportTrack t slot start) ps = token_source t slot start ps
   row-source (call.ExportStateTd t slot) ps =
       bundle_source t slot (about 1 (w.tds.mig_epochs t)) (payload_words (w.hidden.rtmrs t) 24) (note_td_export t w) refl (unmoved w _ refl refl (λ x n. refl) refl refl) (row-ivs o me w l h.ivs h.aborts (call.ExportStateTd t slot) ps) (row-aborts o me w l h.aborts (call.ExportStateTd t slot) ps)

@@ -37,8 +37,8 @@ use Rattle.flat_core.proofs.Acts.{event_world}
 use Rattle.flat_core.proofs.Induction.{in_runs}
 use Rattle.flat_core.proofs.Ranges.{live_exporting, paused_exporting, abortable_exporting}
 use Rattle.flat_core.proofs.Streams.{page_among}
-use Rattle.flat_core.proofs.Passed.{TdPassed, td_alive}
-use Rattle.flat_core.specs.BundleRows.{paused_ops}
+use Rattle.flat_core.proofs.Passed.{TdPassed, td_alive, export_passed}
+use Rattle.flat_core.specs.BundleRows.{paused_ops, export_pages}
 use Rattle.mig_laws.specs.Ivs.{is_forward, IsExporting}
 use Rattle.mig_laws.specs.Source.{SourceHolds, last_payload, is_page_at}
 use Rattle.mig_laws.specs.Paused.{is_start, has_start, image_words, PausesHold, IsSentAsPaused}
@@ -51,6 +51,8 @@ use Rattle.mig_laws.proofs.Changes.{pauses_none, Td, Vp, Goes, each_goes}
 use Rattle.mig_laws.proofs.CallChanges.{call-changes, call-keeps}
 use Rattle.mig_laws.proofs.Rows.{over_beside, row-beside}
 use Rattle.mig_laws.proofs.Ivs.{IsGiven, back_token}
+use Rattle.mig_laws.proofs.Lists.{sent_bundle, sent_world, sent_as}
+use Rattle.mig_laws.proofs.Single.{single_kept}
 use Rattle.mig_laws.proofs.Places.{by_places, at_place, IsPlaceOf, within, last, place_of_more, count-append, count_yes, count_no, count_none, last-append, last_none}
 use Rattle.mig_laws.proofs.Joined.{page_of_session}
 use Rattle.mig_laws.proofs.Guests.{operation_beside, left_beside, reached_beside, never_stored}
@@ -316,13 +318,14 @@ module _ (o : Opening) (me : ℕ) (w : World) (l : Lawful o.machine w) (src : So
       noted_stays w v x (rw y refl) (rw y refl) (λ p e. refl) (other_states (w.tds.sessions x) w.outgoing.bundles _ (rw self (ne_eqb (w.key_table.last_exported + 1) (w.tds.sessions x) (omega (arith, low)))))
       (h.noted x exporting))))
 
-  page_starts : (t gpa k slot : ℕ) → Passes ((row_of o me (call.ExportMem t gpa k slot)).items w) → StartsHold (Then (call.ExportMem t gpa k slot))
-  page_starts t gpa k slot ps =
-      let v : World = Then (call.ExportMem t gpa k slot) in
-      let td : TdPassed w t abortable_ops = search in
+  pub pages_starts : (t gpa k slot : ℕ) (count : Option ℕ) → Passes ((export_pages o.machine t gpa k slot count).items w) → StartsHold ((export_pages o.machine t gpa k slot count).act w)
+  pages_starts t gpa k slot count ps =
+      let td = (export_passed o.machine w t gpa k slot count ps).td in
       let exporting : IsExporting w t = record { alive = td_alive td; standing = abortable_exporting (w.tds.ops t) td.op } in
-      one_more_starts v _ refl refl (not_post w t pauses exporting (abortable_stands (w.tds.ops t) td.op)) (λ s e. cc) h.given
-      (λ x a. noted_stays w v x refl refl (λ p e. refl) (no_states (w.tds.sessions x) w.outgoing.bundles _ refl refl) (h.noted x (record { alive = record { kind = a.alive.kind; life = a.alive.life }; standing = a.standing })))
+      sent_as o.machine t gpa k slot count w StartsHold (λ e c f done.
+      let v : World = sent_world w t gpa k slot count e c f in
+      one_more_starts v (sent_bundle w t gpa k slot count) refl refl (not_post w t pauses exporting (abortable_stands (w.tds.ops t) td.op)) (λ s e. cc) h.given
+      (λ x a. noted_stays w v x refl refl (λ p e. refl) (no_states (w.tds.sessions x) w.outgoing.bundles _ refl refl) (h.noted x (record { alive = record { kind = a.alive.kind; life = a.alive.life }; standing = a.standing }))))
 
   track_starts : (t slot start : ℕ) → Passes ((row_of o me (call.ExportTrack t slot start)).items w) → StartsHold (Then (call.ExportTrack t slot start))
   track_starts t slot zero ps =
@@ -451,7 +454,7 @@ module _ (o : Opening) (me : ℕ) (w : World) (l : Lawful o.machine w) (src : So
   pub row-starts : (c : Call) → Passes ((row_of o me c).items w) → StartsHold (Then c)
   row-starts (call.ExportPause t) ps = pause_starts t ps
   row-starts (call.ExportStateImmutable t slot) ps = immutable_starts t slot ps
-  row-starts (call.ExportMem t gpa k slot) ps = page_starts t gpa k slot ps
+  row-starts (call.ExportMem t gpa k slot) ps = pages_starts t gpa k slot None ps
   row-starts (call.ExportTrack t slot start) ps = track_starts t slot start ps
   row-starts (call.ExportStateTd t slot) ps = td_starts t slot ps
   row-starts (call.ExportStateVp t p slot) ps = vp_starts t p slot ps
@@ -579,7 +582,7 @@ module _ (w : World) (pauses : PausesHold w) (states : StatesHold w) (h : Starts
   no_page_behind n =
       let kind : b.header.kind ≡ 5 = eqb-true b.header.kind 5 (and_parts (b.header.kind == 5) (b.header.session == s) begins).0 in
       let own : is_page_at s n b ≡ false = and_left (b.header.kind == 3) _ (ap (λ (z : ℕ). z == 3) kind) in
-      last_none (is_page_at s n) (b ∷ after) (by_places (λ x. is_page_at s n x ≡ false) (b ∷ after) (each own))
+      last_none n (is_page_at s n) (b ∷ after) (by_places (λ x. is_page_at s n x ≡ false) (b ∷ after) (each own))
     where
       each : is_page_at s n b ≡ false → (front back : List Made) (x : Made) → b ∷ after ≡ front ++ x ∷ back → is_page_at s n x ≡ false
       each own [] back x e = let same : b ≡ x = cc in subst (λ (z : Made). is_page_at s n z ≡ false) same own
@@ -589,7 +592,7 @@ module _ (w : World) (pauses : PausesHold w) (states : StatesHold w) (h : Starts
           by_test (is_page_at s n x) (λ y. absurd (let no : true ≡ false = sym (page_of_session s n x y) ∙ off in cc)) (λ y. y)
 
   last_before : (n : ℕ) → last_payload s n w.outgoing.bundles ≡ last_payload s n before
-  last_before n = ap (last_payload s n) place ∙ (last-append (is_page_at s n) before (b ∷ after) ∙ rw (no_page_behind n) refl)
+  last_before n = ap (last_payload s n) place ∙ (last-append n (is_page_at s n) before (b ∷ after) ∙ rw (no_page_behind n) refl)
 
   pub is_started : IsStarted w s before
   is_started = record {
@@ -605,12 +608,13 @@ module _ (w : World) (pauses : PausesHold w) (states : StatesHold w) (h : Starts
 pub sources_are_started : SourcesAreStarted
 sources_are_started = record {
   kept = record {
-    start = λ o ws. (starts_kept.start o ws, (well_kept.start o ws).1);
-    event = λ o bundles s p h. (starts_kept.event o bundles s p h.0, (well_kept.event o bundles s p (h.0.0.0.0, h.1)).1);
+    start = λ o ws. ((starts_kept.start o ws, (well_kept.start o ws).1), single_kept.start o ws);
+    event = λ o bundles s p h. ((starts_kept.event o bundles s p h.0.0, (well_kept.event o bundles s p (h.0.0.0.0.0, h.0.1)).1), single_kept.event o bundles s p h.1);
   };
   are = λ o s h. record {
-    made = h.1.made;
-    started = λ session before after b place begins. is_started s.world h.0.0.0.1 h.0.0.1 h.0.1 session before after b place begins;
+    made = h.0.1.made;
+    single = h.1;
+    started = λ session before after b place begins. is_started s.world h.0.0.0.0.1 h.0.0.0.1 h.0.0.1 session before after b place begins;
   };
 }
 

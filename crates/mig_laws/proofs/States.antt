@@ -11,7 +11,6 @@ use Rattle.td_words.specs.declared.names.PageKind.{PageKind}
 use Rattle.td_words.specs.declared.names.PageKind.TheVariants as kind
 use Rattle.td_words.specs.declared.names.OpState.{OpState}
 use Rattle.td_words.specs.declared.names.OpState.TheVariants as op
-use Rattle.td_words.specs.declared.names.EntryState.TheVariants as entry
 use Rattle.td_words.specs.declared.calls.Call.{Call}
 use Rattle.td_words.specs.declared.calls.Call.TheVariants as call
 use Rattle.td_words.specs.NameNumber.{op_number}
@@ -20,13 +19,13 @@ use Rattle.flat_core.specs.Opening.{Opening, Incoming}
 use Rattle.flat_core.specs.Row.{Passes}
 use Rattle.flat_core.specs.Conditions.{same_kind}
 use Rattle.flat_core.specs.Digests.{six_words}
-use Rattle.flat_core.specs.Tree.{page_of_gpa, number_at, entry_at}
-use Rattle.flat_core.specs.Effects.{set_op, restate, begin_memory, add_bundle, tell_words}
+use Rattle.flat_core.specs.Tree.{page_of_gpa}
+use Rattle.flat_core.specs.Effects.{set_op, add_bundle, tell_words}
 use Rattle.flat_core.specs.Guest.{reach}
 use Rattle.flat_core.specs.Translations.{look_up}
-use Rattle.flat_core.specs.Sessions.{About, about, header_of, stream_page, stream_counter, bundles_so_far, payload_words, count_bundle, make_bundle, begin_session, set_mig_epoch, count_export, note_td_export, note_vp_export}
+use Rattle.flat_core.specs.Sessions.{About, about, header_of, stream_page, stream_counter, bundles_so_far, payload_words, make_bundle, begin_session, set_mig_epoch, note_td_export, note_vp_export}
 use Rattle.flat_core.specs.ExportRows.{live_ops, abortable_ops, vp_image, image_of, note_pause}
-use Rattle.flat_core.specs.BundleRows.{session_ops, paused_ops, start_epoch}
+use Rattle.flat_core.specs.BundleRows.{session_ops, paused_ops, start_epoch, about_pages, export_pages}
 use Rattle.flat_core.specs.Table.{row_of}
 use Rattle.flat_core.specs.Lawful.{IsAlive, Lawful, is_exporting}
 use Rattle.flat_core.specs.Event.{State, start, event}
@@ -40,9 +39,8 @@ use Rattle.flat_core.proofs.Acts.{event_world}
 use Rattle.flat_core.proofs.Induction.{in_runs}
 use Rattle.flat_core.proofs.Always.{occ-of}
 use Rattle.flat_core.proofs.Ranges.{live_exporting, paused_exporting, abortable_exporting}
-use Rattle.flat_core.proofs.Passed.{TdPassed, td_alive}
+use Rattle.flat_core.proofs.Passed.{TdPassed, td_alive, export_passed}
 use Rattle.flat_bundles.specs.Formed.{AreCodesShort, FormsHold}
-use Rattle.flat_bundles.proofs.Fills.{fill_either}
 use Rattle.flat_bundles.proofs.Formed.{forms_kept}
 use Rattle.mig_laws.specs.Ivs.{is_forward, IsExporting, IvsHold}
 use Rattle.mig_laws.specs.Source.{SourceHolds}
@@ -55,6 +53,9 @@ use Rattle.mig_laws.proofs.Ivs.{IsGiven, back_token, ivs_stay, session_same, beg
 use Rattle.mig_laws.proofs.Calm.{IsCalm, calm_over, row-calm}
 use Rattle.mig_laws.proofs.GuestChanges.{Fixed, operation_fixed, reach_fixed}
 use Rattle.mig_laws.proofs.Guests.{operation_beside, left_beside, reached_beside, never_stored}
+use Rattle.flat_core.specs.PageLists.{page_count}
+use Rattle.flat_core.specs.ImportRows.{import_pages}
+use Rattle.mig_laws.proofs.Lists.{exported_so, all_words, sent_as, taken_as}
 use Rattle.mig_laws.proofs.Paused.{start_end, no_start_yet, not_post, only_live, abortable_stands, is_pausing, calm_of, operation_calm, reach_calm, pauses_kept}
 use Rattle.mig_laws.proofs.Still.{IsStill, image_stays, still_same, row-still, operation_still, reach_still}
 
@@ -359,15 +360,16 @@ module _ (o : Opening) (me : ℕ) (w : World) (l : Lawful o.machine w) (src : So
       (λ x a. session_same w v x (back x a) (λ e. ap (λ (f : ℕ → OpState). f x) (sym ops) ∙ e) (ap (λ (f : ℕ → ℕ). f x) sessions) (ap (λ (f : ℕ → List ℕ). f x) streams)
       (λ k. subst (λ (f : ℕ → ℕ). stream_counter w x k ≤ f (stream_page w x k)) (sym counters) (omega arith))) src.ivs
 
-  page_states : (t gpa k slot : ℕ) → Passes ((row_of o me (call.ExportMem t gpa k slot)).items w) → StatesHold (After (call.ExportMem t gpa k slot))
-  page_states t gpa k slot ps =
-      let td : TdPassed w t abortable_ops = search in
+  pub pages_states : (t gpa k slot : ℕ) (count : Option ℕ) → Passes ((export_pages o.machine t gpa k slot count).items w) → StatesHold ((export_pages o.machine t gpa k slot count).act w)
+  pages_states t gpa k slot count ps =
+      let td = (export_passed o.machine w t gpa k slot count ps).td in
       let exporting : IsExporting w t = record { alive = td_alive td; standing = abortable_exporting (w.tds.ops t) td.op } in
-      let v : World = count_export t k (entry_at w t 0 gpa).state (restate t (number_at 0 gpa) entry.ExportedBlockedW (w.tds.mig_epochs t) w) in
+      sent_as o.machine t gpa k slot count w StatesHold (λ e c f done.
+      let v : World = exported_so w e c f in
       let back = back_same v refl refl refl in
-      bundle_states t slot (record (about 3 (w.tds.mig_epochs t)) { stream = k; gpa = gpa }) (payload_words (w.words (entry_at w t 0 gpa).page) 512) v (ivs_as v refl refl refl refl refl refl back) (states_as w v refl back refl refl refl refl refl refl h)
+      bundle_states t slot (about_pages w t k gpa count) (all_words w t gpa count) v (ivs_as v refl refl refl refl refl refl back) (states_as w v refl back refl refl refl refl refl refl h)
       (record { alive = record { kind = exporting.alive.kind; life = exporting.alive.life }; standing = exporting.standing }) refl refl exporting (abortable_stands (w.tds.ops t) td.op) refl
-      (no_state v t _ (λ e. cc) (λ e. cc) (λ e. cc))
+      (no_state v t _ (λ e. cc) (λ e. cc) (λ e. cc)))
 
   token_states : (t slot start : ℕ) → Passes ((row_of o me (call.ExportTrack t slot start)).items w) → StatesHold (After (call.ExportTrack t slot start))
   token_states t slot zero ps =
@@ -422,7 +424,7 @@ module _ (o : Opening) (me : ℕ) (w : World) (l : Lawful o.machine w) (src : So
       let exporting : IsExporting w t = record { alive = td_alive td; standing = live_exporting (w.tds.ops t) td.op } in
       states_held t w src.ivs h exporting (not_post w t pauses exporting (λ e. let no : op.LiveExport ≡ op.PostExport = sym (only_live (w.tds.ops t) td.op) ∙ e in cc))
   row-states (call.ExportStateImmutable t slot) ps = immutable_states t slot ps
-  row-states (call.ExportMem t gpa k slot) ps = page_states t gpa k slot ps
+  row-states (call.ExportMem t gpa k slot) ps = pages_states t gpa k slot None ps
   row-states (call.ExportTrack t slot start) ps = token_states t slot start ps
   row-states (call.ExportStateTd t slot) ps = td_states t slot ps
   row-states (call.ExportStateVp t p slot) ps = vp_states t p slot ps
@@ -482,6 +484,9 @@ all_short w [] h = All-nil (λ (v : VpImage). v.position ≤ 256)
 all_short w (p ∷ ps) h = All-cons (λ (v : VpImage). v.position ≤ 256) (vp_image w p) (map (vp_image w) ps) (h p) (all_short w ps h)
 
 module _ (o : Opening) (me : ℕ) (w : World) (forms : FormsHold w) (h : ArePausesShort w) where
+  pages_short : (t slot page : ℕ) (count : Option ℕ) → ArePausesShort ((import_pages o.machine (o.bundles slot) t slot page count).act w)
+  pages_short t slot page count = (let x : Input = input_in (o.bundles slot) in taken_as t x.header.stream x.header.gpa page x.words (page_count count) w ArePausesShort (λ v taken. h))
+
   row-pauses : (c : Call) (session : ℕ) (image : Image) → ((row_of o me c).act w).hidden.paused session ≡ Some image → All (λ v. v.position ≤ 256) image.vps
   row-pauses (call.ExportPause t) session image e = by_test (session == w.tds.sessions t)
       (λ y. (let same : Some (image_of w t) ≡ Some image = rw y at e in
@@ -489,9 +494,7 @@ module _ (o : Opening) (me : ℕ) (w : World) (forms : FormsHold w) (h : ArePaus
       (λ n. h session image (rw n at e))
   row-pauses (call.ExportTrack t slot zero) session image e = h session image e
   row-pauses (call.ExportTrack t slot (suc n)) session image e = h session image e
-  row-pauses (call.ImportMem t slot page) session image e =
-      let x : Input = input_in (o.bundles slot) in
-      fill_either (λ u. ArePausesShort (count_bundle t x.header.stream (begin_memory t (page_of_gpa x.header.gpa) x.words u))) t x.header.gpa page x.words (entry_at w t 0 x.header.gpa).state w h h session image e
+  row-pauses (call.ImportMem t slot page) session image e = pages_short t slot page None session image e
   row-pauses c session image e = h session image e
 
 same_pauses : (w v : World) → v.hidden.paused ≡ w.hidden.paused → ArePausesShort w → ArePausesShort v

@@ -50,7 +50,7 @@ well_back w token six h = record {
     counter = λ k m. says.counter k m ∙ sym (count-append (is_on (w.tds.sessions x) k) w.outgoing.bundles (token ∷ []) ∙ none (w.tds.sessions x) k);
     each = All-push (AgreesWithOwn after x (w.tds.sessions x)) w.outgoing.bundles token
         (All-weaker (AgreesWithOwn w x (w.tds.sessions x)) (AgreesWithOwn after x (w.tds.sessions x))
-        (λ c f e. (let k = f e in record { epoch = k.epoch; page = λ z. (let p = k.page z in record { exported = p.exported; first = p.first; last = p.last }); started = k.started })) w.outgoing.bundles says.each)
+        (λ c f e. (let k = f e in record { epoch = k.epoch; page = λ z n e. (let p = k.page z n e in record { exported = p.exported; first = p.first; last = p.last }); started = k.started })) w.outgoing.bundles says.each)
         (λ e. absurd (let no : false ≡ true = rw six at e in cc));
     room = says.room;
   });
@@ -101,7 +101,7 @@ module _ (t slot : ℕ) (a : About) (payload : List ℕ) (w : World) (i : IvsHol
   before x e = record { alive = record { kind = e.alive.kind; life = e.alive.life }; standing = e.standing }
 
   agrees_still : (x : ℕ) (c : Made) → AgreesWith w x c → AgreesWith v x c
-  agrees_still x c k = record { epoch = k.epoch; page = λ e. (let m = k.page e in record { exported = m.exported; first = m.first; last = m.last }); started = k.started }
+  agrees_still x c k = record { epoch = k.epoch; page = λ e n i. (let m = k.page e n i in record { exported = m.exported; first = m.first; last = m.last }); started = k.started }
 
   counter_other : (x k : ℕ) → IsExporting w x → k < length (w.tds.streams x) → (x ≡ t → k ≡ a.stream → ⊥) → stream_counter v x k ≡ stream_counter w x k
   counter_other x k e m off = by_test (stream_page w x k == stream_page w t a.stream)

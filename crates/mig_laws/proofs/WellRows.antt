@@ -1,12 +1,11 @@
 -- Each act leaves the lists of bundles well made.
-use Rattle.std.proofs.Common.{◌≡◌, ◌≢◌, refl, sym, ◌∙◌, ap, subst, ℕ, zero, suc, ◌+◌, ◌-◌, ◌%◌, ◌^◌, ◌<◌, ◌≤◌, List, [], ◌∷◌, length, Bool, true, false, not, ◌==◌, ◌||◌, get_or, arith}
+use Rattle.std.proofs.Common.{◌≡◌, ◌≢◌, refl, sym, ◌∙◌, ap, subst, ℕ, zero, suc, ◌+◌, ◌-◌, ◌%◌, ◌^◌, ◌<◌, ◌≤◌, List, [], ◌∷◌, length, Option, None, Bool, true, false, not, ◌==◌, ◌&&◌, ◌||◌, get_or, arith}
 use Rattle.std.specs.List.{All, list_any}
 use Rattle.std.proofs.lemmas.Bool.{eqb-true, eqb-false, ne_eqb, and_parts, and_left, ltb-true, not-true}
 use Rattle.std.proofs.lemmas.List.Elements.{All-weaker}
 use Rattle.td_words.specs.declared.names.PageKind.TheVariants as kind
 use Rattle.td_words.specs.declared.names.OpState.{OpState}
 use Rattle.td_words.specs.declared.names.OpState.TheVariants as op
-use Rattle.td_words.specs.declared.names.EntryState.TheVariants as entry
 use Rattle.td_words.specs.declared.calls.Call.{Call}
 use Rattle.td_words.specs.declared.calls.Call.TheVariants as call
 use Rattle.td_words.specs.NameNumber.{op_number}
@@ -15,17 +14,19 @@ use Rattle.flat_core.specs.World.{World, Made}
 use Rattle.flat_core.specs.Opening.{Opening}
 use Rattle.flat_core.specs.Row.{Passes}
 use Rattle.flat_core.specs.Digests.{six_words}
-use Rattle.flat_core.specs.Tree.{page_of_gpa, number_at, entry_at}
-use Rattle.flat_core.specs.Effects.{set_op, restate}
-use Rattle.flat_core.specs.Sessions.{About, about, stream_page, stream_counter, bundles_so_far, payload_words, make_bundle, begin_session, set_mig_epoch, count_export, note_td_export, note_vp_export}
+use Rattle.flat_core.specs.Tree.{page_of_gpa}
+use Rattle.flat_core.specs.Effects.{set_op}
+use Rattle.flat_core.specs.Sessions.{About, about, stream_page, stream_counter, bundles_so_far, payload_words, make_bundle, begin_session, set_mig_epoch, note_td_export, note_vp_export}
 use Rattle.flat_core.specs.ExportRows.{abortable_ops}
-use Rattle.flat_core.specs.BundleRows.{session_ops, paused_ops, start_epoch}
+use Rattle.flat_core.specs.BundleRows.{session_ops, paused_ops, start_epoch, about_pages, export_pages}
 use Rattle.flat_core.specs.Table.{row_of}
 use Rattle.flat_core.specs.Lawful.{IsAlive, Lawful, all_differ, is_exporting}
 use Rattle.flat_core.proofs.Tests.{by_test, same_self}
 use Rattle.flat_core.proofs.Ranges.{paused_exporting, abortable_exporting}
 use Rattle.flat_core.proofs.Streams.{stream_among, stream_owned}
-use Rattle.flat_core.proofs.Passed.{TdPassed, td_alive}
+use Rattle.flat_core.specs.PageLists.{page_count}
+use Rattle.flat_guests.specs.Memory.{is_in_run}
+use Rattle.flat_core.proofs.Passed.{TdPassed, td_alive, export_passed}
 use Rattle.mig_laws.specs.Ivs.{IsExporting, IvsHold}
 use Rattle.mig_laws.specs.Source.{is_page_at}
 use Rattle.mig_laws.specs.WellMade.{is_of, is_on, IsBehind, IsMarked, AgreesWith, SessionAgrees, WellHolds}
@@ -33,6 +34,7 @@ use Rattle.mig_laws.proofs.Changes.{numbers, each_goes}
 use Rattle.mig_laws.proofs.CallChanges.{over_goes, call-changes}
 use Rattle.mig_laws.proofs.Rows.{not_among, over_beside, row-beside}
 use Rattle.mig_laws.proofs.Ivs.{IsGiven, ivs_stay, session_same, begun_ivs, back_token}
+use Rattle.mig_laws.proofs.Lists.{exported_entry, AreExported, exported_so, all_words, sent_world, sent_as, NewHasPages, new_has_pages, pages_passed}
 use Rattle.mig_laws.proofs.Places.{count_none}
 use Rattle.mig_laws.proofs.Joined.{forward_of, session_of}
 use Rattle.mig_laws.proofs.WellMade.{AgreesWithOwn, new_bundle, made_well, well_back}
@@ -239,62 +241,69 @@ module _ (o : Opening) (w : World) (l : Lawful o.machine w) (i : IvsHold w) (h :
         started = λ z. by_test (x == t) (λ y. rw y refl) (λ y. rw y z);
       }
 
-  -- a page
-  pub page_well : (gpa k slot : ℕ) → k < length (w.tds.streams t) → ((entry_at w t 0 gpa).mark == w.tds.mig_epochs t) ≡ false
-      → WellHolds (make_bundle t slot (record (about 3 (w.tds.mig_epochs t)) { stream = k; gpa = gpa }) (payload_words (w.words (entry_at w t 0 gpa).page) 512)
-      (count_export t k (entry_at w t 0 gpa).state (restate t (number_at 0 gpa) entry.ExportedBlockedW (w.tds.mig_epochs t) w)))
-  page_well gpa k slot there fresh = made_well t slot page words sent
+  -- pages
+  pub pages_well : (gpa k slot : ℕ) (count : Option ℕ) → k < length (w.tds.streams t) → NewHasPages w t gpa k slot count
+      → ((n : ℕ) → is_in_run (page_of_gpa gpa) (page_count count) n ≡ true → ((w.tds.entries t 0 n).mark == w.tds.mig_epochs t) ≡ false)
+      → (entries : ℕ → ℕ → ℕ → Entry) (cleaned first : ℕ → ℕ) → AreExported w.tds t gpa (page_count count) entries → WellHolds (sent_world w t gpa k slot count entries cleaned first)
+  pages_well gpa k slot count there many fresh entries cleaned first done = made_well t slot pages words sent
       (ivs_stay w sent refl refl (λ x e. session_same w sent x (was x e) (λ z. z) refl refl (λ j. same_le _)) i)
       (well_beside w sent refl stays h)
       (record { alive = record { kind = exporting.alive.kind; life = exporting.alive.life }; standing = exporting.standing })
       (λ x j n e m l'. own_pages o w l x t j n (was x e).alive exporting.alive m l')
       there (λ z. absurd (z refl)) refl (λ z. cc)
-      (All-weaker (AgreesWithOwn w t s) (λ c. is_of s c ≡ true → IsBehind (new_bundle t slot page words sent) c)
-      (λ c f e. (let k = f e in record { epoch = k.epoch; token = λ z. cc; page = λ z at. earlier c k at; started = λ z. refl })) w.outgoing.bundles says.each)
-      (record {
-        epoch = same_le _;
-        page = λ z. record { exported = rw (same_self t, same_self g) refl; first = rw (same_self t, same_self g) (same_le _); last = rw (same_self t, same_self g) (same_le _) };
-        started = λ z. cc;
-      })
+      (All-weaker (AgreesWithOwn w t s) (λ c. is_of s c ≡ true → IsBehind (new_bundle t slot pages words sent) c)
+      (λ c f e. (let k = f e in record { epoch = k.epoch; token = λ z. cc; page = λ z n has at. earlier c k n (sym (many n) ∙ has) at; started = λ z. refl })) w.outgoing.bundles says.each)
+      (record { epoch = same_le _; page = λ z n has. now n (sym (many n) ∙ has); started = λ z. cc })
     where
-      g : ℕ
-      g = page_of_gpa gpa
+      in_list : ℕ → Bool
+      in_list n = is_in_run (page_of_gpa gpa) (page_count count) n
 
-      page : About
-      page = record (about 3 (w.tds.mig_epochs t)) { stream = k; gpa = gpa }
+      pages : About
+      pages = about_pages w t k gpa count
 
       words : List ℕ
-      words = payload_words (w.words (entry_at w t 0 gpa).page) 512
+      words = all_words w t gpa count
 
       sent : World
-      sent = count_export t k (entry_at w t 0 gpa).state (restate t (number_at 0 gpa) entry.ExportedBlockedW (w.tds.mig_epochs t) w)
+      sent = exported_so w entries cleaned first
 
       was : (x : ℕ) → IsExporting sent x → IsExporting w x
       was x e = record { alive = record { kind = e.alive.kind; life = e.alive.life }; standing = e.standing }
 
-      -- its entry's mark was another one
-      earlier : (c : Made) → AgreesWith w t c → is_page_at s (page_of_gpa gpa) c ≡ true → c.header.epoch < w.tds.mig_epochs t
-      earlier c k at =
+      now : (n : ℕ) → in_list n ≡ true → IsMarked sent t n (w.tds.mig_epochs t)
+      now n e =
+          let same : entries t 0 n ≡ exported_entry w.tds t n = done.inside t n (let self = same_self t in rw (self, e) refl) in
+          record {
+            exported = ap (λ (z : Entry). is_exported z.state) same;
+            first = subst (λ (z : Entry). w.tds.mig_epochs t ≤ z.mark) (sym same) (same_le _);
+            last = subst (λ (z : Entry). z.mark ≤ w.tds.mig_epochs t) (sym same) (same_le _);
+          }
+
+      -- the marks of their entries were others
+      earlier : (c : Made) → AgreesWith w t c → (n : ℕ) → in_list n ≡ true → is_page_at s n c ≡ true → c.header.epoch < w.tds.mig_epochs t
+      earlier c k n e at =
           let parts = and_parts (c.header.kind == 3) _ at in
-          let place = eqb-true (page_of_gpa c.header.gpa) (page_of_gpa gpa) (and_parts (c.header.session == s) _ parts.1).1 in
-          let m = subst (λ (n : ℕ). IsMarked w t n c.header.epoch) place (k.page (eqb-true c.header.kind 3 parts.0)) in
-          below c.header.epoch (w.tds.entries t 0 (page_of_gpa gpa)).mark (w.tds.mig_epochs t) m.first m.last (eqb-false (w.tds.entries t 0 (page_of_gpa gpa)).mark (w.tds.mig_epochs t) fresh)
+          let m = k.page (eqb-true c.header.kind 3 parts.0) n (and_parts (c.header.session == s) _ parts.1).1 in
+          below c.header.epoch (w.tds.entries t 0 n).mark (w.tds.mig_epochs t) m.first m.last (eqb-false (w.tds.entries t 0 n).mark (w.tds.mig_epochs t) (fresh n e))
         where
           below : (a b c : ℕ) → a ≤ b → b ≤ c → b ≢ c → a < c
           below a b c p q off = grind (arith, p, q, off)
 
       marked : (x n epoch : ℕ) → IsMarked w x n epoch → IsMarked sent x n epoch
-      marked x n epoch m = by_test (x == t)
-          (λ y. by_test (n == page_of_gpa gpa)
-          (λ z. let same = ap w.tds.mig_epochs (eqb-true x t y) in
-          record { exported = rw (y, z) refl; first = rw (y, z) (omega (arith, same, m.first, m.last)); last = rw (y, z) (omega (arith, same)) })
-          (λ z. let same = ap (λ (u : ℕ). w.tds.entries u 0 n) (eqb-true x t y) in
+      marked x n epoch m = by_test (x == t && in_list n)
+          (λ y. let same : entries x 0 n ≡ exported_entry w.tds t n = done.inside x n y in
+          let own : w.tds.mig_epochs x ≡ w.tds.mig_epochs t = ap w.tds.mig_epochs (eqb-true x t (and_parts (x == t) (in_list n) y).0) in
           record {
-            exported = rw (y, z) (ap (λ (e : Entry). is_exported e.state) (sym same) ∙ m.exported);
-            first = rw (y, z) (subst (λ (e : Entry). epoch ≤ e.mark) same m.first);
-            last = rw (y, z) (subst (λ (e : Entry). e.mark ≤ w.tds.mig_epochs x) same m.last);
-          }))
-          (λ y. record { exported = rw y m.exported; first = rw y m.first; last = rw y m.last })
+            exported = ap (λ (z : Entry). is_exported z.state) same;
+            first = subst (λ (z : Entry). epoch ≤ z.mark) (sym same) (omega (arith, own, m.first, m.last));
+            last = subst (λ (z : Entry). z.mark ≤ w.tds.mig_epochs x) (sym same) (omega (arith, own));
+          })
+          (λ y. let same : entries x 0 n ≡ w.tds.entries x 0 n = done.outside x n y in
+          record {
+            exported = ap (λ (z : Entry). is_exported z.state) same ∙ m.exported;
+            first = subst (λ (z : Entry). epoch ≤ z.mark) (sym same) m.first;
+            last = subst (λ (z : Entry). z.mark ≤ w.tds.mig_epochs x) (sym same) m.last;
+          })
 
       stays : (x : ℕ) → IsExporting sent x → WellStays w sent x
       stays x e = record {
@@ -359,14 +368,18 @@ module _ (o : Opening) (me : ℕ) (w : World) (l : Lawful o.machine w) (i : IvsH
       let exporting : IsExporting w t = record { alive = td_alive td; standing = paused_exporting (w.tds.ops t) td.op } in
       start_well o w l i h t exporting slot td.op
 
+  pub sent_well : (t gpa k slot : ℕ) (count : Option ℕ) → Passes ((export_pages o.machine t gpa k slot count).items w) → WellHolds ((export_pages o.machine t gpa k slot count).act w)
+  sent_well t gpa k slot count ps =
+      let p = export_passed o.machine w t gpa k slot count ps in
+      let exporting : IsExporting w t = record { alive = td_alive p.td; standing = abortable_exporting (w.tds.ops t) p.td.op } in
+      sent_as o.machine t gpa k slot count w WellHolds (λ e c f done.
+      pages_well o w l i h t exporting gpa k slot count p.few (new_has_pages o.machine w t gpa k slot count ps) (λ n e. (pages_passed o.machine w t gpa k slot count ps n e).fresh) e c f done)
+
   pub row-well : (c : Call) → Passes ((row_of o me c).items w) → WellHolds (After c)
   row-well (call.ExportStateImmutable t slot) ps =
       let td : TdPassed w t session_ops = search in
       immutable_well o w l i h t slot (td_alive td) (ltb-true 0 (length (w.tds.streams t)) (search)) (length (w.tds.vps t)) (six_words (w.tds.mrtds t))
-  row-well (call.ExportMem t gpa k slot) ps =
-      let td : TdPassed w t abortable_ops = search in
-      let exporting : IsExporting w t = record { alive = td_alive td; standing = abortable_exporting (w.tds.ops t) td.op } in
-      page_well o w l i h t exporting gpa k slot (ltb-true k (length (w.tds.streams t)) (search)) (not-true ((entry_at w t 0 gpa).mark == w.tds.mig_epochs t) (search))
+  row-well (call.ExportMem t gpa k slot) ps = sent_well t gpa k slot None ps
   row-well (call.ExportTrack t slot start) ps = token_well t slot start ps
   row-well (call.ExportStateTd t slot) ps =
       let td : TdPassed w t paused_ops = search in

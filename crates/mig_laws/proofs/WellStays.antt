@@ -9,7 +9,6 @@ use Rattle.td_words.specs.declared.names.OpState.{OpState}
 use Rattle.td_words.specs.declared.names.OpState.TheVariants.{PostExport}
 use Rattle.td_words.specs.Packing.{Entry, is_exported}
 use Rattle.flat_core.specs.World.{World, Made, put}
-use Rattle.flat_core.specs.Tree.{page_of_gpa}
 use Rattle.flat_core.specs.Effects.{put_in}
 use Rattle.flat_core.specs.Sessions.{stream_page, stream_counter}
 use Rattle.flat_core.specs.BundleRows.{start_epoch}
@@ -36,7 +35,7 @@ pub record WellStays (w v : World) (x : ℕ) : Type 0 where
   pub started : w.tds.ops x ≡ PostExport → v.tds.ops x ≡ PostExport
 
 still_agrees : (w v : World) (x : ℕ) (b : Made) → WellStays w v x → AgreesWith w x b → AgreesWith v x b
-still_agrees w v x b k h = record { epoch = omega (arith, h.epoch, k.epoch); page = λ e. k.mark (page_of_gpa b.header.gpa) b.header.epoch (h.page e); started = λ e. k.started (h.started e) }
+still_agrees w v x b k h = record { epoch = omega (arith, h.epoch, k.epoch); page = λ e n i. k.mark n b.header.epoch (h.page e n i); started = λ e. k.started (h.started e) }
 
 pub stays_well : (w v : World) (x : ℕ) → v.outgoing.bundles ≡ w.outgoing.bundles → WellStays w v x → SessionAgrees w x → SessionAgrees v x
 stays_well w v x bundles k h = record {

@@ -4,17 +4,16 @@
 use Rattle.std.specs.Prelude.{◌≡◌, ℕ, ◌+◌, ◌<◌, ◌≤◌, List, ◌∷◌, ◌++◌, length, Option, Some, Bool, true, false, ◌==◌, ◌&&◌, nat_lt, if◌then◌else◌, slice_index_or, slice_set, All}
 use Rattle.std.specs.List.{count_by, sum}
 use Rattle.flat_core.specs.World.{Made}
-use Rattle.flat_core.specs.Tree.{page_of_gpa}
-use Rattle.mig_laws.specs.Source.{is_page_at, last_of, last_payload}
+use Rattle.mig_laws.specs.Source.{has_gpa_page, is_page_at, page_words, last_of, last_payload}
 use Rattle.mig_laws.specs.WellMade.{is_of, is_on, is_token, AreWellMade}
 
 -- where so many bundles of each stream were imported: those of the session whose counters are below these numbers
 abbrev pub is_imported : (session : ℕ) (counts : List ℕ) → Made → Bool
 is_imported s counts b = is_of s b && nat_lt b.header.counter (slice_index_or counts b.header.stream 0)
 
--- the payload of the last of them that has the page of a GPA page
+-- a page's words in the last of them that has it
 abbrev pub last_imported : (session : ℕ) (counts : List ℕ) (gpa_page : ℕ) → List Made → Option (List ℕ)
-last_imported s counts n bundles = last_of (λ b. is_imported s counts b && is_page_at s n b) bundles
+last_imported s counts n bundles = last_of n (λ b. is_imported s counts b && is_page_at s n b) bundles
 
 -- one more of a stream
 abbrev pub one_more : (stream : ℕ) (counts : List ℕ) → List ℕ
@@ -81,11 +80,11 @@ TokenFitsThen = (s : ℕ) (counts : List ℕ) (epoch : ℕ) (before after : List
     → HasAllBefore s counts epoch before → is_of s b ≡ true → is_token b ≡ true → epoch < b.header.epoch
     → AreImported s counts epoch (before ++ b ∷ after) × TokenFits s counts epoch b
 
--- with one more bundle imported: of its page it is the last one imported, in the order in which they were made too, and every
--- other page's last one stays
+-- with one more bundle imported: of each of its pages it is the last one imported, in the order in which they were made too, and
+-- every other page's last one stays
 pub record LatestIsLast (s : ℕ) (counts : List ℕ) (bundles : List Made) (b : Made) : Type 0 where
-  pub own : last_imported s (one_more (counted_on b) counts) (page_of_gpa b.header.gpa) bundles ≡ Some b.payload
-  pub others : (n : ℕ) → (page_of_gpa b.header.gpa == n) ≡ false → last_imported s (one_more (counted_on b) counts) n bundles ≡ last_imported s counts n bundles
+  pub own : (n : ℕ) → has_gpa_page b.header n ≡ true → last_imported s (one_more (counted_on b) counts) n bundles ≡ Some (page_words n b)
+  pub others : (n : ℕ) → has_gpa_page b.header n ≡ false → last_imported s (one_more (counted_on b) counts) n bundles ≡ last_imported s counts n bundles
 
 -- so it is where a page's bundle is imported that fits
 abbrev pub ImportsKeepLast : Type 0

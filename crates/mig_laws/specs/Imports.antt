@@ -1,11 +1,10 @@
 -- The destination's half of the law of the image: what a TD that is being imported has of the bundles that its source made (TD
 -- Migration Architecture, "Migration Session Control"; ABI Reference, "TDH.IMPORT" leaf functions).
-use Rattle.std.specs.Prelude.{◌≡◌, ◌≢◌, ℕ, ◌≤◌, List, ◌∷◌, ◌++◌, length, map, Option, Some, None, option_map, Bool, true, ◌==◌, ◌&&◌, All, slice_get}
+use Rattle.std.specs.Prelude.{◌≡◌, ◌≢◌, ℕ, ◌≤◌, List, ◌∷◌, ◌++◌, length, map, Option, Some, None, Bool, true, ◌==◌, ◌&&◌, All, slice_get}
 use Rattle.std.specs.List.{list_any}
 use Rattle.td_words.specs.declared.names.OpState.TheVariants as op
 use Rattle.td_words.specs.declared.names.VcpuState.TheVariants as vcpu
 use Rattle.flat_core.specs.World.{World, Image, Made}
-use Rattle.flat_core.specs.Sessions.{payload_words}
 use Rattle.flat_core.specs.Inputs.{word_given}
 use Rattle.flat_core.specs.Lawful.{IsAlive}
 use Rattle.flat_core.specs.Opening.{Opening, Incoming}
@@ -22,10 +21,6 @@ use Rattle.mig_laws.specs.Image.{IsComplete, Unforged, StartsAs, IsSource}
 -- how many bundles of each stream were imported
 abbrev pub counts_of : World → ℕ → List ℕ
 counts_of w t = map w.streams.counters (w.tds.streams t)
-
--- a page's words, as a payload gives them
-abbrev pub given_words : Option (List ℕ) → Option (List ℕ)
-given_words payload = option_map (λ words. payload_words (word_given words) 512) payload
 
 -- a virtual processor at the index of a bundle of type 2 is READY, with its registers and its position
 pub record IsVpGiven (w : World) (t : ℕ) (b : Made) : Type 0 where
@@ -62,7 +57,7 @@ begins_epoch s counts epoch b = is_imported s counts b && (is_token b && b.heade
 pub record ImportHolds (bundles : List Made) (w : World) (t : ℕ) : Type 0 where
   pub have : AreImported (w.tds.sessions t) (counts_of w t) (w.tds.mig_epochs t) bundles
   pub tracked : w.tds.mig_epochs t ≢ 1 → list_any (begins_epoch (w.tds.sessions t) (counts_of w t) (w.tds.mig_epochs t)) bundles ≡ true
-  pub pages : (n : ℕ) → known_words w t n ≡ given_words (last_imported (w.tds.sessions t) (counts_of w t) n bundles)
+  pub pages : (n : ℕ) → known_words w t n ≡ last_imported (w.tds.sessions t) (counts_of w t) n bundles
   pub begun : IsBegunBy w t bundles
   pub states : All (λ b. is_imported (w.tds.sessions t) (counts_of w t) b ≡ true → HasState w t b) bundles
   pub few : length (w.tds.vps t) ≤ w.tds.vps_expected t

@@ -10,3 +10,4 @@ pub mod Started
 pub mod Grows
 pub mod Hosts
 pub mod Once
+pub mod Lists

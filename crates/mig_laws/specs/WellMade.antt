@@ -6,14 +6,13 @@ use Rattle.std.specs.List.{count_by}
 use Rattle.td_words.specs.declared.names.OpState.TheVariants.{PostExport}
 use Rattle.td_words.specs.Packing.{is_exported}
 use Rattle.flat_core.specs.World.{World, Made}
-use Rattle.flat_core.specs.Tree.{page_of_gpa}
 use Rattle.flat_core.specs.Sessions.{stream_counter}
 use Rattle.flat_core.specs.BundleRows.{start_epoch}
 use Rattle.flat_core.specs.Run.{bundles_in}
 use Rattle.flat_core.specs.Laws.{IsKept, HoldsInRuns, ArePagesKnown}
 use Rattle.flat_core.specs.AccessLaw.{IsGuarded}
 use Rattle.mig_laws.specs.Ivs.{is_forward, IsExporting}
-use Rattle.mig_laws.specs.Source.{is_page_at, SourceHolds}
+use Rattle.mig_laws.specs.Source.{has_gpa_page, is_page_at, SourceHolds}
 
 -- the bundles of a session, of types 0 to 5, and those of them that are on one stream
 abbrev pub is_of : (session : ℕ) → Made → Bool
@@ -26,12 +25,12 @@ is_on s k b = is_of s b && b.header.stream == k
 abbrev pub is_token : Made → Bool
 is_token b = b.header.kind == 4 || b.header.kind == 5
 
--- An earlier bundle a of b's session is of no later migration epoch; where b is a token, or has the same page, it is of an
--- earlier one; and where it is the start token, b has a page.
+-- An earlier bundle a of b's session is of no later migration epoch; where b is a token, or has a page that a has too, it is of
+-- an earlier one; and where it is the start token, b has pages.
 pub record IsBehind (b a : Made) : Type 0 where
   pub epoch : a.header.epoch ≤ b.header.epoch
   pub token : is_token b ≡ true → a.header.epoch < b.header.epoch
-  pub page : b.header.kind ≡ 3 → is_page_at b.header.session (page_of_gpa b.header.gpa) a ≡ true → a.header.epoch < b.header.epoch
+  pub page : b.header.kind ≡ 3 → (n : ℕ) → has_gpa_page b.header n ≡ true → is_page_at b.header.session n a ≡ true → a.header.epoch < b.header.epoch
   pub started : a.header.kind ≡ 5 → b.header.kind ≡ 3
 
 -- A bundle is made after these: pages alone are on other streams than the first one; it counts those of its session on its
@@ -57,11 +56,11 @@ pub record IsMarked (w : World) (t gpa_page epoch : ℕ) : Type 0 where
   pub first : epoch ≤ (w.tds.entries t 0 gpa_page).mark
   pub last : (w.tds.entries t 0 gpa_page).mark ≤ w.tds.mig_epochs t
 
--- what a TD's words say of a bundle of its session: of no later migration epoch than the TD is in, nor, where it has a page,
--- than that page's entry is marked with; and the start token ends the export
+-- what a TD's words say of a bundle of its session: of no later migration epoch than the TD is in, nor, where it has pages,
+-- than the entry of each of them is marked with; and the start token ends the export
 pub record AgreesWith (w : World) (t : ℕ) (b : Made) : Type 0 where
   pub epoch : b.header.epoch ≤ w.tds.mig_epochs t
-  pub page : b.header.kind ≡ 3 → IsMarked w t (page_of_gpa b.header.gpa) b.header.epoch
+  pub page : b.header.kind ≡ 3 → (n : ℕ) → has_gpa_page b.header n ≡ true → IsMarked w t n b.header.epoch
   pub started : b.header.kind ≡ 5 → w.tds.ops t ≡ PostExport
 
 -- of a TD whose export stands: each stream's counter is the number of its session's bundles there, and before the start token

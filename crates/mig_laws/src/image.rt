@@ -11,10 +11,10 @@ ghost use Rattle.mig_laws.specs.Started.{EveryRunIsASource, MissingAreUnsent, So
 /// and opens, of whatever session, was made by the other: under each session for which the one has noted at
 /// IMPORT.COMMIT what the TD starts with, EXPORT.PAUSE noted an image in the other. So it is unless a tag
 /// was forged, or a third run had the same key. The TD has the pages that the session sent, all of them and
-/// no others, each with its last payload, which is the image's 512 words; MRTD and RTMRs are the image's,
-/// and there are as many virtual processors, each with the image's registers and position: 32 bits of it,
-/// which are all where no guest's code of the source has more than 256 operations. A page of the image that
-/// was never sent isn't there.
+/// no others, each with its last payload: its 512 words of the bundle that carried it last, alone or in a
+/// list. These are the image's. MRTD and RTMRs are the image's, and there are as many virtual processors,
+/// each with the image's registers and position: 32 bits of it, which are all where no guest's code of the
+/// source has more than 256 operations. A page of the image that was never sent isn't there.
 ///
 /// Why it is so is kept by each event at which no tag is forged, whatever else has come in by then. Of a TD
 /// that is being imported, as many bundles of each stream as it has counted were imported, none of a later
@@ -31,9 +31,9 @@ pub fn image_law()
 /// image; before the token there is a bundle with the TD state, and one with the state of each virtual
 /// processor of the image; behind it nothing of the session comes. So the last payload of each page
 /// before the token is that page of the image, and each state is the image's. One event keeps it,
-/// whatever bundles have come in; and each state that is so, with bundles that are well made, is a
-/// source. Until then the token's row counts as missing just those states, of the TD and of its virtual
-/// processors, that have no bundle of the session.
+/// whatever bundles have come in; and each state that is so, with bundles that are well made and as yet
+/// no list among them, is a source. Until then the token's row counts as missing just those states, of
+/// the TD and of its virtual processors, that have no bundle of the session.
 pub fn start_law()
     ensures kept { StartsAreKept }
     ensures started { SourcesAreStarted }

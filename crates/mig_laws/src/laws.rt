@@ -17,7 +17,7 @@ pub fn iv_law()
 
 /// What a source sends is what its pages hold. In every state of every run, of each TD whose export
 /// stands, and each GPA page of which its session has a memory bundle, the page's entry is in an
-/// exported state, and where it isn't dirty the payload of the last such bundle is the 512 words of the
+/// exported state, and where it isn't dirty its words in the last such bundle are the 512 words of the
 /// page, which are what its guest knows to be there. In LIVE_EXPORT each page in EXPORTED_BLOCKEDW is
 /// blocked for writing and tracked, so no store of any guest reaches it. One event keeps all this,
 /// whatever bundles have come in.

@@ -19,7 +19,7 @@ mod turns;
 
 pub use key_pairs::KeyPair;
 pub use opened::{no_secrets, opened_bundles};
-pub use replay::{Texts, ended_processors, laws_of_turns, replay_texts};
+pub use replay::{Texts, all_lines, all_notes, ended_processors, laws_of_turns, replay_texts};
 pub use sealed::sealed_container;
 pub use threads::threaded_texts;
 pub use turns::{Onlooker, Ran, script_run};

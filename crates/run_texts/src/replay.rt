@@ -80,8 +80,8 @@ pub(crate) fn processors<'a>(
     Ok(lps)
 }
 
-// The reply lines of all processors.
-fn all_lines(alloc: Global, lps: &[LpState<'_>]) -> Result<Vec<u8>, OutOfMemory>
+/// The reply lines of all processors.
+pub fn all_lines(alloc: Global, lps: &[LpState<'_>]) -> Result<Vec<u8>, OutOfMemory>
     requires { length lps.now ≤ 8 }
     ensures { IfOk result (λ v. v.items ≡ concat (lines_seen 0 lps.now)) }
 {
@@ -95,8 +95,8 @@ fn all_lines(alloc: Global, lps: &[LpState<'_>]) -> Result<Vec<u8>, OutOfMemory>
     Ok(text)
 }
 
-// The lines of what the guests of all processors noted, with their reports under the report key.
-fn all_notes(
+/// The lines of what the guests of all processors noted, with their reports under the report key.
+pub fn all_notes(
     alloc: Global,
     report_key: &[u8; 48],
     lps: &[LpState<'_>],

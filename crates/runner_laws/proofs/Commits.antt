@@ -1,5 +1,5 @@
 -- A session that was committed is over: what keeps it, act by act.
-use Rattle.std.proofs.Common.{◌≡◌, ◌≢◌, refl, sym, ◌∙◌, ap, subst, ℕ, zero, suc, ◌<◌, List, [], ◌∷◌, ◌++◌, Option, true, false, ◌==◌, arith}
+use Rattle.std.proofs.Common.{◌≡◌, ◌≢◌, refl, sym, ◌∙◌, ap, subst, ℕ, zero, suc, ◌<◌, List, [], ◌∷◌, ◌++◌, Option, None, true, false, ◌==◌, arith}
 use Rattle.std.specs.List.{All}
 use Rattle.std.proofs.lemmas.Bool.{eqb-true, eq-eqb, ltb-true}
 use Rattle.std.proofs.lemmas.List.Elements.{All-push}
@@ -9,22 +9,23 @@ use Rattle.td_words.specs.declared.calls.Call.TheVariants as call
 use Rattle.flat_core.specs.World.{World, Image, Made}
 use Rattle.flat_core.specs.Opening.{Opening}
 use Rattle.flat_core.specs.Row.{Passes}
-use Rattle.flat_core.specs.Tree.{entry_at}
 use Rattle.flat_core.specs.Effects.{set_op, add_bundle}
 use Rattle.flat_core.specs.Inputs.{Input, input_in}
-use Rattle.flat_core.specs.ImportRows.{commit_ops, given_up_ops, note_commit}
+use Rattle.flat_core.specs.PageLists.{page_count}
+use Rattle.flat_core.specs.BundleRows.{export_pages}
+use Rattle.flat_core.specs.ImportRows.{commit_ops, given_up_ops, note_commit, import_pages}
 use Rattle.flat_core.specs.Table.{row_of}
 use Rattle.flat_core.specs.Lawful.{Lawful}
 use Rattle.flat_core.specs.Event.{start}
 use Rattle.flat_core.proofs.Tests.{by_test, same_self}
 use Rattle.flat_core.proofs.Passed.{TdPassed, td_alive}
 use Rattle.flat_core.proofs.Parts.{IsLive}
-use Rattle.flat_bundles.proofs.Fills.{fill_either}
 use Rattle.mig_laws.specs.Ivs.{is_forward, is_filling, IsImporting, AbortsHold}
 use Rattle.mig_laws.proofs.Ivs.{back_token, given_up_fills}
 use Rattle.mig_laws.proofs.OneMore.{commit_fills}
-use Rattle.mig_laws.proofs.Changes.{begins_import, each_counts}
-use Rattle.mig_laws.proofs.CallChanges.{call-changes}
+use Rattle.mig_laws.proofs.Lists.{sent_bundle, sent_as, taken_as}
+use Rattle.mig_laws.proofs.Changes.{begins_import, Changes, each_counts}
+use Rattle.mig_laws.proofs.CallChanges.{pages_export, pages_import, call-changes}
 use Rattle.runner_laws.specs.Runner.{IsOver, CommitsHold}
 use Rattle.runner_laws.proofs.Moves.{Asked, asked}
 
@@ -124,8 +125,30 @@ module _ (o : Opening) (me : ℕ) (w : World) (l : Lawful o.machine w) (aborts :
   abbrev After : Call → World
   After c = (row_of o me c).act w
 
+  goes_commits : (c : Call) (v : World) → Changes c w v → begins_import c ≡ false → NoneComes w.outgoing.bundles v.outgoing.bundles → v.key_table.last_imported ≡ w.key_table.last_imported → v.hidden.given ≡ w.hidden.given → CommitsHold v
+  goes_commits c v changes off bundles last given = commits_stay w v bundles last (λ x a. (let k = each_counts changes off x a in record { importing = k.importing; session = k.session })) given h
+
   rest_commits : (c : Call) → Passes ((row_of o me c).items w) → begins_import c ≡ false → NoneComes w.outgoing.bundles (After c).outgoing.bundles → (After c).key_table.last_imported ≡ w.key_table.last_imported → (After c).hidden.given ≡ w.hidden.given → CommitsHold (After c)
-  rest_commits c ps off bundles last given = commits_stay w (After c) bundles last (λ x a. (let k = each_counts (call-changes o me w l c ps) off x a in record { importing = k.importing; session = k.session })) given h
+  rest_commits c ps = goes_commits c (After c) (call-changes o me w l c ps)
+
+  -- lists of pages, with any COUNT
+  sent_commits : (t gpa k slot : ℕ) (count : Option ℕ) → Passes ((export_pages o.machine t gpa k slot count).items w) → CommitsHold ((export_pages o.machine t gpa k slot count).act w)
+  sent_commits t gpa k slot count ps =
+      let row = export_pages o.machine t gpa k slot count in
+      goes_commits (call.ExportMem t gpa k slot) (row.act w) (pages_export o me w l t gpa k slot count ps) refl
+      (sent_as o.machine t gpa k slot count w (λ v. NoneComes w.outgoing.bundles v.outgoing.bundles) (λ e c f done. forward (sent_bundle w t gpa k slot count) refl refl))
+      (sent_as o.machine t gpa k slot count w (λ v. v.key_table.last_imported ≡ w.key_table.last_imported) (λ e c f done. refl))
+      (sent_as o.machine t gpa k slot count w (λ v. v.hidden.given ≡ w.hidden.given) (λ e c f done. refl))
+
+  taken_commits : (t slot page : ℕ) (count : Option ℕ) → Passes ((import_pages o.machine (o.bundles slot) t slot page count).items w) → CommitsHold ((import_pages o.machine (o.bundles slot) t slot page count).act w)
+  taken_commits t slot page count ps =
+      let x : Input = input_in (o.bundles slot) in
+      let row = import_pages o.machine (o.bundles slot) t slot page count in
+      let n : ℕ = page_count count in
+      goes_commits (call.ImportMem t slot page) (row.act w) (pages_import o me w l t slot page count ps) refl
+      (taken_as t x.header.stream x.header.gpa page x.words n w (λ v. NoneComes w.outgoing.bundles v.outgoing.bundles) (λ v taken. none refl))
+      (taken_as t x.header.stream x.header.gpa page x.words n w (λ v. v.key_table.last_imported ≡ w.key_table.last_imported) (λ v taken. refl))
+      (taken_as t x.header.stream x.header.gpa page x.words n w (λ v. v.hidden.given ≡ w.hidden.given) (λ v taken. refl))
 
   pub row-commits : (c : Call) → Passes ((row_of o me c).items w) → CommitsHold (After c)
   row-commits (call.ImportStateImmutable t slot) ps =
@@ -133,10 +156,7 @@ module _ (o : Opening) (me : ℕ) (w : World) (l : Lawful o.machine w) (aborts :
       let self = same_self t in
       begun_commits w (After (call.ImportStateImmutable t slot)) h t x.header.session (ltb-true _ _ (search)) refl refl (rw self refl) (λ y z. rw z refl)
       (λ y z a. record { alive = record { kind = a.alive.kind; life = a.alive.life }; standing = rw z at a.standing }) refl
-  row-commits (call.ImportMem t slot page) ps =
-      let x : Input = input_in (o.bundles slot) in
-      let same = fill_either (λ u. (u.outgoing.bundles ≡ w.outgoing.bundles) × (u.key_table.last_imported ≡ w.key_table.last_imported) × (u.hidden.given ≡ w.hidden.given)) t x.header.gpa page x.words (entry_at w t 0 x.header.gpa).state w (refl, refl, refl) (refl, refl, refl) in
-      rest_commits (call.ImportMem t slot page) ps refl (none same.0) same.1 same.2
+  row-commits (call.ImportMem t slot page) ps = taken_commits t slot page None ps
   row-commits (call.ImportCommit t) ps =
       let td : TdPassed w t commit_ops = search in
       committed_commits w h aborts t (record { alive = td_alive td; standing = (commit_fills (w.tds.ops t) td.op).0 })
@@ -144,7 +164,7 @@ module _ (o : Opening) (me : ℕ) (w : World) (l : Lawful o.machine w) (aborts :
       let td : TdPassed w t given_up_ops = search in
       given_up_commits w h t slot (record { alive = td_alive td; standing = given_up_fills (w.tds.ops t) td.op })
   row-commits (call.ExportStateImmutable t slot) ps = rest_commits (call.ExportStateImmutable t slot) ps refl (forward _ refl refl) refl refl
-  row-commits (call.ExportMem t gpa k slot) ps = rest_commits (call.ExportMem t gpa k slot) ps refl (forward _ refl refl) refl refl
+  row-commits (call.ExportMem t gpa k slot) ps = sent_commits t gpa k slot None ps
   row-commits (call.ExportTrack t slot zero) ps = rest_commits (call.ExportTrack t slot zero) ps refl (forward _ refl refl) refl refl
   row-commits (call.ExportTrack t slot (suc n)) ps = rest_commits (call.ExportTrack t slot (suc n)) ps refl (forward _ refl refl) refl refl
   row-commits (call.ExportStateTd t slot) ps = rest_commits (call.ExportStateTd t slot) ps refl (forward _ refl refl) refl refl

@@ -17,23 +17,22 @@ use Rattle.td_words.specs.NameNumber.{op_number}
 use Rattle.flat_core.specs.World.{World, Image, ClearHeader, Made, put}
 use Rattle.flat_core.specs.Opening.{Opening, Incoming}
 use Rattle.flat_core.specs.Row.{OperationRow, Passes}
-use Rattle.flat_core.specs.Tree.{page_of_gpa, entry_at}
-use Rattle.flat_core.specs.Effects.{set_op, begin_memory, pass_operation, tell_words, leave_guest}
+use Rattle.flat_core.specs.Effects.{set_op, pass_operation, tell_words, leave_guest}
 use Rattle.flat_core.specs.Guest.{ByRow, operation_of, is_pending_at, reach}
-use Rattle.flat_core.specs.Sessions.{count_bundle}
+use Rattle.flat_core.specs.PageLists.{page_count}
 use Rattle.flat_core.specs.Inputs.{Input, input_in, has_no_fault, fault_of_input, header_of_input}
 use Rattle.flat_core.specs.ExportRows.{image_of, abortable_ops}
 use Rattle.flat_core.specs.BundleRows.{session_ops, paused_ops}
-use Rattle.flat_core.specs.ImportRows.{is_start, import_token_ops, op_then, late_ops, sent_ops}
+use Rattle.flat_core.specs.ImportRows.{import_pages, is_start, import_token_ops, op_then, late_ops, sent_ops}
 use Rattle.flat_core.specs.Table.{row_of}
 use Rattle.flat_core.specs.Lawful.{is_exporting}
 use Rattle.flat_core.proofs.Tests.{by_test, host_kind, put_here}
 use Rattle.flat_core.proofs.Passed.{TdPassed}
 use Rattle.flat_core.proofs.Operations.{operation_row, accepted}
-use Rattle.flat_bundles.proofs.Fills.{fill_either}
 use Rattle.mig_laws.specs.Ivs.{is_filling}
 use Rattle.mig_laws.specs.Paused.{is_paused}
 use Rattle.mig_laws.proofs.Ivs.{given_up_fills}
+use Rattle.mig_laws.proofs.Lists.{taken_as}
 use Rattle.mig_laws.proofs.OneMore.{only_kind, td_state_fills, commit_fills}
 use Rattle.mig_laws.proofs.Paused.{only_live, abortable_stands}
 use Rattle.runner_laws.specs.Runner.{is_waiting, IsCalledBack}
@@ -126,6 +125,17 @@ module _ (o : Opening) (me : ℕ) (w : World) where
   own : (c : Call) (v : World) (t x : ℕ) → ((x == t) ≡ false → (v.tds.ops x ≡ w.tds.ops x) × (v.tds.sessions x ≡ w.tds.sessions x)) → Moves o c w v t → Moves o c w v x
   own c v t x others goes = by_test (x == t) (λ y. subst (λ (z : ℕ). Moves o c w v z) (sym (eqb-true x t y)) goes) (λ y. let s = others y in stays s.0 s.1)
 
+  -- pages that come in, with any COUNT
+  taken_moves : (t slot page : ℕ) (count : Option ℕ) (x : ℕ) → Moves o (call.ImportMem t slot page) w ((import_pages o.machine (o.bundles slot) t slot page count).act w) x
+  taken_moves t slot page count x =
+      let b : Input = input_in (o.bundles slot) in
+      taken_as t b.header.stream b.header.gpa page b.words (page_count count) w (λ v. Moves o (call.ImportMem t slot page) w v x) (λ v taken. stays refl refl)
+
+  taken_given : (t slot page : ℕ) (count : Option ℕ) → ((import_pages o.machine (o.bundles slot) t slot page count).act w).hidden.given ≡ w.hidden.given
+  taken_given t slot page count =
+      let b : Input = input_in (o.bundles slot) in
+      taken_as t b.header.stream b.header.gpa page b.words (page_count count) w (λ v. v.hidden.given ≡ w.hidden.given) (λ v taken. refl)
+
   pub row-moves : (c : Call) → Passes ((row_of o me c).items w) → (x : ℕ) → w.pages.kinds x ≡ kind.Tdr → Moves o c w (After c) x
   row-moves (call.MngCreate t k) ps x there = by_test (x == t)
       (λ y. absurd (let no : kind.Tdr ≡ kind.Nda = sym there ∙ (ap w.pages.kinds (eqb-true x t y) ∙ host_kind _ (search)) in cc))
@@ -155,10 +165,7 @@ module _ (o : Opening) (me : ℕ) (w : World) where
       (put_here w.tds.ops t op.Runnable))
   row-moves (call.ImportStateImmutable t slot) ps x there =
       own (call.ImportStateImmutable t slot) (After (call.ImportStateImmutable t slot)) t x (λ y. (rw y refl, rw y refl)) (builds (new_is_new (w.tds.ops t) (search)))
-  row-moves (call.ImportMem t slot page) ps x there =
-      let b : Input = input_in (o.bundles slot) in
-      let gpa : ℕ = b.header.gpa in
-      fill_either (λ u. Moves o (call.ImportMem t slot page) w (count_bundle t b.header.stream (begin_memory t (page_of_gpa gpa) b.words u)) x) t gpa page b.words (entry_at w t 0 gpa).state w (stays refl refl) (stays refl refl)
+  row-moves (call.ImportMem t slot page) ps x there = taken_moves t slot page None x
   row-moves (call.ImportTrack t slot) ps x there =
       let b : Input = input_in (o.bundles slot) in
       let p = token_waits (is_start b.header) (w.tds.ops t) (search) in
@@ -178,10 +185,7 @@ module _ (o : Opening) (me : ℕ) (w : World) where
   -- what IMPORT.COMMIT has noted stays noted
   pub row-given : (c : Call) → is_commit c ≡ false → (After c).hidden.given ≡ w.hidden.given
   row-given (call.ImportCommit t) off = cc
-  row-given (call.ImportMem t slot page) off =
-      let b : Input = input_in (o.bundles slot) in
-      let gpa : ℕ = b.header.gpa in
-      fill_either (λ u. (count_bundle t b.header.stream (begin_memory t (page_of_gpa gpa) b.words u)).hidden.given ≡ w.hidden.given) t gpa page b.words (entry_at w t 0 gpa).state w refl refl
+  row-given (call.ImportMem t slot page) off = taken_given t slot page None
   row-given (call.ExportTrack t slot zero) off = refl
   row-given (call.ExportTrack t slot (suc n)) off = refl
   row-given c off = refl

@@ -10,7 +10,7 @@ use Rattle.td_words.specs.Place as place
 use Rattle.flat_core.specs.World.{World}
 use Rattle.flat_core.specs.Processor.{LockId}
 use Rattle.flat_core.specs.Effects.{set_entry}
-use Rattle.flat_core.specs.Lawful.{Lawful, IsAlive, IsNodeOf, is_named_kind}
+use Rattle.flat_core.specs.Lawful.{Lawful, LawfulTree, IsAlive, IsNodeOf, is_named_kind}
 use Rattle.flat_core.specs.Tree.{number_at}
 use Rattle.flat_core.specs.Event.{State}
 use Rattle.flat_core.proofs.Tests.{by_test}
@@ -51,7 +51,7 @@ not_above l level a b h = omega (arith, a, b, h)
 one_less : (k l : ℕ) → suc k ≡ suc l → k ≡ l
 one_less k l e = omega (arith, e)
 
-module _ (m : Machine) (mem : Memory) (s : State) (t : ℕ) (sh : Shows m mem.words mem.slots s) (la : Lawful m s.world) (alive : IsAlive s.world.pages s.world.tds t) (x : TwoControls m s.world t)
+module _ (m : Machine) (mem : Memory) (s : State) (t : ℕ) (sh : Shows m mem.words mem.slots s) (tree : LawfulTree m.pages s.world.pages s.world.tds) (alive : IsAlive s.world.pages s.world.tds t) (x : TwoControls m s.world t)
     (gpa page level : ℕ) (small : gpa < 2 ^ 47) (has : HasEntry m s.world t x.root page gpa level) (e : Entry) where
   abbrev w : World
   w = s.world
@@ -69,7 +69,7 @@ module _ (m : Machine) (mem : Memory) (s : State) (t : ℕ) (sh : Shows m mem.wo
   node_named : (q l n : ℕ) → IsNodeOf w.pages t q kind.Ept l n → ((w.tds.entries t l n).page ≡ q) × (l ≤ 3)
   node_named q l n node =
       let its : IsAlive w.pages w.tds (w.pages.owners q) = subst (λ (u : ℕ). IsAlive w.pages w.tds u) (sym node.page.owner) alive in
-      let h = rw (node.page.owner, node.level_is, node.number_is) at (la.tree.named q (ap is_named_kind node.page.kind) its) in (h.1, h.2)
+      let h = rw (node.page.owner, node.level_is, node.number_is) at (tree.named q (ap is_named_kind node.page.kind) its) in (h.1, h.2)
 
   pub one-node : (p q l n : ℕ) → IsNodeOf w.pages t p kind.Ept l n → IsNodeOf w.pages t q kind.Ept l n → p ≡ q
   one-node p q l n a b = sym (node_named p l n a).0 ∙ (node_named q l n b).0
@@ -181,11 +181,17 @@ module _ (m : Machine) (mem : Memory) (s : State) (t : ℕ) (sh : Shows m mem.wo
         (λ y. (let own : w.pages.owners q ≡ t = eqb-true (w.pages.owners q) t y in rw (own, alive.life) (node-own is own (w.pages.levels q) refl)))
         (λ n. rw (entry-same (w.pages.owners q) (w.pages.levels q) (w.pages.numbers q) n) (stays kind.Ept is (other-td n)))
 
-  pub entry-put : Shows m words mem.slots (record s { world = after })
-  entry-put = record { word = at; hasher = sh.hasher }
+  pub tree-put : Shows m words mem.slots (record s { world = after })
+  tree-put = record { word = at; hasher = sh.hasher }
     where
       at : (q : WordPlace) → IsIn m q → IsAs (cell (record s { world = after }) q) (words q)
       at (place.Lock q) b = sh.word (place.Lock q) b
       at (place.Pamt q) b = sh.word (place.Pamt q) b
       at (place.Key k) b = sh.word (place.Key k) b
       at (place.Word q i) b = by-kind q i b (w.pages.kinds q) refl
+
+-- its tree is lawful where the whole state is
+pub entry-put : (m : Machine) (mem : Memory) (s : State) (t : ℕ) → Shows m mem.words mem.slots s → Lawful m s.world → IsAlive s.world.pages s.world.tds t → (x : TwoControls m s.world t) (gpa page level : ℕ) → gpa < 2 ^ 47
+    → HasEntry m s.world t x.root page gpa level → (e : Entry)
+    → Shows m (put_word mem.words (place.Word page (index_at level gpa)) (entry_word e)) mem.slots (record s { world = set_entry t level (number_at level gpa) e s.world })
+entry-put m mem s t sh la = tree-put m mem s t sh la.tree

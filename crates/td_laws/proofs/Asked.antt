@@ -1,5 +1,6 @@
 -- What each row asks of its TD's state; and where its conditions hold, what it asks is so.
-use Rattle.std.proofs.Common.{◌≡◌, refl, ap, subst, ℕ, zero, suc, List, [], ◌∷◌, ◌++◌, map, Option, Some, None, Bool, true, false, ◌==◌, ◌&&◌}
+use Rattle.std.proofs.Common.{◌≡◌, refl, ◌∙◌, ap, subst, ℕ, zero, suc, List, [], ◌∷◌, ◌++◌, map, Option, Some, None, Bool, true, false, ◌==◌, ◌&&◌, append_assoc}
+use Rattle.std.specs.Prelude.{flat_map}
 use Rattle.std.specs.List.{All}
 use Rattle.std.proofs.lemmas.Bool.{and_parts}
 use Rattle.std.proofs.lemmas.List.Elements.{All-nil, All-cons, All-head}
@@ -21,14 +22,17 @@ use Rattle.td_words.specs.NameNumber.{life_number, op_number}
 use Rattle.flat_core.specs.World.{World}
 use Rattle.flat_core.specs.Opening.{Opening}
 use Rattle.flat_core.specs.Row.{Item, Check, Try, Passes, needs}
-use Rattle.flat_core.specs.Conditions.{page_exclusive, host_page}
-use Rattle.flat_core.specs.Tree.{entry_at, is_passed, levels_above, walk, state_in, empty_below, named_page}
+use Rattle.flat_core.specs.Conditions.{page_exclusive, host_page, tree_shared, tree_exclusive, epoch_shared}
+use Rattle.flat_core.specs.Tree.{entry_at, is_passed, levels_above, walk, state_in, has_page, empty_below, named_page}
 use Rattle.flat_core.specs.Tracking.{tracked_page}
-use Rattle.flat_core.specs.Inputs.{Input, input_in, tag_holds}
+use Rattle.flat_core.specs.Sessions.{stream_page, stream_counter, has_stream, counter_room, other_epoch}
+use Rattle.flat_core.specs.PageLists.{page_count, gpas_from, Arrival, arrivals}
+use Rattle.flat_core.specs.Inputs.{Input, input_in, stream_there, session_same, epoch_same, counter_due, tag_holds}
 use Rattle.flat_core.specs.KeyRows.{reclaim_conditions}
 use Rattle.flat_core.specs.MemRows.{open_states, blocked_states}
-use Rattle.flat_core.specs.BundleRows.{tracked_in}
-use Rattle.flat_core.specs.ImportRows.{is_start, import_token_ops, page_to_fill}
+use Rattle.flat_core.specs.ExportRows.{abortable_ops}
+use Rattle.flat_core.specs.BundleRows.{exportable, page_to_export, tracked_in, export_pages}
+use Rattle.flat_core.specs.ImportRows.{filling_ops, importable, is_start, import_token_ops, page_to_fill, page_filled, pages_to_fill, import_pages}
 use Rattle.flat_core.specs.Table.{row_of}
 use Rattle.td_laws.specs.Steps.{Step, is_among, ComesIn}
 use Rattle.td_laws.specs.Ops.{token_in, op_step}
@@ -121,9 +125,37 @@ module _ (w : World) where
   tracks op.LiveExport t gpas = record { so = refl }
   tracks _ t gpas = record { so = refl }
 
-  fills : (x : Input) (t gpa page : ℕ) (s : EntryState) → AskNeither (page_to_fill w t [] gpa page s ++ tag_holds x ∷ [])
-  fills x t gpa page entry.Free = record { so = refl }
-  fills x t gpa page _ = record { so = refl }
+  -- of lists of pages, whichever they are
+  pages_asked : (t : ℕ) (gpas : List ℕ) (rest : List (Item Reply)) → are_other rest ≡ true → are_other (flat_map (page_to_export w t) gpas ++ rest) ≡ true
+  pages_asked t [] rest e = e
+  pages_asked t (gpa ∷ gpas) rest e =
+      ap are_other (append_assoc (page_to_export w t gpa) (flat_map (page_to_export w t) gpas) rest)
+      ∙ (ap are_other (append_assoc (walk w t gpa 0) (own t gpa) (flat_map (page_to_export w t) gpas ++ rest))
+      ∙ past (is_passed w t gpa) (levels_above 0) (own t gpa ++ (flat_map (page_to_export w t) gpas ++ rest)) (pages_asked t gpas rest e))
+    where
+      own : (t gpa : ℕ) → List (Item Reply)
+      own t gpa = has_page w t gpa 0 ∷ named_page w t gpa 0 Exclusive ∷ state_in w t gpa 0 (exportable (w.tds.ops t)) ∷ other_epoch w t gpa ∷ []
+
+  sent : (t k : ℕ) (gpas : List ℕ) → AskNeither (has_stream w t k ∷ tree_shared t ∷ epoch_shared t ∷ (flat_map (page_to_export w t) gpas
+      ++ page_exclusive (stream_page w t k) ∷ counter_room w t k ∷ tracked_in (w.tds.ops t) w t gpas))
+  sent t k gpas = record { so = pages_asked t gpas (page_exclusive (stream_page w t k) ∷ counter_room w t k ∷ tracked_in (w.tds.ops t) w t gpas) (tracks (w.tds.ops t) t gpas).so }
+
+  page_asked : (t : ℕ) (locked : List ℕ) (gpa page : ℕ) (s : EntryState) (rest : List (Item Reply)) → are_other rest ≡ true → are_other (page_to_fill w t locked gpa page s ++ rest) ≡ true
+  page_asked t [] gpa page entry.Free rest e = e
+  page_asked t (p ∷ locked) gpa page entry.Free rest e = e
+  page_asked t locked gpa page _ rest e = e
+
+  fills_asked : (t : ℕ) (locked : List ℕ) (pages : List Arrival) (rest : List (Item Reply)) → are_other rest ≡ true → are_other (pages_to_fill w t locked pages rest) ≡ true
+  fills_asked t locked [] rest e = e
+  fills_asked t locked (a ∷ pages) rest e =
+      let s : EntryState = (entry_at w t 0 a.gpa).state in
+      let more : List (Item Reply) = pages_to_fill w t (page_filled w t a ∷ locked) pages rest in
+      past (is_passed w t a.gpa) (levels_above 0) (state_in w t a.gpa 0 importable ∷ (page_to_fill w t locked a.gpa a.page s ++ more))
+      (page_asked t locked a.gpa a.page s more (fills_asked t (page_filled w t a ∷ locked) pages rest e))
+
+  taken : (t : ℕ) (x : Input) (pages : List Arrival) → let h = x.header in AskNeither (tree_exclusive t ∷ stream_there w t h ∷ session_same w t h ∷ epoch_same w t h
+      ∷ counter_due (stream_counter w t h.stream) h ∷ pages_to_fill w t [] pages (tag_holds x ∷ []))
+  taken t x pages = record { so = fills_asked t [] pages (tag_holds x ∷ []) refl }
 
 module _ (o : Opening) (me : ℕ) (w : World) where
   abbrev OpAsked : Call → Type 0
@@ -142,6 +174,19 @@ module _ (o : Opening) (me : ℕ) (w : World) where
   reclaimed t page true = (refl, refl)
   reclaimed t page false = (refl, refl)
 
+  -- with any COUNT
+  abbrev AsksFor : List (Item Reply) → (t : ℕ) → List OpState → Type 0
+  AsksFor items t from = (asked_in op_refused items ≡ (is_among op_number (w.tds.ops t) from, w.tds.ops t) ∷ [])
+      × (asked_in life_refused items ≡ (is_among life_number (w.tds.lives t) (life.KeysConfigured ∷ []), w.tds.lives t) ∷ [])
+
+  pages_sent : (t gpa k slot : ℕ) (count : Option ℕ) → AsksFor ((export_pages o.machine t gpa k slot count).items w) t abortable_ops
+  pages_sent t gpa k slot None = both _ _ _ (sent w t k (gpas_from gpa 1))
+  pages_sent t gpa k slot (Some n) = both _ _ _ (sent w t k (gpas_from gpa (page_count (Some n))))
+
+  pages_taken : (t slot page : ℕ) (count : Option ℕ) → AsksFor ((import_pages o.machine (o.bundles slot) t slot page count).items w) t filling_ops
+  pages_taken t slot page None = (let x : Input = input_in (o.bundles slot) in both _ _ _ (taken w t x (arrivals x.header.gpa page x.words 1)))
+  pages_taken t slot page (Some n) = (let x : Input = input_in (o.bundles slot) in both _ _ _ (taken w t x (arrivals x.header.gpa page x.words (page_count (Some n)))))
+
   asked : (c : Call) → OpAsked c × LifeAsked c
   asked (call.HostRead page word) = (refl, refl)
   asked (call.PhymemPageReclaim t page) = reclaimed t page (page == t)
@@ -152,10 +197,10 @@ module _ (o : Opening) (me : ℕ) (w : World) where
   asked (call.MemSeptRemove t gpa level) = both _ _ _ (named w t gpa level (entry.NlBlocked ∷ []) (empty_below w t gpa level ∷ tracked_page w t (entry_at w t level gpa).page ∷ []) refl)
   asked (call.MemRangeBlock t gpa level) = both _ _ _ (named w t gpa level open_states [] refl)
   asked (call.MemRangeUnblock t gpa level) = both _ _ _ (named w t gpa level blocked_states (tracked_page w t (entry_at w t level gpa).page ∷ []) refl)
-  asked (call.ExportMem t gpa stream slot) = both _ _ _ (tracks w (w.tds.ops t) t (gpa ∷ []))
+  asked (call.ExportMem t gpa stream slot) = pages_sent t gpa stream slot None
   asked (call.ExportTrack t slot zero) = (refl, refl)
   asked (call.ExportTrack t slot (suc n)) = (refl, refl)
-  asked (call.ImportMem t slot page) = (let x : Input = input_in (o.bundles slot) in both _ _ _ (fills w x t x.header.gpa page (entry_at w t 0 x.header.gpa).state))
+  asked (call.ImportMem t slot page) = pages_taken t slot page None
   asked (call.ImportTrack t slot) = token t (is_start (input_in (o.bundles slot)).header)
   asked _ = (refl, refl)
 

@@ -1,13 +1,11 @@
 -- Which events change HKIDs, and that they go round.
-use Rattle.std.proofs.Common.{◌≡◌, refl, sym, ◌∙◌, subst, ℕ, zero, suc, ◌+◌, [], ◌∷◌, length, Some, Bool, true, false, ◌==◌, if◌then◌else◌}
+use Rattle.std.proofs.Common.{◌≡◌, refl, sym, ◌∙◌, ap, subst, ℕ, zero, suc, ◌+◌, List, [], ◌∷◌, length, Option, Some, None, Bool, true, false, ◌==◌, if◌then◌else◌}
 use Rattle.std.proofs.lemmas.Bool.{eqb-true, eq-eqb}
 use Rattle.td_words.specs.declared.names.Access.{Access}
 use Rattle.td_words.specs.declared.names.Access.TheVariants.{Read, Write}
 use Rattle.td_words.specs.declared.names.PageKind.TheVariants as kind
 use Rattle.td_words.specs.declared.names.LifeState.{LifeState}
 use Rattle.td_words.specs.declared.names.LifeState.TheVariants as life
-use Rattle.td_words.specs.declared.names.EntryState.{EntryState}
-use Rattle.td_words.specs.declared.names.EntryState.TheVariants as entry
 use Rattle.td_words.specs.NameNumber.{life_number}
 use Rattle.td_words.specs.declared.calls.Call.{Call}
 use Rattle.td_words.specs.declared.calls.Call.TheVariants as call
@@ -17,14 +15,17 @@ use Rattle.flat_core.specs.World.{World, put}
 use Rattle.flat_core.specs.Opening.{Opening}
 use Rattle.flat_core.specs.Row.{OperationRow, Passes}
 use Rattle.flat_core.specs.Conditions.{is_free_key, is_written_back, same_kind}
-use Rattle.flat_core.specs.Tree.{entry_at}
 use Rattle.flat_core.specs.Effects.{written_back, tell_words}
 use Rattle.flat_core.specs.Inputs.{Input, input_in}
-use Rattle.flat_core.specs.ImportRows.{fill_page}
+use Rattle.flat_core.specs.Sessions.{count_bundle}
+use Rattle.flat_core.specs.PageLists.{page_count, gpas_from, Arrival, arrivals}
+use Rattle.flat_core.specs.BundleRows.{export_each}
+use Rattle.flat_core.specs.ImportRows.{take_each}
 use Rattle.flat_core.specs.Table.{row_of}
 use Rattle.flat_core.specs.Guest.{ByRow, operation_of, is_pending_at, reach}
 use Rattle.flat_core.specs.Lawful.{IsAlive, Lawful, key_owner, is_flushed}
 use Rattle.flat_core.proofs.Tests.{same_self, tdr_kind}
+use Rattle.flat_core.proofs.PageLists.{made_first, each_leaves, takes_leave}
 use Rattle.flat_core.proofs.Acts.{event_world}
 use Rattle.flat_core.proofs.Operations.{operation_row, accepted}
 use Rattle.td_laws.specs.Steps.{is_among}
@@ -35,9 +36,12 @@ module _ (o : Opening) (w : World) (h : ℕ) where
   abbrev Stays : World → Type 0
   Stays x = x.key_table.keys h ≡ w.key_table.keys h
 
-  fill_stays : (t gpa page : ℕ) (ws : ℕ → ℕ) (s : EntryState) → Stays (fill_page t gpa page ws s w)
-  fill_stays t gpa page ws entry.Free = refl
-  fill_stays t gpa page ws _ = refl
+  -- lists of pages leave it
+  taken_stays : (t k : ℕ) (pages : List Arrival) → Stays (count_bundle t k (take_each t pages w))
+  taken_stays t k pages = ap (λ (v : World). v.key_table.keys h) (takes_leave t pages w)
+
+  sent_stays : (t gpa k slot : ℕ) (count : Option ℕ) → Stays (export_each t k (gpas_from gpa (page_count count)) (made_first t gpa k slot count w))
+  sent_stays t gpa k slot count = ap (λ (v : World). v.key_table.keys h) (each_leaves t k (gpas_from gpa (page_count count)) (made_first t gpa k slot count w))
 
   call_changes : (me : ℕ) (c : Call) → ((row_of o me c).act w).key_table.keys h ≡ keys_after c w h
   call_changes me call.PhymemCacheWb = by (w.key_table.keys h)
@@ -47,7 +51,9 @@ module _ (o : Opening) (w : World) (h : ℕ) where
       by _ = refl
   call_changes me (call.ExportTrack tdr slot zero) = refl
   call_changes me (call.ExportTrack tdr slot (suc n)) = refl
-  call_changes me (call.ImportMem tdr slot page) = let x : Input = input_in (o.bundles slot) in fill_stays tdr x.header.gpa page x.words (entry_at w tdr 0 x.header.gpa).state
+  call_changes me (call.ExportMem tdr gpa k slot) = sent_stays tdr gpa k slot None
+  call_changes me (call.ImportMem tdr slot page) =
+      let x : Input = input_in (o.bundles slot) in taken_stays tdr x.header.stream (arrivals x.header.gpa page x.words (page_count None))
   call_changes me (call.HostRead page word) = refl
   call_changes me _ = refl
 

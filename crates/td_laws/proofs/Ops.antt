@@ -1,5 +1,5 @@
 -- In which operation states calls come, and to which they lead; and in which life states.
-use Rattle.std.proofs.Common.{◌≡◌, refl, sym, ◌∙◌, ap, ℕ, zero, suc, Option, Some, None, Bool, true, false, ◌==◌}
+use Rattle.std.proofs.Common.{◌≡◌, refl, sym, ◌∙◌, ap, ℕ, zero, suc, List, Option, Some, None, Bool, true, false, ◌==◌}
 use Rattle.std.specs.Prelude.{slice_index_or}
 use Rattle.std.proofs.lemmas.Bool.{eqb-true}
 use Rattle.td_words.specs.declared.names.ReadField.TheVariants as field
@@ -7,8 +7,6 @@ use Rattle.td_words.specs.declared.names.LifeState.{LifeState}
 use Rattle.td_words.specs.declared.names.LifeState.TheVariants as life
 use Rattle.td_words.specs.declared.names.OpState.{OpState}
 use Rattle.td_words.specs.declared.names.OpState.TheVariants as op
-use Rattle.td_words.specs.declared.names.EntryState.{EntryState}
-use Rattle.td_words.specs.declared.names.EntryState.TheVariants as entry
 use Rattle.td_words.specs.NameNumber.{life_number, op_number}
 use Rattle.td_words.specs.declared.calls.Call.{Call}
 use Rattle.td_words.specs.declared.calls.Call.TheVariants as call
@@ -16,12 +14,15 @@ use Rattle.flat_core.specs.World.{World, put}
 use Rattle.flat_core.specs.Opening.{Opening}
 use Rattle.flat_core.specs.Row.{Passes}
 use Rattle.flat_core.specs.Conditions.{is_host_in}
-use Rattle.flat_core.specs.Tree.{entry_at}
 use Rattle.flat_core.specs.Inputs.{Input, input_in}
-use Rattle.flat_core.specs.ImportRows.{is_start, op_then, fill_page}
+use Rattle.flat_core.specs.Sessions.{count_bundle}
+use Rattle.flat_core.specs.PageLists.{page_count, gpas_from, Arrival, arrivals}
+use Rattle.flat_core.specs.BundleRows.{export_each}
+use Rattle.flat_core.specs.ImportRows.{is_start, op_then, take_each}
 use Rattle.flat_core.specs.Table.{row_of}
 use Rattle.flat_core.specs.Event.{event}
 use Rattle.flat_core.proofs.Tests.{by_test}
+use Rattle.flat_core.proofs.PageLists.{made_first, each_leaves, takes_leave}
 use Rattle.td_laws.specs.Steps.{Step, is_among, values_after, ComesIn, may_move}
 use Rattle.td_laws.specs.Ops.{each, token_in, op_step, ops_of, next_ops, CallsComeInTheirOps, EventsLeadOps, EventsMoveOps, FailedImportsStay}
 use Rattle.td_laws.specs.Lives.{each as each_life, with_keys, life_step, lives_of, next_lives, CallsComeInTheirLives, EventsLeadLives, EventsMoveLives}
@@ -72,18 +73,24 @@ module _ (o : Opening) (me : ℕ) (w : World) where
     token_leads tdr true = refl
     token_leads tdr false = by_test (t == tdr) (λ y. rw y (ap w.tds.ops (sym (eqb-true t tdr y)))) (λ y. rw y refl)
 
-    -- a page that comes in leaves both
-    fill_leaves : (tdr gpa page : ℕ) (ws : ℕ → ℕ) (s : EntryState) → ((fill_page tdr gpa page ws s w).tds.ops ≡ w.tds.ops) × ((fill_page tdr gpa page ws s w).tds.lives ≡ w.tds.lives)
-    fill_leaves tdr gpa page ws entry.Free = (refl, refl)
-    fill_leaves tdr gpa page ws _ = (refl, refl)
+    -- lists of pages leave both
+    taken_leaves : (tdr k : ℕ) (pages : List Arrival) → let v = count_bundle tdr k (take_each tdr pages w) in (v.tds.ops t ≡ w.tds.ops t) × (v.tds.lives t ≡ w.tds.lives t)
+    taken_leaves tdr k pages = (ap (λ (v : World). v.tds.ops t) (takes_leave tdr pages w), ap (λ (v : World). v.tds.lives t) (takes_leave tdr pages w))
+
+    sent_leaves : (tdr gpa k slot : ℕ) (count : Option ℕ) → let v = export_each tdr k (gpas_from gpa (page_count count)) (made_first tdr gpa k slot count w) in
+        (v.tds.ops t ≡ w.tds.ops t) × (v.tds.lives t ≡ w.tds.lives t)
+    sent_leaves tdr gpa k slot count =
+        let same = each_leaves tdr k (gpas_from gpa (page_count count)) (made_first tdr gpa k slot count w) in
+        (ap (λ (v : World). v.tds.ops t) same, ap (λ (v : World). v.tds.lives t) same)
 
     pub op_leads : (c : Call) → ((row_of o me c).act w).tds.ops t ≡ values_after (op_step o c) w.tds.ops t
     op_leads (call.MngRd tdr field.Life) = refl
     op_leads (call.MngRd tdr _) = refl
     op_leads (call.ExportTrack tdr slot zero) = refl
     op_leads (call.ExportTrack tdr slot (suc n)) = refl
+    op_leads (call.ExportMem tdr gpa k slot) = (sent_leaves tdr gpa k slot None).0
     op_leads (call.ImportMem tdr slot page) =
-        let x : Input = input_in (o.bundles slot) in ap (λ (f : ℕ → OpState). f t) (fill_leaves tdr x.header.gpa page x.words (entry_at w tdr 0 x.header.gpa).state).0
+        let x : Input = input_in (o.bundles slot) in (taken_leaves tdr x.header.stream (arrivals x.header.gpa page x.words (page_count None))).0
     op_leads (call.ImportTrack tdr slot) = token_leads tdr (is_start (input_in (o.bundles slot)).header)
     op_leads (call.HostRead page word) = refl
     op_leads _ = refl
@@ -96,8 +103,9 @@ module _ (o : Opening) (me : ℕ) (w : World) where
     life_leads (call.MngRd tdr f) = kept_lives (op_step o (call.MngRd tdr f))
     life_leads (call.ExportTrack tdr slot zero) = refl
     life_leads (call.ExportTrack tdr slot (suc n)) = refl
+    life_leads (call.ExportMem tdr gpa k slot) = (sent_leaves tdr gpa k slot None).1
     life_leads (call.ImportMem tdr slot page) =
-        let x : Input = input_in (o.bundles slot) in ap (λ (f : ℕ → LifeState). f t) (fill_leaves tdr x.header.gpa page x.words (entry_at w tdr 0 x.header.gpa).state).1
+        let x : Input = input_in (o.bundles slot) in (taken_leaves tdr x.header.stream (arrivals x.header.gpa page x.words (page_count None))).1
     life_leads (call.ImportTrack tdr slot) = kept_lives (op_step o (call.ImportTrack tdr slot))
     life_leads (call.HostRead page word) = refl
     life_leads _ = refl

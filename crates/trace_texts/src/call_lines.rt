@@ -127,7 +127,7 @@ fn no_line<'a>() -> CallLine<'a>
     }
 }
 
-fn line_at<'a>(lines: &[CallLine<'a>], line: u32) -> CallLine<'a>
+fn line_at<'a>(lines: &[CallLine<'a>], line: u64) -> CallLine<'a>
     ensures { line_seen result ≡ slice_index_or (map line_seen lines.now) (line - 1) no_line }
 {
     let at = line.saturating_sub(1) as usize;
@@ -139,7 +139,7 @@ fn line_at<'a>(lines: &[CallLine<'a>], line: u32) -> CallLine<'a>
 }
 
 /// The line of a processor's call of that number, from 1.
-pub fn line_of<'a>(lists: &[Vec<CallLine<'a>>], lp: u8, line: u32) -> CallLine<'a>
+pub fn line_of<'a>(lists: &[Vec<CallLine<'a>>], lp: u8, line: u64) -> CallLine<'a>
     ensures { line_seen result ≡ line_of (lists_seen lists.now) lp line }
 {
     let lp = usize::from(lp);

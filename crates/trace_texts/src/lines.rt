@@ -11,8 +11,8 @@ use std::alloc::{AllocError, Global};
 use td_words::OutOfMemory;
 use trace_lines::Traced;
 
-// A text, with spaces behind it up to a width, and one at least.
-fn push_column(text: &mut Vec<u8>, part: &[u8], width: usize) -> Result<(), AllocError>
+/// A text, with spaces behind it up to a width, and one at least.
+pub fn push_column(text: &mut Vec<u8>, part: &[u8], width: usize) -> Result<(), AllocError>
     ensures { OnOk result (text.new.items ≡ text.old.items ++ column width part.now) }
 {
     text.extend_from_slice(part)?;
@@ -83,7 +83,7 @@ pub fn trace_text(
 {
     let mut text = Vec::new(alloc);
     for i in 0..traced.len() {
-        let call = line_of(lists, traced[i].lp, traced[i].line);
+        let call = line_of(lists, traced[i].lp, u64::from(traced[i].line));
         let Ok(()) = push_line(alloc, &mut text, form, call, &traced[i]) else {
             return Err(OutOfMemory);
         };

@@ -1,9 +1,7 @@
 -- What pauses and commits have noted after each event.
-use Rattle.std.proofs.Common.{◌≡◌, refl, sym, ◌∙◌, ap, ℕ, zero, suc, List, [], ◌∷◌, Option, Some}
+use Rattle.std.proofs.Common.{◌≡◌, refl, sym, ◌∙◌, ap, ℕ, zero, suc, List, [], ◌∷◌, Option, Some, None}
 use Rattle.td_words.specs.declared.names.Access.{Access}
 use Rattle.td_words.specs.declared.names.Access.TheVariants.{Read, Write}
-use Rattle.td_words.specs.declared.names.EntryState.{EntryState}
-use Rattle.td_words.specs.declared.names.EntryState.TheVariants as entry
 use Rattle.td_words.specs.declared.calls.Call.{Call}
 use Rattle.td_words.specs.declared.calls.Call.TheVariants as call
 use Rattle.td_words.specs.declared.calls.GuestOp.{GuestOp}
@@ -11,12 +9,15 @@ use Rattle.flat_core.specs.World.{World, Image}
 use Rattle.flat_core.specs.Opening.{Opening}
 use Rattle.flat_core.specs.Row.{OperationRow, Succeeds}
 use Rattle.flat_core.specs.Table.{row_of}
-use Rattle.flat_core.specs.Tree.{entry_at}
 use Rattle.flat_core.specs.Effects.{tell_words}
 use Rattle.flat_core.specs.Inputs.{Input, input_in}
-use Rattle.flat_core.specs.ImportRows.{fill_page}
+use Rattle.flat_core.specs.Sessions.{count_bundle}
+use Rattle.flat_core.specs.PageLists.{page_count, gpas_from, Arrival, arrivals}
+use Rattle.flat_core.specs.BundleRows.{export_each}
+use Rattle.flat_core.specs.ImportRows.{take_each}
 use Rattle.flat_core.specs.Guest.{ByRow, operation_of, is_pending_at, reach}
 use Rattle.flat_core.specs.Event.{State, Event, OfCall, lines_left, next_event, event}
+use Rattle.flat_core.proofs.PageLists.{made_first, each_leaves, takes_leave}
 use Rattle.flat_core.proofs.Operations.{operation_row, accepted}
 use Rattle.td_laws.specs.Steps.{by_acts}
 use Rattle.td_laws.proofs.Steps.{acts_lead}
@@ -36,15 +37,20 @@ noted_after_call c w = record { paused = paused_after_call c w; given = given_af
 abbrev noted_after_event : List Call → Option Event → World → Noted
 noted_after_event cs e w = record { paused = paused_after_event cs e w; given = given_after_event cs e w }
 
-fill_noted : (t gpa page : ℕ) (ws : ℕ → ℕ) (s : EntryState) (w : World) → noted (fill_page t gpa page ws s w) ≡ noted w
-fill_noted t gpa page ws entry.Free w = refl
-fill_noted t gpa page ws _ w = refl
+-- lists of pages note neither
+taken_noted : (t k : ℕ) (pages : List Arrival) (w : World) → noted (count_bundle t k (take_each t pages w)) ≡ noted w
+taken_noted t k pages w = ap (λ (v : World). noted (count_bundle t k v)) (takes_leave t pages w)
+
+sent_noted : (t gpa k slot : ℕ) (count : Option ℕ) (w : World) → noted (export_each t k (gpas_from gpa (page_count count)) (made_first t gpa k slot count w)) ≡ noted w
+sent_noted t gpa k slot count w = ap (λ (v : World). noted v) (each_leaves t k (gpas_from gpa (page_count count)) (made_first t gpa k slot count w))
 
 module _ (o : Opening) (w : World) (p : ℕ) where
   call_notes : (c : Call) → noted ((row_of o p c).act w) ≡ noted_after_call c w
   call_notes (call.ExportTrack tdr slot zero) = refl
   call_notes (call.ExportTrack tdr slot (suc n)) = refl
-  call_notes (call.ImportMem tdr slot page) = let x : Input = input_in (o.bundles slot) in fill_noted tdr x.header.gpa page x.words (entry_at w tdr 0 x.header.gpa).state w
+  call_notes (call.ExportMem tdr gpa k slot) = sent_noted tdr gpa k slot None w
+  call_notes (call.ImportMem tdr slot page) =
+      let x : Input = input_in (o.bundles slot) in taken_noted tdr x.header.stream (arrivals x.header.gpa page x.words (page_count None)) w
   call_notes (call.HostRead page word) = refl
   call_notes _ = refl
 

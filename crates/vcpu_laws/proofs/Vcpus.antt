@@ -3,8 +3,6 @@ use Rattle.std.proofs.Common.{◌≡◌, refl, sym, ◌∙◌, ap, subst, ℕ, z
 use Rattle.std.proofs.lemmas.Bool.{eqb-true}
 use Rattle.td_words.specs.declared.names.Access.{Access}
 use Rattle.td_words.specs.declared.names.Access.TheVariants.{Read, Write}
-use Rattle.td_words.specs.declared.names.EntryState.{EntryState}
-use Rattle.td_words.specs.declared.names.EntryState.TheVariants as entry
 use Rattle.td_words.specs.declared.names.VcpuState.TheVariants as vcpu
 use Rattle.td_words.specs.declared.calls.Call.{Call}
 use Rattle.td_words.specs.declared.calls.Call.TheVariants as call
@@ -17,19 +15,25 @@ use Rattle.flat_core.specs.Processor.{Answered, Held, Guest, Lp}
 use Rattle.flat_core.specs.Opening.{Opening}
 use Rattle.flat_core.specs.Row.{OperationRow, Move, Attempts, Undoes, Refuses, Succeeds, Releases, Rests, next, next_in}
 use Rattle.flat_core.specs.Table.{row_of}
-use Rattle.flat_core.specs.Tree.{entry_at}
 use Rattle.flat_core.specs.Effects.{pass_operation, tell_words}
 use Rattle.flat_core.specs.Inputs.{Input, input_in}
-use Rattle.flat_core.specs.ImportRows.{fill_page}
+use Rattle.flat_core.specs.Sessions.{count_bundle}
+use Rattle.flat_core.specs.PageLists.{page_count, gpas_from, Arrival, arrivals}
+use Rattle.flat_core.specs.BundleRows.{export_each}
+use Rattle.flat_core.specs.ImportRows.{take_each}
 use Rattle.flat_core.specs.Guest.{Operation, ByRow, Private, operation_of, accept_page, is_pending_at, is_private, shared_load, shared_store, reach}
 use Rattle.flat_core.specs.Event.{Event, OfCall, OfOperation, lines_left, next_event, operation_due, nothing_more, world_after, after_event}
 use Rattle.flat_core.proofs.Tests.{by_test}
+use Rattle.flat_core.proofs.PageLists.{made_first, each_leaves, takes_leave}
 use Rattle.flat_core.proofs.Due.{Due, calls, frees, leaves, stops, fills, operates, walks, reaches, undoes, gives_back, due_event_is}
 use Rattle.vcpu_laws.specs.Vcpus.{Vcpu, vcpu_at, vcpu_after_call, passes, vcpu_after_operation, vcpu_after_access, vcpu_after_event, EventsChangeVcpus}
 
-fill_vcpus : (t gpa page v : ℕ) (ws : ℕ → ℕ) (s : EntryState) (w : World) → vcpu_at (fill_page t gpa page ws s w) v ≡ vcpu_at w v
-fill_vcpus t gpa page v ws entry.Free w = refl
-fill_vcpus t gpa page v ws _ w = refl
+-- lists of pages leave them
+taken_vcpus : (t k : ℕ) (pages : List Arrival) (v : ℕ) (w : World) → vcpu_at (count_bundle t k (take_each t pages w)) v ≡ vcpu_at w v
+taken_vcpus t k pages v w = ap (λ (u : World). vcpu_at (count_bundle t k u) v) (takes_leave t pages w)
+
+sent_vcpus : (t gpa k slot : ℕ) (count : Option ℕ) (v : ℕ) (w : World) → vcpu_at (export_each t k (gpas_from gpa (page_count count)) (made_first t gpa k slot count w)) v ≡ vcpu_at w v
+sent_vcpus t gpa k slot count v w = ap (λ (u : World). vcpu_at u v) (each_leaves t k (gpas_from gpa (page_count count)) (made_first t gpa k slot count w))
 
 -- what each act makes of them
 module _ (o : Opening) (w : World) (v : ℕ) where
@@ -48,7 +52,9 @@ module _ (o : Opening) (w : World) (v : ℕ) where
   call_changes me (call.ImportStateVp tdr vp slot) = by_test (v == vp) (λ y. rw y refl) (λ y. rw y refl)
   call_changes me (call.ExportTrack tdr slot zero) = refl
   call_changes me (call.ExportTrack tdr slot (suc n)) = refl
-  call_changes me (call.ImportMem tdr slot page) = let x : Input = input_in (o.bundles slot) in fill_vcpus tdr x.header.gpa page v x.words (entry_at w tdr 0 x.header.gpa).state w
+  call_changes me (call.ExportMem tdr gpa k slot) = sent_vcpus tdr gpa k slot None v w
+  call_changes me (call.ImportMem tdr slot page) =
+      let x : Input = input_in (o.bundles slot) in taken_vcpus tdr x.header.stream (arrivals x.header.gpa page x.words (page_count None)) v w
   call_changes me (call.HostRead page word) = refl
   call_changes me _ = refl
 

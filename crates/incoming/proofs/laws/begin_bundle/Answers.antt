@@ -1,4 +1,4 @@
-use Rattle.std.proofs.Common.{◌≡◌, ◌∙◌, ◌++◌, List, ℕ, ap, sym}
+use Rattle.std.proofs.Common.{◌∙◌, ◌++◌, List, ℕ, ap, sym}
 use Rattle.td_words.specs.declared.headers.Header.{Header}
 use Rattle.bundle_format.specs.Headers.{header_bytes}
 use Rattle.bundle_texts.specs.Sealed.{sealed_payload}

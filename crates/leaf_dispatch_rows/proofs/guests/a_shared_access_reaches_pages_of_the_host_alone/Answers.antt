@@ -19,6 +19,7 @@ invariant_of-lp g c =
       bundle_room = s.bundle_room;
       payload_room = s.payload_room;
       page_room = s.page_room;
+      takes = s.takes;
     }
 
 pub invariant_of-lp-2 : goal.invariant_of-lp-2
@@ -40,4 +41,5 @@ invariant_of-lp-2 g c =
       bundle_room = s.bundle_room;
       payload_room = s.payload_room;
       page_room = s.page_room;
+      takes = s.takes;
     }

@@ -19,4 +19,5 @@ invariant_of-lp g c =
       bundle_room = s.bundle_room;
       payload_room = s.payload_room;
       page_room = s.page_room;
+      takes = s.takes;
     }

@@ -19,6 +19,7 @@ invariant_of-first g c =
       bundle_room = s.bundle_room;
       payload_room = s.payload_room;
       page_room = s.page_room;
+      takes = s.takes;
     }
 
 pub invariant_of-second : goal.invariant_of-second
@@ -40,4 +41,5 @@ invariant_of-second g c =
       bundle_room = s.bundle_room;
       payload_room = s.payload_room;
       page_room = s.page_room;
+      takes = s.takes;
     }

@@ -1,4 +1,4 @@
-use Rattle.std.proofs.Common.{◌∙◌, Option, sym, ap}
+use Rattle.std.proofs.Common.{◌∙◌, Option, None, sym, ap}
 use Rattle.flat_core.specs.Opening.{Incoming}
 use Rattle.incoming.specs.Arrivals.{at_slot}
 use Rattle.import_core.specs.TokenTrees.{import_token_task}
@@ -94,7 +94,7 @@ returns-in-ImportStateImmutable-clause-task c =
 
 pub returns-in-ImportMem-clause-task : goal.returns-in-ImportMem-clause-task
 returns-in-ImportMem-clause-task c =
-    c.leaf-in-ImportMem.ensures.task ∙ ap (λ (b : Option Incoming). page_import_task c.args.place b c.in-ImportMem.tdr c.in-ImportMem.slot c.in-ImportMem.page) c.get-in-ImportMem.ensures ∙ sym (ap (task_of (given_in c.args.given) c.args.place) c.in-ImportMem.is)
+    c.leaf-in-ImportMem.ensures.task ∙ ap (λ (b : Option Incoming). page_import_task c.args.place b c.in-ImportMem.tdr c.in-ImportMem.slot c.in-ImportMem.page None) c.get-in-ImportMem.ensures ∙ sym (ap (task_of (given_in c.args.given) c.args.place) c.in-ImportMem.is)
 
 pub returns-in-ImportTrack-clause-task : goal.returns-in-ImportTrack-clause-task
 returns-in-ImportTrack-clause-task c =

@@ -1,23 +1,7 @@
-use Rattle.std.proofs.Common.{List, ℕ, ◌∷◌, ap, ◌∙◌}
-use Rattle.leaf_parts.proofs.Parts.{exit}
-use Rattle.mem_remove.proofs.TrackedDecided.{uncounted, counted, counted-fed}
+use Rattle.mem_remove.proofs.TrackedDecided.{behind-block}
 use Rattle.mem_remove.proofs.tracked_blocks.tracked.Goals as goal
 
-pub returns-in_err-count-clause-goes : goal.returns-in_err-count-clause-goes
-returns-in_err-count-clause-goes c =
-    uncounted c.args.place.machine.pages c.args.tdcs c.args.page c.args.told.now.left.now c.in_ok-blocked.field-0 c.in_ok-epoch.epoch c.load-2.new.self.left.now
-    (c.in_ok-blocked.ensures ∙ ap (λ (xs : List ℕ). c.in_ok-blocked.field-0 ∷ xs) c.in_ok-epoch.ensures) c.if-blocked-epoch.true
-    c.previous.new.told.left.now c.in_err-count.field-0.0 c.from_residual-in_err-count.result
-    (exit c.from_residual-in_err-count.result c.in_err-count.field-0.0 _ c.from_residual-in_err-count.ensures.1 (λ y h. h)) c.in_err-count.ensures.goes
-
-pub returns-in_ok-count-clause-goes : goal.returns-in_ok-count-clause-goes
-returns-in_ok-count-clause-goes c =
-    counted c.args.place.machine.pages c.args.tdcs c.args.page c.args.told.now.left.now c.in_ok-blocked.field-0 c.in_ok-epoch.epoch c.load-2.new.self.left.now
-    (c.in_ok-blocked.ensures ∙ ap (λ (xs : List ℕ). c.in_ok-blocked.field-0 ∷ xs) c.in_ok-epoch.ensures) c.if-blocked-epoch.true
-    c.previous.new.told.left.now c.in_ok-count.count c.check.result c.in_ok-count.ensures.goes c.check.ensures
-
-pub returns-in_ok-count-clause-feeds : goal.returns-in_ok-count-clause-feeds
-returns-in_ok-count-clause-feeds c =
-    counted-fed c.args.place.machine.pages c.args.tdcs c.args.page c.args.told.now.left.now c.in_ok-blocked.field-0 c.in_ok-epoch.epoch c.load-2.new.self.left.now
-    (c.in_ok-blocked.ensures ∙ ap (λ (xs : List ℕ). c.in_ok-blocked.field-0 ∷ xs) c.in_ok-epoch.ensures) c.if-blocked-epoch.true
-    c.previous.new.told.left.now c.in_ok-count.count c.check.result c.in_ok-count.ensures.feeds c.check.ensures
+pub returns-clause-goes : goal.returns-clause-goes
+returns-clause-goes c =
+    behind-block c.args.place.machine.pages c.args.tdcs c.args.page c.in_ok-blocked.field-0 c.args.told.now.left.now c.load.new.self.left.now c.tracked_block.new.told.left.now c.tracked_block.result
+    c.in_ok-blocked.ensures c.tracked_block.ensures.goes

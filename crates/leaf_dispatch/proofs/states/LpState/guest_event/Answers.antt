@@ -182,3 +182,6 @@ invariant_of-self-clause-payload_room g c =
     let same = exit-room words_of l.lines.now l.run.host l.run.other c.answer_exit.new.kept (step_seen c.turn_guest-step.result.step) c.turn_guest-step.new.turn.reply (acting-alone l.place.machine l.lines.now l.run l.guest c.in-Some.guest c.requires.lines l.under_way (acts-as l.guest l.run.other c.in-Some.guest c.in-Some.is c.requires.acts)) c.answer_exit.ensures.seen (c.answer_exit.ensures.answered answered) in
     let had = l.payload_room in
     omega (arith, same, had)
+
+pub invariant_of-self-clause-takes : goal.invariant_of-self-clause-takes
+invariant_of-self-clause-takes g c = let l = c.args.self.now in c.answer_exit.ensures.takes (given_in l.given) l.takes

@@ -1,0 +1,2 @@
+mod Tasks
+pub mod Modules

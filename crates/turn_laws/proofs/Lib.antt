@@ -1,0 +1,6 @@
+mod Few
+mod Known
+mod Standing
+mod OneTurn
+mod Begun
+mod More
