@@ -1,7 +1,7 @@
 pub mod Asked
 pub mod Known
+pub mod Among
 pub mod Puts
-pub mod ImportSteps
 pub mod ListSteps
 pub mod ListLoads
 pub mod ListWrites

@@ -1,6 +1,6 @@
 -- How far the leaf is that imports pages: before them, while their stream isn't known yet; at the entry of the next page; at the
 -- page that this entry asks for; or behind them all. Of each stage alone the words told are kept.
-use Rattle.std.specs.Prelude.{◌≡◌, ℕ, ◌==◌, true, ◌∷◌, ◌++◌, Option, List, []}
+use Rattle.std.specs.Prelude.{◌≡◌, ℕ, ◌==◌, ◌||◌, Bool, true, false, ◌∷◌, ◌++◌, Option, List, []}
 use Rattle.std.specs.List.{list_any}
 use Rattle.td_words.specs.declared.machines.Machine.{Machine}
 use Rattle.flat_core.specs.Inputs.{Input, has_no_fault}
@@ -17,6 +17,14 @@ use Rattle.import_pages.specs.PageImportTrees.{found_rest, fills_tree, filled_tr
 -- an entry that was found, of all that it says
 abbrev pub found_of : PageEntry → Found
 found_of x = record { page = x.at; entry = record { state = x.state; page = x.page; mark = x.mark } }
+
+abbrev pub entry_of : Found → PageEntry
+entry_of x = record { at = x.page; page = x.entry.page; state = x.entry.state; mark = x.entry.mark }
+
+-- whether a page is one of these
+abbrev pub locked_in : (page : ℕ) → List Filling → Bool
+locked_in page [] = false
+locked_in page (f ∷ fs) = (f.page == page) || locked_in page fs
 
 -- the pages that are locked so far, the last one first
 abbrev pub locked_onto : List ℕ → List Filling → List ℕ

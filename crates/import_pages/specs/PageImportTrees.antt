@@ -42,10 +42,12 @@ run_checks m page tdr None = []
 run_checks m page tdr (Some n) =
     (nat_le (page + n) m.pages, OperandInvalid 4) ∷ (not (nat_lt page tdr && nat_lt tdr (page + n)), OperandInvalid 4) ∷ []
 
+abbrev pub run_arguments : Machine → (tdr page : ℕ) → Option ℕ → List (Bool × Status)
+run_arguments m tdr page count = count_checks count ++ (not (page == tdr), OperandInvalid 3) ∷ run_checks m page tdr count
+
 abbrev pub page_import_arguments : Machine → (tdr page : ℕ) → Option ℕ → List (Bool × Status)
 page_import_arguments m tdr page count =
-    (nat_lt tdr m.pages, OperandInvalid 1) ∷ (nat_lt page m.pages, OperandInvalid 3)
-    ∷ (count_checks count ++ (not (page == tdr), OperandInvalid 3) ∷ run_checks m page tdr count)
+    (nat_lt tdr m.pages, OperandInvalid 1) ∷ (nat_lt page m.pages, OperandInvalid 3) ∷ run_arguments m tdr page count
 
 -- with COUNT the bundle is one of version 2 that says so many pages
 abbrev pub list_checks : ClearHeader → Option ℕ → List (Bool × Status)
@@ -67,8 +69,11 @@ abbrev pub unlocked_tree : (locked : List ℕ) → (page : ℕ) → Tree → Tre
 unlocked_tree [] p further = further
 unlocked_tree (q ∷ locked) p further = needs (not (is_among p (q ∷ locked))) (PageMetadataIncorrect p) further
 
+abbrev pub taken_filling : (at page children : ℕ) → Filling
+taken_filling a p n = record { at = a; page = p; children = Some n }
+
 abbrev pub taken_tree : (tdr : ℕ) → (locked : List ℕ) → (page at : ℕ) → (Filling → Tree) → Tree
-taken_tree tdr locked p a further = unlocked_tree locked p (taken_page_tree tdr p (λ n. further (record { at = a; page = p; children = Some n })))
+taken_tree tdr locked p a further = unlocked_tree locked p (taken_page_tree tdr p (λ n. further (taken_filling a p n)))
 
 -- where it is MAPPED: the page that it names is held alone
 abbrev pub named_tree : (named at : ℕ) → (Filling → Tree) → Tree
