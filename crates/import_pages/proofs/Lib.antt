@@ -5,3 +5,4 @@ pub mod Puts
 pub mod ListSteps
 pub mod ListLoads
 pub mod ListWrites
+pub mod Staged

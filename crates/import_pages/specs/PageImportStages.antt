@@ -1,10 +1,15 @@
 -- How far the leaf is that imports pages: before them, while their stream isn't known yet; at the entry of the next page; at the
 -- page that this entry asks for; or behind them all. Of each stage alone the words told are kept.
-use Rattle.std.specs.Prelude.{◌≡◌, ℕ, ◌==◌, ◌||◌, Bool, true, false, ◌∷◌, ◌++◌, Option, List, []}
+use Rattle.std.specs.Prelude.{◌≡◌, ℕ, ◌==◌, ◌||◌, ◌+◌, ◌-◌, ◌^◌, ◌<◌, ◌≤◌, Bool, true, false, ◌∷◌, ◌++◌, Option, List, [], length, Err}
 use Rattle.std.specs.List.{list_any}
 use Rattle.td_words.specs.declared.machines.Machine.{Machine}
+use Rattle.td_words.specs.declared.names.EntryState.{EntryState}
+use Rattle.td_words.specs.declared.names.EntryState.TheVariants as entry
 use Rattle.flat_core.specs.Inputs.{Input, has_no_fault}
-use Rattle.flat_core.specs.PageLists.{Arrival}
+use Rattle.flat_core.specs.PageLists.{Arrival, page_count}
+use Rattle.leaf_engine.specs.declared.plans.Stop.{Stop}
+use Rattle.leaf_engine.specs.Decides.{Decides}
+use Rattle.leaf_engine.specs.Inside.{StopIn, StopEarly}
 use Rattle.leaf_engine.specs.Trees.{Tree, feed, done}
 use Rattle.sept_parts.specs.declared.finds.Found.{Found}
 use Rattle.stream_parts.specs.declared.rooms.Room.{Room}
@@ -12,6 +17,8 @@ use Rattle.import_pages.specs.declared.page_conditions.PageEntry.{PageEntry}
 use Rattle.import_pages.specs.declared.page_imports.Filling.{Filling}
 use Rattle.import_pages.specs.declared.page_imports.Stage.{Stage}
 use Rattle.import_pages.specs.declared.page_imports.Stage.TheVariants as stage
+use Rattle.import_pages.specs.declared.page_stages.Finding.{Finding}
+use Rattle.import_pages.specs.declared.page_stages.Taking.{Taking}
 use Rattle.import_pages.specs.PageImportTrees.{found_rest, fills_tree, filled_tree, arriving, page_import_tree}
 
 -- an entry that was found, of all that it says
@@ -62,3 +69,34 @@ rest_of m x t slot page count at fs told = feed (stage_tree m x t slot page coun
 -- a bundle with the words of a page, which has the form of one
 abbrev pub IsMemory : Input → Type 0
 IsMemory x = (has_no_fault x.fault ≡ true) × (list_any (λ k. k == x.header.kind) (3 ∷ []) ≡ true)
+
+-- how many words the page of an entry uses: its lock; and where it is taken, its PAMT entry and the child count
+abbrev pub page_words : EntryState → ℕ
+page_words entry.Free = 3
+page_words _ = 1
+
+-- what the parts so far have shown
+abbrev pub AreIn : Machine → List Filling → Type 0
+AreIn m [] = Unit {0}
+AreIn m (f ∷ fs) = ((f.at < m.pages) × (f.page < m.pages)) × AreIn m fs
+
+abbrev pub IsDue : Machine → Taking → Room → List Filling → Type 0
+IsDue m x room fs =
+    (x.tdr < m.pages) × (1 ≤ page_count x.count) × (x.page + page_count x.count ≤ m.pages) × (room.page < m.pages) × (room.counter < 2 ^ 32 - 1) × AreIn m fs
+
+abbrev pub KnownIn : Machine → Taking → Stage → List Filling → (told : ℕ) → Type 0
+KnownIn m x stage.Head fs told = (length fs ≡ 0) × (told ≤ 13)
+KnownIn m x (stage.Walk room) fs told = IsDue m x room fs × (length fs ≤ page_count x.count) × (told ≤ 5)
+KnownIn m x (stage.Page room e) fs told = IsDue m x room fs × (length fs < page_count x.count) × (e.at < m.pages) × (e.page < m.pages) × (told ≤ page_words e.state)
+KnownIn m x (stage.Filled room) fs told = IsDue m x room fs × (length fs ≡ page_count x.count) × (told ≡ 0)
+
+abbrev pub IsKnown : Machine → Taking → Finding → Type 0
+IsKnown m x f = KnownIn m x f.stage f.found.items (length f.told.items)
+
+-- what is left of the tree; and that the leaf stops there, at a word or a lock only behind less answers than its part has
+abbrev pub left_in : Machine → Input → Taking → Finding → Tree
+left_in m i x f = rest_of m i x.tdr x.slot x.page x.count f.stage f.found.items f.told.items
+
+abbrev pub StopsAt : (most : ℕ) → Machine → Input → Taking → Finding → Stop → Type 0
+StopsAt most m i x f e =
+    Decides m.pages (stage_tree m i x.tdr x.slot x.page x.count f.stage f.found.items) f.told.items (Err e) × StopIn m e × StopEarly most (length f.told.items) e

@@ -6,6 +6,8 @@
 
 mod page_conditions;
 mod page_imports;
+mod page_stages;
 
 pub use page_conditions::{PageEntry, entry_found, page_due, stream_due};
 pub use page_imports::{Filling, Stage};
+pub use page_stages::{Finding, Taking, begin};

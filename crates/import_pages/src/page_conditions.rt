@@ -4,11 +4,11 @@ ghost use Rattle.std.specs.Prelude.{◌≡◌, ℕ, ◌+◌, ◌-◌, ◌^◌, �
 ghost use Rattle.flat_core.specs.Opening.{clear_header};
 ghost use Rattle.flat_core.specs.Inputs.{input_in};
 ghost use Rattle.flat_core.specs.PageLists.{page_count};
-ghost use Rattle.leaf_engine.specs.Inside.{StopIn, StopEarly};
+ghost use Rattle.leaf_engine.specs.Inside.{StopIn};
 ghost use Rattle.leaf_parts.specs.Arguments.{checked};
 ghost use Rattle.leaf_parts.specs.Parts.{Goes, Feeds, Uses};
 ghost use Rattle.sept_parts.specs.SeptTrees.{find_tree};
-ghost use Rattle.import_pages.specs.PageImportStages.{IsMemory, found_of, entry_of, locked_of, locked_in};
+ghost use Rattle.import_pages.specs.PageImportStages.{IsMemory, page_words, found_of, entry_of, locked_of, locked_in};
 ghost use Rattle.import_pages.specs.PageImportTrees.{run_arguments, page_import_arguments, list_checks, stream_there_tree, due_bundle_tree, unlocked_tree, taken_tree, named_tree, found_rest, td_rest, td_import_tree, page_import_head};
 
 use crate::page_imports::Filling;
@@ -225,7 +225,7 @@ pub fn page_due(
     requires { (tdr < place.machine.pages) × (page < place.machine.pages) × (entry.page < place.machine.pages) }
     ensures goes { Goes place.machine.pages (λ f. found_rest tdr (locked_of before.now) page (found_of entry) f) told.old.left.now told.new.left.now result }
     ensures feeds { Feeds (λ f. found_rest tdr (locked_of before.now) page (found_of entry) f) told.old.left.now told.new.left.now result }
-    ensures early { MatchResult result (λ y. length told.old.left.now ≤ 3 + length told.new.left.now) (λ e. StopEarly 3 (length told.old.left.now) e) }
+    ensures uses { Uses (page_words entry.state) told.old.left.now told.new.left.now result }
     ensures inside { MatchResult result (λ y. (y.at ≡ entry.at) × (y.page < place.machine.pages)) (λ e. StopIn place.machine e) }
 {
     told.check(
