@@ -82,7 +82,7 @@ AreIn m (f ∷ fs) = ((f.at < m.pages) × (f.page < m.pages)) × AreIn m fs
 
 abbrev pub IsDue : Machine → Taking → Room → List Filling → Type 0
 IsDue m x room fs =
-    (x.tdr < m.pages) × (1 ≤ page_count x.count) × (x.page + page_count x.count ≤ m.pages) × (room.page < m.pages) × (room.counter < 2 ^ 32 - 1) × AreIn m fs
+    (x.tdr < m.pages) × (1 ≤ page_count x.count) × (page_count x.count ≤ 16) × (x.page + page_count x.count ≤ m.pages) × (room.page < m.pages) × (room.counter < 2 ^ 32 - 1) × AreIn m fs
 
 abbrev pub KnownIn : Machine → Taking → Stage → List Filling → (told : ℕ) → Type 0
 KnownIn m x stage.Head fs told = (length fs ≡ 0) × (told ≤ 13)

@@ -10,4 +10,4 @@ mod page_stages;
 
 pub use page_conditions::{PageEntry, entry_found, page_due, stream_due};
 pub use page_imports::{Filling, Stage};
-pub use page_stages::{Finding, Taking, begin};
+pub use page_stages::{Finding, Taking, begin, find_entry, find_page};

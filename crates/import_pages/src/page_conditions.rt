@@ -50,7 +50,7 @@ pub fn stream_due(
     ensures goes { Goes place.machine.pages (λ f. page_import_head place.machine (input_in input.now) tdr slot page count f) told.old.left.now told.new.left.now result }
     ensures feeds { Feeds (λ f. page_import_head place.machine (input_in input.now) tdr slot page count f) told.old.left.now told.new.left.now result }
     ensures uses { Uses 13 told.old.left.now told.new.left.now result }
-    ensures inside { MatchResult result (λ r. (tdr < place.machine.pages) × (1 ≤ page_count count) × (page + page_count count ≤ place.machine.pages) × (r.page < place.machine.pages) × (r.counter < 2 ^ 32 - 1)) (λ e. StopIn place.machine e) }
+    ensures inside { MatchResult result (λ r. (tdr < place.machine.pages) × (1 ≤ page_count count) × (page_count count ≤ 16) × (page + page_count count ≤ place.machine.pages) × (r.page < place.machine.pages) × (r.counter < 2 ^ 32 - 1)) (λ e. StopIn place.machine e) }
 {
     are_in_range(told, place.machine, tdr, page, count)?;
     input_of(told, slot, input, &[PAGES])?;
@@ -69,7 +69,7 @@ fn are_in_range(
     ensures goes { Goes machine.pages (λ f. checked (page_import_arguments machine tdr page count) (f tt)) told.now.left.now told.now.left.now result }
     ensures feeds { Feeds (λ f. checked (page_import_arguments machine tdr page count) (f tt)) told.now.left.now told.now.left.now result }
     ensures uses { Uses 0 told.now.left.now told.now.left.now result }
-    ensures inside { MatchResult result (λ u. (tdr < machine.pages) × (1 ≤ page_count count) × (page + page_count count ≤ machine.pages)) (λ e. StopIn machine e) }
+    ensures inside { MatchResult result (λ u. (tdr < machine.pages) × (1 ≤ page_count count) × (page_count count ≤ 16) × (page + page_count count ≤ machine.pages)) (λ e. StopIn machine e) }
 {
     told.check(tdr < u64::from(machine.pages), Status::OperandInvalid(1))?;
     told.check(page < u64::from(machine.pages), Status::OperandInvalid(3))?;
@@ -88,7 +88,7 @@ fn are_others(
     ensures goes { Goes machine.pages (λ f. checked (run_arguments machine tdr page count) (f tt)) told.now.left.now told.now.left.now result }
     ensures feeds { Feeds (λ f. checked (run_arguments machine tdr page count) (f tt)) told.now.left.now told.now.left.now result }
     ensures uses { Uses 0 told.now.left.now told.now.left.now result }
-    ensures inside { MatchResult result (λ u. (1 ≤ page_count count) × (page + page_count count ≤ machine.pages)) (λ e. StopIn machine e) }
+    ensures inside { MatchResult result (λ u. (1 ≤ page_count count) × (page_count count ≤ 16) × (page + page_count count ≤ machine.pages)) (λ e. StopIn machine e) }
 {
     match count {
         None => told.check(page != tdr, Status::OperandInvalid(3)),
