@@ -1,9 +1,8 @@
 -- Whether a page is locked already, and the condition that it isn't.
-use Rattle.std.proofs.Common.{◌≡◌, ℕ, ◌==◌, ◌||◌, Bool, true, false, not, List, [], ◌∷◌, Result, Ok, Err, refl, ap, sym, ◌∙◌, subst}
+use Rattle.std.proofs.Common.{◌≡◌, ℕ, ◌==◌, ◌||◌, Bool, true, false, not, List, [], ◌∷◌, Result, Ok, Err, refl, sym, ◌∙◌, subst}
 use Rattle.td_words.specs.declared.refusals.Status.TheVariants.{PageMetadataIncorrect}
 use Rattle.flat_core.specs.ImportRows.{is_among}
 use Rattle.leaf_engine.specs.declared.plans.Stop.{Stop}
-use Rattle.leaf_engine.specs.declared.plans.Stop.TheVariants as stop
 use Rattle.leaf_engine.specs.Trees.{Tree}
 use Rattle.leaf_parts.specs.Parts.{Goes, Feeds}
 use Rattle.leaf_parts.proofs.Parts.{Checked, passes, refuses, feed-passes}

@@ -1,4 +1,4 @@
-use Rattle.std.proofs.Common.{◌≡◌, Bool, not, sym, subst}
+use Rattle.std.proofs.Common.{Bool, not, subst}
 use Rattle.td_words.specs.declared.refusals.Status.TheVariants.{PageMetadataIncorrect}
 use Rattle.leaf_parts.proofs.Parts.{Checked}
 use Rattle.import_pages.proofs.Among.{unlocked-goes, unlocked-feeds}

@@ -1,4 +1,4 @@
-use Rattle.std.proofs.Common.{◌≡◌, ℕ, [], ◌∷◌, Option, Ok, Err, refl, subst}
+use Rattle.std.proofs.Common.{[], ◌∷◌, Ok, Err, refl, subst}
 use Rattle.flat_core.specs.World.{ClearHeader}
 use Rattle.flat_core.specs.Inputs.{input_in}
 use Rattle.leaf_parts.specs.Arguments.{checked}
