@@ -195,7 +195,7 @@ names-last o (call.ExportBlockw t gpa) =
     (rw (eq-eqb t t refl) refl) (rw (eq-eqb t t refl) refl) (rw (eq-eqb t t refl) refl))
 names-last o (call.ExportUnblockw t gpa) = inr (opened o (call.ExportUnblockw t gpa) t gpa (λ w. refl))
 names-last o (call.ExportRestore t gpa) = inr (opened o (call.ExportRestore t gpa) t gpa (λ w. refl))
-names-last o (call.ExportMem t gpa k slot) = let gpas : List ℕ = gpas_from gpa (page_count None) in inr (record {
+names-last o (call.ExportMem t gpa k slot count) = let gpas : List ℕ = gpas_from gpa (page_count count) in inr (record {
   tdr = t;
   front = td_tries t Shared ++ shared (OfTree t) ∷ shared (OfEpoch t) ∷ [];
   named = λ w. map (λ q. alone (OfPage (entry_at w t 0 q).page)) gpas ++ alone (OfPage (stream_page w t k)) ∷ [];
@@ -206,8 +206,8 @@ names-last o (call.ExportMem t gpa k slot) = let gpas : List ℕ = gpas_from gpa
   op = rw (eq-eqb t t refl) refl;
   tree = rw (eq-eqb t t refl) refl;
 })
-names-last o (call.ImportMem t slot p) = let x : Input = input_in (o.bundles slot) in let pages : List Arrival = arrivals x.header.gpa p x.words
-    (page_count None) in inr (record {
+names-last o (call.ImportMem t slot p count) = let x : Input = input_in (o.bundles slot) in let pages : List Arrival = arrivals x.header.gpa p x.words
+    (page_count count) in inr (record {
       tdr = t;
       front = td_tries t Shared ++ alone (OfTree t) ∷ [];
       named = λ w. map (λ a. alone (OfPage (page_filled w t a))) pages;
@@ -288,14 +288,14 @@ row-entries o me (call.MemPageRelocate u gpa p) w t ps tree page = let n = off t
 row-entries o me (call.MemRangeBlock u gpa level) w t ps tree page = let n = off t u (λ y. tree (rw y refl)) in λ l k. rw n (as-it-is _)
 row-entries o me (call.MemRangeUnblock u gpa level) w t ps tree page = let n = off t u (λ y. tree (rw y refl)) in λ l k. rw n (as-it-is _)
 row-entries o me (call.ExportBlockw u gpa) w t ps tree page = restated w u (number_at 0 gpa) (entry_at w u 0 gpa).mark (write_blocked (entry_at w u 0 gpa).state) (write-blocked-free (entry_at w u 0 gpa).state) t
-row-entries o me (call.ExportMem u gpa k slot) w t ps tree page = exported-stay u gpa k slot None w t (export_passed o.machine w u gpa k slot None ps).pages
+row-entries o me (call.ExportMem u gpa k slot count) w t ps tree page = exported-stay u gpa k slot count w t (export_passed o.machine w u gpa k slot count ps).pages
 row-entries o me (call.ExportUnblockw u gpa) w t ps tree page = let n = off t u (λ y. tree (rw y refl)) in λ l k. rw n (as-it-is _)
 row-entries o me (call.ExportRestore u gpa) w t ps tree page = let n = off t u (λ y. tree (rw y refl)) in λ l k. rw n (as-it-is _)
 row-entries o me (call.ExportTrack u slot zero) w t ps tree page = λ l k. as-it-is _
 row-entries o me (call.ExportTrack u slot (suc n)) w t ps tree page = λ l k. as-it-is _
-row-entries o me (call.ImportMem u slot p) w t ps tree page =
+row-entries o me (call.ImportMem u slot p count) w t ps tree page =
     let x : Input = input_in (o.bundles slot) in
-    taken-stay u (arrivals x.header.gpa p x.words (page_count None)) w t (off t u (λ y. tree (rw y refl)))
+    taken-stay u (arrivals x.header.gpa p x.words (page_count count)) w t (off t u (λ y. tree (rw y refl)))
 row-entries o me (call.HostRead p i) w t ps tree page = λ l k. as-it-is _
 row-entries o me _ w t ps tree page = λ l k. as-it-is _
 
@@ -306,10 +306,10 @@ row-streams o me (call.MngCreate u h) w t op page = let n = off t u (λ y. page 
 row-streams o me (call.MigStreamCreate u p) w t op page = let n = off t u (λ y. op (rw y refl)) in rw n refl
 row-streams o me (call.ExportTrack u slot zero) w t op page = refl
 row-streams o me (call.ExportTrack u slot (suc n)) w t op page = refl
-row-streams o me (call.ExportMem u gpa k slot) w t op page =
-    ap (λ (v : World). v.tds.streams t) (each_leaves u k (gpas_from gpa (page_count None)) (made_first u gpa k slot None w))
-row-streams o me (call.ImportMem u slot p) w t op page =
-    let x : Input = input_in (o.bundles slot) in ap (λ (v : World). v.tds.streams t) (takes_leave u (arrivals x.header.gpa p x.words (page_count None)) w)
+row-streams o me (call.ExportMem u gpa k slot count) w t op page =
+    ap (λ (v : World). v.tds.streams t) (each_leaves u k (gpas_from gpa (page_count count)) (made_first u gpa k slot count w))
+row-streams o me (call.ImportMem u slot p count) w t op page =
+    let x : Input = input_in (o.bundles slot) in ap (λ (v : World). v.tds.streams t) (takes_leave u (arrivals x.header.gpa p x.words (page_count count)) w)
 row-streams o me (call.HostRead p i) w t op page = refl
 row-streams o me _ w t op page = refl
 

@@ -43,5 +43,5 @@ module _ (o : Opening) (me : ℕ) (w : World) where
       (λ y. lives (rw y live))
   row-life (call.ExportTrack t slot zero) ps x there live = lives live
   row-life (call.ExportTrack t slot (suc n)) ps x there live = lives live
-  row-life (call.ImportMem t slot page) ps x there live = taken_life t slot page None x live
+  row-life (call.ImportMem t slot page count) ps x there live = taken_life t slot page count x live
   row-life c ps x there live = lives live

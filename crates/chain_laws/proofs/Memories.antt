@@ -108,7 +108,7 @@ module _ (o : Opening) (me : ℕ) (w : World) (m : ChainMemory) (h : Same m w) w
   row_memory (call.MngCreate t k) = (λ x g. by_test (x == t) (λ y. rw y tt) (λ y. rw y (h.0 x g)), h.1)
   row_memory (call.MemPageAdd t gpa page source) = (same_put w.hidden.memories m.pages t (page_of_gpa gpa) (Some (w.words source)) (Some (w.words source)) (words_itself (Some (w.words source))) h.0, h.1)
   row_memory (call.MemPageRemove t gpa) = (same_put w.hidden.memories m.pages t (page_of_gpa gpa) None None tt h.0, h.1)
-  row_memory (call.ImportMem t slot page) = taken_memory t slot page None
+  row_memory (call.ImportMem t slot page count) = taken_memory t slot page count
   row_memory (call.ExportPause t) = (h.0, λ n g. by_test (n == w.tds.sessions t) (λ y. rw y (h.0 t g)) (λ y. rw y (h.1 n g)))
   row_memory (call.ExportTrack t slot zero) = h
   row_memory (call.ExportTrack t slot (suc n)) = h

@@ -70,11 +70,11 @@ module _ (o : Opening) (me : ℕ) (w : World) (l : Lawful o.machine w) where
 
     -- lists of pages, with any COUNT
     sent_exported : (u gpa k slot : ℕ) (count : Option ℕ) → Passes ((export_pages o.machine u gpa k slot count).items w) → IsOnlyExported ((export_pages o.machine u gpa k slot count).act w) n t
-    sent_exported u gpa k slot count ps = goes_exported (call.ExportMem u gpa k slot) ((export_pages o.machine u gpa k slot count).act w) (pages_export o me w l u gpa k slot count ps) refl
+    sent_exported u gpa k slot count ps = goes_exported (call.ExportMem u gpa k slot count) ((export_pages o.machine u gpa k slot count).act w) (pages_export o me w l u gpa k slot count ps) refl
         (sent_as o.machine u gpa k slot count w (λ v. v.key_table.last_exported ≡ w.key_table.last_exported) (λ e c f done. refl))
 
     taken_exported : (u slot page : ℕ) (count : Option ℕ) → Passes ((import_pages o.machine (o.bundles slot) u slot page count).items w) → IsOnlyExported ((import_pages o.machine (o.bundles slot) u slot page count).act w) n t
-    taken_exported u slot page count ps = goes_exported (call.ImportMem u slot page) ((import_pages o.machine (o.bundles slot) u slot page count).act w)
+    taken_exported u slot page count ps = goes_exported (call.ImportMem u slot page count) ((import_pages o.machine (o.bundles slot) u slot page count).act w)
         (pages_import o me w l u slot page count ps) refl ((import_keeps o me w l u slot page count).made refl).1
 
     row-exported : (c : Call) → Passes ((row_of o me c).items w) → IsOnlyExported (After c) n t
@@ -84,8 +84,8 @@ module _ (o : Opening) (me : ℕ) (w : World) (l : Lawful o.machine w) where
         (λ y. stood (record { alive = record { kind = a.alive.kind; life = a.alive.life }; standing = rw y at a.standing }) (rw y refl))) h
     row-exported (call.ExportTrack u slot zero) ps = rest_exported (call.ExportTrack u slot zero) ps refl refl
     row-exported (call.ExportTrack u slot (suc k)) ps = rest_exported (call.ExportTrack u slot (suc k)) ps refl refl
-    row-exported (call.ExportMem u gpa k slot) ps = sent_exported u gpa k slot None ps
-    row-exported (call.ImportMem u slot page) ps = taken_exported u slot page None ps
+    row-exported (call.ExportMem u gpa k slot count) ps = sent_exported u gpa k slot count ps
+    row-exported (call.ImportMem u slot page count) ps = taken_exported u slot page count ps
     row-exported c ps = rest_exported c ps refl refl
 
   module _ (n u : ℕ) (h : IsOnlyImported w n u) where
@@ -96,13 +96,13 @@ module _ (o : Opening) (me : ℕ) (w : World) (l : Lawful o.machine w) where
     rest_imported c ps = goes_imported c (After c) (call-changes o me w l c ps)
 
     sent_imported : (t gpa k slot : ℕ) (count : Option ℕ) → Passes ((export_pages o.machine t gpa k slot count).items w) → IsOnlyImported ((export_pages o.machine t gpa k slot count).act w) n u
-    sent_imported t gpa k slot count ps = goes_imported (call.ExportMem t gpa k slot) ((export_pages o.machine t gpa k slot count).act w) (pages_export o me w l t gpa k slot count ps) refl
+    sent_imported t gpa k slot count ps = goes_imported (call.ExportMem t gpa k slot count) ((export_pages o.machine t gpa k slot count).act w) (pages_export o me w l t gpa k slot count ps) refl
         (sent_as o.machine t gpa k slot count w (λ v. v.key_table.last_imported ≡ w.key_table.last_imported) (λ e c f done. refl))
 
     taken_imported : (t slot page : ℕ) (count : Option ℕ) → Passes ((import_pages o.machine (o.bundles slot) t slot page count).items w) → IsOnlyImported ((import_pages o.machine (o.bundles slot) t slot page count).act w) n u
     taken_imported t slot page count ps =
         let x : Input = input_in (o.bundles slot) in
-        goes_imported (call.ImportMem t slot page) ((import_pages o.machine (o.bundles slot) t slot page count).act w) (pages_import o me w l t slot page count ps) refl
+        goes_imported (call.ImportMem t slot page count) ((import_pages o.machine (o.bundles slot) t slot page count).act w) (pages_import o me w l t slot page count ps) refl
         (taken_as t x.header.stream x.header.gpa page x.words (page_count count) w (λ v. v.key_table.last_imported ≡ w.key_table.last_imported) (λ v all. refl))
 
     row-imported : (c : Call) → Passes ((row_of o me c).items w) → IsOnlyImported (After c) n u
@@ -112,8 +112,8 @@ module _ (o : Opening) (me : ℕ) (w : World) (l : Lawful o.machine w) where
         (λ x a. by_test (x == t)
         (λ y. opened (rw y later))
         (λ y. taken (record { alive = record { kind = a.alive.kind; life = a.alive.life }; standing = rw y at a.standing }) (rw y refl))) h
-    row-imported (call.ExportMem t gpa k slot) ps = sent_imported t gpa k slot None ps
-    row-imported (call.ImportMem t slot page) ps = taken_imported t slot page None ps
+    row-imported (call.ExportMem t gpa k slot count) ps = sent_imported t gpa k slot count ps
+    row-imported (call.ImportMem t slot page count) ps = taken_imported t slot page count ps
     row-imported (call.ExportTrack t slot zero) ps = rest_imported (call.ExportTrack t slot zero) ps refl refl
     row-imported (call.ExportTrack t slot (suc k)) ps = rest_imported (call.ExportTrack t slot (suc k)) ps refl refl
     row-imported c ps = rest_imported c ps refl refl

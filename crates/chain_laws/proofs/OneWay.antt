@@ -68,8 +68,8 @@ module _ (o : Opening) (me : ℕ) (w : World) (l : Lawful o.machine w) where
 
     row-sends : (c : Call) → begins_export c ≡ false → Passes ((row_of o me c).items w) → SendsNothing (After c)
     row-sends (call.ExportStateImmutable t slot) off ps = cc
-    row-sends (call.ExportMem t gpa k slot) off ps =
-        let td = (export_passed o.machine w t gpa k slot None ps).td in
+    row-sends (call.ExportMem t gpa k slot count) off ps =
+        let td = (export_passed o.machine w t gpa k slot count ps).td in
         absurd (h.none t (record { alive = td_alive td; standing = abortable_exporting (w.tds.ops t) td.op }))
     row-sends (call.ExportTrack t slot zero) off ps =
         let td : TdPassed w t abortable_ops = search in
@@ -99,8 +99,8 @@ module _ (o : Opening) (me : ℕ) (w : World) (l : Lawful o.machine w) where
 
     row-takes : (c : Call) → begins_import c ≡ false → Passes ((row_of o me c).items w) → TakesNothing (After c)
     row-takes (call.ImportStateImmutable t slot) off ps = cc
-    row-takes (call.ImportMem t slot page) off ps =
-        let td = (take_asked o.machine (o.bundles slot) w t slot page None ps).td in
+    row-takes (call.ImportMem t slot page count) off ps =
+        let td = (take_asked o.machine (o.bundles slot) w t slot page count ps).td in
         absurd (h.none t (record { alive = td_alive td; standing = (filling_fills (w.tds.ops t) td.op).0 }))
     row-takes (call.ImportTrack t slot) off ps =
         let x : Input = input_in (o.bundles slot) in
@@ -119,7 +119,7 @@ module _ (o : Opening) (me : ℕ) (w : World) (l : Lawful o.machine w) where
         let td : TdPassed w t given_up_ops = search in
         absurd (h.none t (record { alive = td_alive td; standing = given_up_fills (w.tds.ops t) td.op }))
     row-takes (call.ExportStateImmutable t slot) off ps = rest_takes (call.ExportStateImmutable t slot) ps refl (All-push (λ m. is_forward m ≡ true) w.outgoing.bundles _ h.bundles refl)
-    row-takes (call.ExportMem t gpa k slot) off ps = rest_takes (call.ExportMem t gpa k slot) ps refl (All-push (λ m. is_forward m ≡ true) w.outgoing.bundles _ h.bundles refl)
+    row-takes (call.ExportMem t gpa k slot count) off ps = rest_takes (call.ExportMem t gpa k slot count) ps refl (All-push (λ m. is_forward m ≡ true) w.outgoing.bundles _ h.bundles refl)
     row-takes (call.ExportTrack t slot zero) off ps = rest_takes (call.ExportTrack t slot zero) ps refl (All-push (λ m. is_forward m ≡ true) w.outgoing.bundles _ h.bundles refl)
     row-takes (call.ExportTrack t slot (suc k)) off ps = rest_takes (call.ExportTrack t slot (suc k)) ps refl (All-push (λ m. is_forward m ≡ true) w.outgoing.bundles _ h.bundles refl)
     row-takes (call.ExportStateTd t slot) off ps = rest_takes (call.ExportStateTd t slot) ps refl (All-push (λ m. is_forward m ≡ true) w.outgoing.bundles _ h.bundles refl)

@@ -49,7 +49,7 @@ named o a slot e none = let same : a ≡ slot = cc in not_there (o.bundles a) (a
 needs_its_own : (o : Opening) (me : ℕ) (c : Call) (slot : ℕ) (w : World) → input_slot c ≡ Some slot → o.bundles slot ≡ None → RefusesEarly ((row_of o me c).items w)
 needs_its_own o me (call.ExportAbortByToken t a) slot w is none = inr (inl (named o a slot is none))
 needs_its_own o me (call.ImportStateImmutable t a) slot w is none = inr (inl (named o a slot is none))
-needs_its_own o me (call.ImportMem t a page) slot w is none = inr (inr (inr (inl (named o a slot is none))))
+needs_its_own o me (call.ImportMem t a page count) slot w is none = inr (inr (inr (inl (named o a slot is none))))
 needs_its_own o me (call.ImportTrack t a) slot w is none = inr (inl (named o a slot is none))
 needs_its_own o me (call.ImportStateTd t a) slot w is none = inr (inl (named o a slot is none))
 needs_its_own o me (call.ImportStateVp t p a) slot w is none = inr (inr (inr (inl (named o a slot is none))))

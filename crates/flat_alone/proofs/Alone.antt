@@ -170,12 +170,12 @@ free_row o p (call.ExportBlockw tdr gpa) w la = λ a b d. (
 )
 free_row o p (call.ExportUnblockw tdr gpa) w la = λ a b d. free_opened o.machine w la tdr gpa live_ops write_blocked_states refl
 free_row o p (call.ExportRestore tdr gpa) w la = λ a b d. free_opened o.machine w la tdr gpa restoring_ops restored_states refl
-free_row o p (call.ExportMem tdr gpa stream slot) w la = export_pages-free o.machine tdr gpa stream slot None w la
+free_row o p (call.ExportMem tdr gpa stream slot count) w la = export_pages-free o.machine tdr gpa stream slot count w la
 free_row o p (call.ExportTrack tdr slot zero) w la = free_by [] ((row_of o p (call.ExportTrack tdr slot zero)).items w) refl
 free_row o p (call.ExportTrack tdr slot (suc n)) w la = free_by [] ((row_of o p (call.ExportTrack tdr slot (suc n))).items w) refl
 free_row o p (call.ExportStateVp tdr vp slot) w la =
     λ a b apart. (refl, refl, λ d e f. (refl, refl, λ g. let n : (tdr == vp) ≡ false = other_page vp tdr apart in (refl, rw n refl, λ h i j. tt)))
-free_row o p (call.ImportMem tdr slot page) w la = import_pages-free o.machine (o.bundles slot) tdr slot page None w la
+free_row o p (call.ImportMem tdr slot page count) w la = import_pages-free o.machine (o.bundles slot) tdr slot page count w la
 free_row o p (call.ImportStateVp tdr vp slot) w la = import_vp-free o.machine (o.bundles slot) tdr vp slot w
 free_row o p c w la = free_by [] ((row_of o p c).items w) refl
 

@@ -109,14 +109,14 @@ module _ (o : Opening) (me : ℕ) (w : World) where
   row-counts : (c : Call) (page : ℕ) → (After c).streams.counters page ≤ w.streams.counters page + 1
   row-counts (call.MigStreamCreate t at) page = by_test (page == at) (λ y. rw y (omega arith)) (λ n. rw n (omega arith))
   row-counts (call.ExportStateImmutable t slot) page = counted-once (put_all w.streams.counters (w.tds.streams t) 0) (stream_page w t 0) page (cleared (w.tds.streams t))
-  row-counts (call.ExportMem t gpa k slot) page = sent-counts t gpa k slot None page
+  row-counts (call.ExportMem t gpa k slot count) page = sent-counts t gpa k slot count page
   row-counts (call.ExportTrack t slot zero) page = counted-at t 0 page
   row-counts (call.ExportTrack t slot (suc n)) page = counted-at t 0 page
   row-counts (call.ExportStateTd t slot) page = counted-at t 0 page
   row-counts (call.ExportStateVp t p slot) page = counted-at t 0 page
   row-counts (call.ImportStateImmutable t slot) page = counted-at t 0 page
-  row-counts (call.ImportMem t slot at) page =
-      let x : Input = input_in (o.bundles slot) in taken-counts t x.header.stream (arrivals x.header.gpa at x.words (page_count None)) page
+  row-counts (call.ImportMem t slot at count) page =
+      let x : Input = input_in (o.bundles slot) in taken-counts t x.header.stream (arrivals x.header.gpa at x.words (page_count count)) page
   row-counts (call.ImportTrack t slot) page = counted-at t 0 page
   row-counts (call.ImportStateTd t slot) page = counted-at t 0 page
   row-counts (call.ImportStateVp t p slot) page = counted-at t 0 page
@@ -310,12 +310,12 @@ module _ (o : Opening) (me : ℕ) (w : World) (low : (page : ℕ) → w.streams.
   row-asks (call.MemSeptRemove t gpa level) = none-asked (call.MemSeptRemove t gpa level) (asked-behind w t gpa level _ refl)
   row-asks (call.MemRangeBlock t gpa level) = none-asked (call.MemRangeBlock t gpa level) (asked-behind w t gpa level _ refl)
   row-asks (call.MemRangeUnblock t gpa level) = none-asked (call.MemRangeUnblock t gpa level) (asked-behind w t gpa level _ refl)
-  row-asks (call.ExportMem t gpa k slot) = sent-asks t gpa k slot None
+  row-asks (call.ExportMem t gpa k slot count) = sent-asks t gpa k slot count
   row-asks (call.ExportTrack t slot zero) = none-asked (call.ExportTrack t slot zero) refl
   row-asks (call.ExportTrack t slot (suc n)) = none-asked (call.ExportTrack t slot (suc n)) refl
   row-asks (call.ExportAbortByToken t slot) = one-asked (call.ExportAbortByToken t slot) (input_in (o.bundles slot)).header.counter 0 (omega arith) refl
   row-asks (call.ImportStateImmutable t slot) = one-asked (call.ImportStateImmutable t slot) (input_in (o.bundles slot)).header.counter 0 (omega arith) refl
-  row-asks (call.ImportMem t slot at) = taken-asks t slot at None
+  row-asks (call.ImportMem t slot at count) = taken-asks t slot at count
   row-asks (call.ImportTrack t slot) = one-asked (call.ImportTrack t slot) (input_in (o.bundles slot)).header.counter (stream_counter w t 0) (low (stream_page w t 0)) refl
   row-asks (call.ImportStateTd t slot) = one-asked (call.ImportStateTd t slot) (input_in (o.bundles slot)).header.counter (stream_counter w t 0) (low (stream_page w t 0)) refl
   row-asks (call.ImportStateVp t p slot) = one-asked (call.ImportStateVp t p slot) (input_in (o.bundles slot)).header.counter (stream_counter w t 0) (low (stream_page w t 0)) refl

@@ -232,7 +232,7 @@ module _ (o : Opening) (me : ℕ) (w : World) (l : Lawful o.machine w) (h : Form
       (rw (same_self t) (omega arith)) (rw (same_self t) (omega (arith, room)))
       (by_test (list_any (λ p. p == stream_page w t 0) (w.tds.streams t)) (λ y. rw y (omega arith)) (λ y. rw y (l.streams.counter (stream_page w t 0))))
 
-  page_forms : (t gpa k slot : ℕ) → Passes ((row_of o me (call.ExportMem t gpa k slot)).items w) → FormsHold (After (call.ExportMem t gpa k slot))
+  page_forms : (t gpa k slot : ℕ) → Passes ((row_of o me (call.ExportMem t gpa k slot count)).items w) → FormsHold (After (call.ExportMem t gpa k slot count))
   page_forms t gpa k slot ps =
       let few : k < 4 = ltb-true _ _ (search) in
       let low : gpa < 2 ^ 47 = ltb-true _ _ (search) in
@@ -355,15 +355,15 @@ module _ (o : Opening) (me : ℕ) (w : World) (l : Lawful o.machine w) (h : Form
   row-forms (call.ExportAbort t) ps = over_forms w t op.Runnable (λ e. cc) h
   row-forms (call.ExportAbortByToken t slot) ps = over_forms w t op.Runnable (λ e. cc) h
   row-forms (call.ExportStateImmutable t slot) ps = immutable_forms t slot ps
-  row-forms (call.ExportMem t gpa k slot) ps = page_forms t gpa k slot ps
+  row-forms (call.ExportMem t gpa k slot count) ps = page_forms t gpa k slot ps
   row-forms (call.ExportTrack t slot first) ps = token_forms t slot first ps
   row-forms (call.ExportStateTd t slot) ps = td_forms t slot ps
   row-forms (call.ExportStateVp t p slot) ps = vp_forms t p slot ps
   row-forms (call.ImportStateImmutable t slot) ps =
       let later = ltb-true w.key_table.last_imported (input_in (o.bundles slot)).header.session (search) in
       other_forms (After (call.ImportStateImmutable t slot)) t refl refl (λ e. let self = same_self t in rw self (omega (arith, later))) (λ x y. rw y refl) (λ x y. rw y refl)
-  row-forms (call.ImportMem t slot page) ps =
-      let x : Input = input_in (o.bundles slot) in imported_forms t x.header.stream (arrivals x.header.gpa page x.words (page_count None))
+  row-forms (call.ImportMem t slot page count) ps =
+      let x : Input = input_in (o.bundles slot) in imported_forms t x.header.stream (arrivals x.header.gpa page x.words (page_count count))
   row-forms (call.ImportTrack t slot) ps =
       let x : Input = input_in (o.bundles slot) in
       other_forms (After (call.ImportTrack t slot)) t refl refl (λ e. h.session t (token_session (is_start x.header) (w.tds.ops t) (search))) (λ x y. rw y refl) (λ x y. refl)

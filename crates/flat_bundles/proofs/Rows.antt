@@ -29,13 +29,13 @@ adds-one m ms page = record { bundle = m; added = refl; slot_is = refl; page = p
 
 pub calls-add : CallsAddTheirOwn
 calls-add o me (call.ExportStateImmutable tdr slot) w = adds-one _ w.outgoing.bundles (omega arith)
-calls-add o me (call.ExportMem tdr gpa stream slot) w = adds-one _ w.outgoing.bundles (of_page (w.words (entry_at w tdr 0 gpa).page) 512 (omega arith))
+calls-add o me (call.ExportMem tdr gpa stream slot count) w = adds-one _ w.outgoing.bundles (of_page (w.words (entry_at w tdr 0 gpa).page) 512 (omega arith))
 calls-add o me (call.ExportTrack tdr slot zero) w = adds-one _ w.outgoing.bundles (omega arith)
 calls-add o me (call.ExportTrack tdr slot (suc n)) w = adds-one _ w.outgoing.bundles (omega arith)
 calls-add o me (call.ExportStateTd tdr slot) w = adds-one _ w.outgoing.bundles (of_page (w.hidden.rtmrs tdr) 24 (omega arith))
 calls-add o me (call.ExportStateVp tdr vp slot) w = adds-one _ w.outgoing.bundles (of_page (w.hidden.registers vp) 8 (omega arith))
-calls-add o me (call.ImportMem tdr slot page) w = let x : Input = input_in (o.bundles slot) in ap (λ (v : World). v.outgoing.bundles)
-    (takes_leave tdr (arrivals x.header.gpa page x.words (page_count None)) w)
+calls-add o me (call.ImportMem tdr slot page count) w = let x : Input = input_in (o.bundles slot) in ap (λ (v : World). v.outgoing.bundles)
+    (takes_leave tdr (arrivals x.header.gpa page x.words (page_count count)) w)
 calls-add o me (call.ImportAbort tdr slot) w = adds-one _ w.outgoing.bundles (omega arith)
 calls-add o me (call.HostRead page word) w = refl
 calls-add o me _ w = refl

@@ -29,7 +29,7 @@ use Rattle.flat_bundles.specs.Taken.{TakesTheSame, CallsTakeTheirOwn, CallsNeedT
 lines-take : (o : Opening) (calls : List (List Call)) (bundles : ℕ → Option Incoming) (me : ℕ) (c : Call) → TakesTheSame bundles o.bundles c → row_of (with_lines o calls bundles) me c ≡ row_of o me c
 lines-take o calls bundles me (call.ExportAbortByToken tdr slot) same = ap (λ (b : Option Incoming). abort_by_token o.machine b tdr slot) (same slot refl)
 lines-take o calls bundles me (call.ImportStateImmutable tdr slot) same = ap (λ (b : Option Incoming). import_immutable o.machine b tdr slot) (same slot refl)
-lines-take o calls bundles me (call.ImportMem tdr slot page) same = ap (λ (b : Option Incoming). import_pages o.machine b tdr slot page None) (same slot refl)
+lines-take o calls bundles me (call.ImportMem tdr slot page count) same = ap (λ (b : Option Incoming). import_pages o.machine b tdr slot page count) (same slot refl)
 lines-take o calls bundles me (call.ImportTrack tdr slot) same = ap (λ (b : Option Incoming). import_token o.machine b tdr slot) (same slot refl)
 lines-take o calls bundles me (call.ImportStateTd tdr slot) same = ap (λ (b : Option Incoming). import_td o.machine b tdr slot) (same slot refl)
 lines-take o calls bundles me (call.ImportStateVp tdr vp slot) same = ap (λ (b : Option Incoming). import_vp o.machine b tdr vp slot) (same slot refl)
@@ -56,7 +56,7 @@ list-there m b w t slot page count ps =
 pub calls-need : CallsNeedTheirOwn
 calls-need o me (call.ExportAbortByToken tdr named) slot w is none ps = none-there o.bundles named slot is none (search)
 calls-need o me (call.ImportStateImmutable tdr named) slot w is none ps = none-there o.bundles named slot is none (search)
-calls-need o me (call.ImportMem tdr named page) slot w is none ps = none-there o.bundles named slot is none (list-there o.machine (o.bundles named) w tdr named page None ps)
+calls-need o me (call.ImportMem tdr named page count) slot w is none ps = none-there o.bundles named slot is none (list-there o.machine (o.bundles named) w tdr named page count ps)
 calls-need o me (call.ImportTrack tdr named) slot w is none ps = none-there o.bundles named slot is none (search)
 calls-need o me (call.ImportStateTd tdr named) slot w is none ps = none-there o.bundles named slot is none (search)
 calls-need o me (call.ImportStateVp tdr vp named) slot w is none ps = none-there o.bundles named slot is none (search)

@@ -58,12 +58,12 @@ row_entered o me (call.VpFlush t v) w x e off ps none h = by_test (x == v)
 row_entered o me (call.ExportTrack t slot zero) w x e off ps none h = (h, refl)
 row_entered o me (call.ExportTrack t slot (suc n)) w x e off ps none h = (h, refl)
 row_entered o me (call.HostRead page i) w x e off ps none h = (h, refl)
-row_entered o me (call.ExportMem t gpa k slot) w x e off ps none h =
-    let same = each_leaves t k (gpas_from gpa (page_count None)) (made_first t gpa k slot None w) in
+row_entered o me (call.ExportMem t gpa k slot count) w x e off ps none h =
+    let same = each_leaves t k (gpas_from gpa (page_count count)) (made_first t gpa k slot count w) in
     (ap (λ (v : World). v.vps.entered x) (sym same) ∙ h, ap (λ (v : World). v.vps.associated x) same)
-row_entered o me (call.ImportMem t slot page) w x e off ps none h =
+row_entered o me (call.ImportMem t slot page count) w x e off ps none h =
     let i : Input = input_in (o.bundles slot) in
-    let same = takes_leave t (arrivals i.header.gpa page i.words (page_count None)) w in
+    let same = takes_leave t (arrivals i.header.gpa page i.words (page_count count)) w in
     (ap (λ (v : World). v.vps.entered x) (sym same) ∙ h, ap (λ (v : World). v.vps.associated x) same)
 row_entered o me _ w x e off ps none h = (h, refl)
 

@@ -21,9 +21,10 @@ use Rattle.flat_core.specs.Row.{Item}
 use Rattle.flat_core.specs.Tree.{page_of_gpa, number_at, entry_at, same_state, walk, state_in}
 use Rattle.flat_core.specs.Effects.{set_page, map_page, begin_memory, set_op}
 use Rattle.flat_core.specs.Sessions.{stream_page, count_bundle, set_mig_epoch}
-use Rattle.flat_core.specs.Inputs.{Input, header_of_input, word_given, input_in, tag_holds}
-use Rattle.flat_core.specs.PageLists.{page_count, Arrival, arrivals}
-use Rattle.flat_core.specs.ImportRows.{filling_ops, begin_import, import_immutable, importable, page_to_fill, page_filled, pages_to_fill, fill_page, take_in, take_each, import_pages, is_start, op_then, import_token, give_rtmrs, import_td, give_vp_state, import_vp, note_commit, commit_import, end_import, abort_import, abort_by_token}
+use Rattle.flat_core.specs.Arguments.{page_argument, apart_argument}
+use Rattle.flat_core.specs.Inputs.{Input, header_of_input, word_given, input_in, input_row, tag_holds}
+use Rattle.flat_core.specs.PageLists.{page_count, count_argument, pages_argument, Arrival, arrivals}
+use Rattle.flat_core.specs.ImportRows.{filling_ops, begin_import, import_immutable, importable, page_to_fill, page_filled, pages_to_fill, fill_page, take_in, take_each, list_says, import_conditions, import_pages, is_start, op_then, import_token, give_rtmrs, import_td, give_vp_state, import_vp, note_commit, commit_import, end_import, abort_import, abort_by_token}
 use Rattle.flat_core.specs.Lawful.{IsAlive, Lawful, is_free}
 use Rattle.flat_core.specs.Alike.{is_being_built, is_public, Alike, AreBlind}
 use Rattle.flat_core.proofs.Tests.{by_test, host_kind}
@@ -252,7 +253,9 @@ page_items m b c t slot page count i v w a =
     (arrivals h.gpa page y.words n) end) i.header
     (items_alike v w t (arrivals x.header.gpa page x.words n) (arrivals x.header.gpa page y.words n) []
     (arrive_alike x.header.gpa page x.words y.words n) a end) in
-    rw (fills, a.pages, a.tds, a.streams, i.there, i.fault, i.header, i.tag_right) refl
+    let said : List (Item Reply) → List (Item Reply) = λ z. page_argument m 1 t ∷ page_argument m 3 page ∷ (count_argument 4 count ++ apart_argument 3 page t
+    ∷ (pages_argument m 4 page t count ++ (input_row x slot (3 ∷ []) ++ (z ++ import_conditions v t x (arrivals x.header.gpa page x.words n))))) in
+    ap said (ap (λ (h : ClearHeader). list_says h count) i.header) ∙ (rw (fills, a.pages, a.tds, a.streams, i.there, i.fault, i.header, i.tag_right) refl)
 
 pub import_pages-blind : (m : Machine) (b c : Option Incoming) (t slot page : ℕ) (count : Option ℕ) → AlikeIn b c
     → AreBlind m (import_pages m b t slot page count) (import_pages m c t slot page count)

@@ -57,8 +57,8 @@ pub records_are_measured : RecordsAreMeasured
 records_are_measured o me (call.HostRead page i) w t = refl
 records_are_measured o me (call.ExportTrack u slot zero) w t = refl
 records_are_measured o me (call.ExportTrack u slot (suc n)) w t = refl
-records_are_measured o me (call.ExportMem u gpa k slot) w t = ap (λ (v : World). v.tds.measured t)
-    (each_leaves u k (gpas_from gpa (page_count None)) (made_first u gpa k slot None w))
-records_are_measured o me (call.ImportMem u slot page) w t =
-    let x : Input = input_in (o.bundles slot) in ap (λ (v : World). v.tds.measured t) (takes_leave u (arrivals x.header.gpa page x.words (page_count None)) w)
+records_are_measured o me (call.ExportMem u gpa k slot count) w t = ap (λ (v : World). v.tds.measured t)
+    (each_leaves u k (gpas_from gpa (page_count count)) (made_first u gpa k slot count w))
+records_are_measured o me (call.ImportMem u slot page count) w t =
+    let x : Input = input_in (o.bundles slot) in ap (λ (v : World). v.tds.measured t) (takes_leave u (arrivals x.header.gpa page x.words (page_count count)) w)
 records_are_measured o me _ w t = refl

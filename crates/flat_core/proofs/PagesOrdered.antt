@@ -50,11 +50,11 @@ pages_hold m place page t None r s f h = f h
 pages_hold m place page t (Some n) r s f h = (h.0, (h.1.0, f h.1.1))
 
 says_ordered : (h : ClearHeader) (count : Option ℕ) (rest : List (Item Reply)) → IsOrdered 0 rest → IsOrdered 0 (list_says h count ++ rest)
-says_ordered h None rest o = o
+says_ordered h None rest o = (tt, o)
 says_ordered h (Some n) rest o = (tt, (tt, o))
 
 says_holds : (h : ClearHeader) (count : Option ℕ) (rest : List (Item Reply)) → ArgumentsHold rest → ArgumentsHold (list_says h count ++ rest)
-says_holds h None rest a = a
+says_holds h None rest a = (tt, a)
 says_holds h (Some n) rest a = (tt, (tt, a))
 
 -- behind a try no argument comes any more

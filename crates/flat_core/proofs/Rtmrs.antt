@@ -79,10 +79,10 @@ module _ (o : Opening) (w : World) (t i : ℕ) where
       (λ y. rw y refl)
   call_extends me (call.ExportTrack tdr slot zero) = refl
   call_extends me (call.ExportTrack tdr slot (suc n)) = refl
-  call_extends me (call.ExportMem tdr gpa k slot) = ap (λ (v : World). rtmr_bytes v t i)
-      (each_leaves tdr k (gpas_from gpa (page_count None)) (made_first tdr gpa k slot None w))
-  call_extends me (call.ImportMem tdr slot page) = let x : Input = input_in (o.bundles slot) in ap (λ (v : World). rtmr_bytes v t i)
-      (takes_leave tdr (arrivals x.header.gpa page x.words (page_count None)) w)
+  call_extends me (call.ExportMem tdr gpa k slot count) = ap (λ (v : World). rtmr_bytes v t i)
+      (each_leaves tdr k (gpas_from gpa (page_count count)) (made_first tdr gpa k slot count w))
+  call_extends me (call.ImportMem tdr slot page count) = let x : Input = input_in (o.bundles slot) in ap (λ (v : World). rtmr_bytes v t i)
+      (takes_leave tdr (arrivals x.header.gpa page x.words (page_count count)) w)
   call_extends me (call.ImportStateTd tdr slot) = by_test (t == tdr)
       (λ y. rw y refl)
       (λ y. rw y refl)

@@ -313,7 +313,7 @@ module _ (m : Machine) (w : World) (t gpa page : ℕ) (q : MovePassed m w t gpa 
 
 -- rows of lists of pages, with any COUNT
 pub export_shape : (m : Machine) (me t gpa k slot : ℕ) (count : Option ℕ) (w : World) → Passes ((export_pages m t gpa k slot count).items w)
-    → ActShape m me (call.ExportMem t gpa k slot) w ((export_pages m t gpa k slot count).act w)
+    → ActShape m me (call.ExportMem t gpa k slot count) w ((export_pages m t gpa k slot count).act w)
 export_shape m me t gpa k slot count w ps =
     let gpas : List ℕ = gpas_from gpa (page_count count) in
     let q = export_passed m w t gpa k slot count ps in
@@ -326,7 +326,7 @@ export_shape m me t gpa k slot count w ps =
     (made_may w t slot (about_pages w t k gpa count) (words_of_pages w t gpas) gpas q.pages) q.td.op on))
 
 pub import_shape : (m : Machine) (b : Option Incoming) (me t slot page : ℕ) (count : Option ℕ) (w : World)
-    → Passes ((import_pages m b t slot page count).items w) → ActShape m me (call.ImportMem t slot page) w ((import_pages m b t slot page count).act w)
+    → Passes ((import_pages m b t slot page count).items w) → ActShape m me (call.ImportMem t slot page count) w ((import_pages m b t slot page count).act w)
 import_shape m b me t slot page count w ps =
     let x : Input = input_in b in
     let gpa : ℕ = x.header.gpa in
@@ -462,7 +462,7 @@ shape_of o me (call.ExportRestore t gpa) w ps =
 shape_of o me (call.ExportStateImmutable t slot) w ps =
     let td : TdPassed w t session_ops = search in
     goes me _ w _ t op.LiveExport (restored refl (td_alive td) (search)) (λ e. cc) (inr (λ r. refl)) (has_mrtd session_ops (w.tds.ops t) refl refl td.op) refl
-shape_of o me (call.ExportMem t gpa k slot) w ps = export_shape o.machine me t gpa k slot None w ps
+shape_of o me (call.ExportMem t gpa k slot count) w ps = export_shape o.machine me t gpa k slot count w ps
 shape_of o me (call.ExportTrack t slot zero) w ps = nothing me _ w _ refl
 shape_of o me (call.ExportTrack t slot (suc n)) w ps =
     let paused : IsOneOf paused_ops (w.tds.ops t) = search in
@@ -475,7 +475,7 @@ shape_of o me (call.ExportStateVp t v slot) w ps =
 shape_of o me (call.ExportAbortByToken t slot) w ps = goes me _ w _ t op.Runnable (runs refl refl) (λ e. cc) (inr (λ r. refl)) (has_mrtd sent_ops (w.tds.ops t) refl refl (search)) refl
 shape_of o me (call.ImportStateImmutable t slot) w ps =
     goes_first me _ w _ t op.MemoryImport (search) (search) (λ e. cc) refl (λ u n. rw n refl) (λ h. let here = same_self t in rw here refl)
-shape_of o me (call.ImportMem t slot page) w ps = import_shape o.machine (o.bundles slot) me t slot page None w ps
+shape_of o me (call.ImportMem t slot page count) w ps = import_shape o.machine (o.bundles slot) me t slot page count w ps
 shape_of o me (call.ImportTrack t slot) w ps =
     let start : Bool = is_start (input_in (o.bundles slot)).header in
     let among : IsOneOf (import_token_ops start) (w.tds.ops t) = search in

@@ -29,12 +29,12 @@ pub row_tells_nothing : (o : Opening) (me : ℕ) (c : Call) (w : World) → Tell
 row_tells_nothing o me (call.ExportTrack t slot zero) w = (refl, refl)
 row_tells_nothing o me (call.ExportTrack t slot (suc n)) w = (refl, refl)
 row_tells_nothing o me (call.HostRead page i) w = (refl, refl)
-row_tells_nothing o me (call.ExportMem t gpa k slot) w =
-    let same = each_leaves t k (gpas_from gpa (page_count None)) (made_first t gpa k slot None w) in
+row_tells_nothing o me (call.ExportMem t gpa k slot count) w =
+    let same = each_leaves t k (gpas_from gpa (page_count count)) (made_first t gpa k slot count w) in
     (ap (λ (v : World). v.outgoing.told) same, ap (λ (v : World). v.outgoing.to_tell) same)
-row_tells_nothing o me (call.ImportMem t slot page) w =
+row_tells_nothing o me (call.ImportMem t slot page count) w =
     let x : Input = input_in (o.bundles slot) in
-    let same = takes_leave t (arrivals x.header.gpa page x.words (page_count None)) w in
+    let same = takes_leave t (arrivals x.header.gpa page x.words (page_count count)) w in
     (ap (λ (v : World). v.outgoing.told) same, ap (λ (v : World). v.outgoing.to_tell) same)
 row_tells_nothing o me _ w = (refl, refl)
 

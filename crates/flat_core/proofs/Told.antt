@@ -37,10 +37,10 @@ row_tells : (o : Opening) (me : ℕ) (c : Call) (w : World) → ((row_of o me c)
 row_tells o me (call.HostRead page i) w = refl
 row_tells o me (call.ExportTrack t slot zero) w = refl
 row_tells o me (call.ExportTrack t slot (suc n)) w = refl
-row_tells o me (call.ExportMem t gpa k slot) w = ap (λ (v : World). v.outgoing.told)
-    (each_leaves t k (gpas_from gpa (page_count None)) (made_first t gpa k slot None w))
-row_tells o me (call.ImportMem t slot page) w = let x : Input = input_in (o.bundles slot) in ap (λ (v : World). v.outgoing.told)
-    (takes_leave t (arrivals x.header.gpa page x.words (page_count None)) w)
+row_tells o me (call.ExportMem t gpa k slot count) w = ap (λ (v : World). v.outgoing.told)
+    (each_leaves t k (gpas_from gpa (page_count count)) (made_first t gpa k slot count w))
+row_tells o me (call.ImportMem t slot page count) w = let x : Input = input_in (o.bundles slot) in ap (λ (v : World). v.outgoing.told)
+    (takes_leave t (arrivals x.header.gpa page x.words (page_count count)) w)
 row_tells o me _ w = refl
 
 call_tells : (o : Opening) (me : ℕ) (c : Call) (move : Move Reply) (w : World) → (world_after (OfCall (row_of o me c) move) w).outgoing.told ≡ w.outgoing.told

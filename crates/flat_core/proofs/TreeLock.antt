@@ -127,16 +127,16 @@ tries_in_order o (call.ExportPause t) w = tree_first t [] tt
 tries_in_order o (call.ExportAbort t) w = tree_first t [] tt
 tries_in_order o (call.ExportRestore t gpa) w = tree_first t (None ∷ []) (tt, tt)
 tries_in_order o (call.ExportStateImmutable t slot) w = (tt, (tt, (tt, tt)))
-tries_in_order o (call.ExportMem t gpa k slot) w = tree_first t (Some (OfEpoch t) ∷ exports_kinds w t k (gpas_from gpa (page_count None)))
-    (tt, export_pages_behind w t k (gpas_from gpa (page_count None)) (Some (OfEpoch t) ∷ Some (OfTree t) ∷ Some (OfOp t) ∷ None ∷ []))
+tries_in_order o (call.ExportMem t gpa k slot count) w = tree_first t (Some (OfEpoch t) ∷ exports_kinds w t k (gpas_from gpa (page_count count)))
+    (tt, export_pages_behind w t k (gpas_from gpa (page_count count)) (Some (OfEpoch t) ∷ Some (OfTree t) ∷ Some (OfOp t) ∷ None ∷ []))
 tries_in_order o (call.ExportTrack t slot start) w = tree_first t [] tt
 tries_in_order o (call.ExportStateTd t slot) w = (tt, (tt, tt))
 tries_in_order o (call.ExportStateVp t vp slot) w = (tt, (tt, (tt, tt)))
 tries_in_order o (call.ExportAbortByToken t slot) w = tree_first t [] tt
 tries_in_order o (call.ImportStateImmutable t slot) w = (tt, (tt, (tt, tt)))
-tries_in_order o (call.ImportMem t slot page) w =
-    let x : Input = input_in (o.bundles slot) in tree_first t (fills_kinds w t (arrivals x.header.gpa page x.words (page_count None)))
-    (import_pages_behind w t (arrivals x.header.gpa page x.words (page_count None)) (Some (OfTree t) ∷ Some (OfOp t) ∷ None ∷ []))
+tries_in_order o (call.ImportMem t slot page count) w =
+    let x : Input = input_in (o.bundles slot) in tree_first t (fills_kinds w t (arrivals x.header.gpa page x.words (page_count count)))
+    (import_pages_behind w t (arrivals x.header.gpa page x.words (page_count count)) (Some (OfTree t) ∷ Some (OfOp t) ∷ None ∷ []))
 tries_in_order o (call.ImportTrack t slot) w = tree_first t [] tt
 tries_in_order o (call.ImportStateTd t slot) w = (tt, (tt, tt))
 tries_in_order o (call.ImportStateVp t vp slot) w = (tt, (tt, (tt, tt)))
@@ -155,13 +155,13 @@ same_fills t (suc n) g h p q f e v w = ap (λ (ls : List (Option LockId)). None 
     (same_fills t n (g + 4096) (h + 4096) (p + 1) (q + 1) (λ i. f (512 + i)) (λ i. e (512 + i)) v w)
 
 pub kinds_same : (c : Call) (o q : Opening) (v w : World) → kinds (tries_of o c v) ≡ kinds (tries_of q c w)
-kinds_same (call.ExportMem t gpa k slot) o q v w = ap (λ (ls : List (Option LockId)). None ∷ Some (OfOp t) ∷ Some (OfTree t) ∷ Some (OfEpoch t) ∷ ls)
-    (same_exports t k (gpas_from gpa (page_count None)) v w)
-kinds_same (call.ImportMem t slot page) o q v w =
+kinds_same (call.ExportMem t gpa k slot count) o q v w = ap (λ (ls : List (Option LockId)). None ∷ Some (OfOp t) ∷ Some (OfTree t) ∷ Some (OfEpoch t) ∷ ls)
+    (same_exports t k (gpas_from gpa (page_count count)) v w)
+kinds_same (call.ImportMem t slot page count) o q v w =
     let x : Input = input_in (o.bundles slot) in
     let y : Input = input_in (q.bundles slot) in
     ap (λ (ls : List (Option LockId)). None ∷ Some (OfOp t) ∷ Some (OfTree t) ∷ ls)
-    (same_fills t (page_count None) x.header.gpa y.header.gpa page page x.words y.words v w)
+    (same_fills t (page_count count) x.header.gpa y.header.gpa page page x.words y.words v w)
 kinds_same (call.HostRead page word) o q v w = refl
 kinds_same _ o q v w = refl
 

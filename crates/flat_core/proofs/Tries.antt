@@ -32,10 +32,9 @@ use Rattle.flat_core.specs.Inputs.{Input, input_in, input_row, tag_holds}
 use Rattle.flat_core.specs.Table.{row_of, most_tries}
 use Rattle.flat_core.specs.Bounds.{RowsTryFew}
 use Rattle.flat_core.specs.Laws.{RowsTryTheSame}
-use Rattle.flat_core.specs.Tries.{tries, shared, alone, td_tries, named_tries, tries_of, RowTries, RowsTryTheirLists}
-use Rattle.flat_core.specs.ListTries.{list_export_tries, list_page_tries}
+use Rattle.flat_core.specs.Tries.{tries, shared, alone, td_tries, named_tries, export_tries, page_tries, tries_of, RowTries, RowsTryTheirLists}
 use Rattle.flat_core.proofs.ImportFills.{fill_tries}
-use Rattle.flat_core.proofs.PageLists.{gpas_many, arrivals_many}
+use Rattle.flat_core.proofs.PageLists.{few_pages, gpas_many, arrivals_many}
 
 -- a walk is conditions alone
 conditions_try_nothing : (b : ℕ → Bool) (r : ℕ → Reply) (ls : List ℕ) → tries (map (λ l. Check (b l) (r l)) ls) ≡ []
@@ -101,7 +100,7 @@ fills_tried w t locked (a ∷ pages) rest none =
     ∙ ap (λ (hs : List Held). alone (OfPage (page_filled w t a)) ∷ hs) (fills_tried w t (page_filled w t a ∷ locked) pages rest none))
 
 export_tried : (m : Machine) (t gpa k slot : ℕ) (count : Option ℕ)
-    → RowTries (export_pages m t gpa k slot count) (λ w. list_export_tries w t k (gpas_from gpa (page_count count)))
+    → RowTries (export_pages m t gpa k slot count) (λ w. export_tries w t k (gpas_from gpa (page_count count)))
 export_tried m t gpa k slot count w =
     let gpas : List ℕ = gpas_from gpa (page_count count) in
     let last : List (Item Reply) = page_exclusive (stream_page w t k) ∷ counter_room w t k ∷ tracked_in (w.tds.ops t) w t gpas in
@@ -113,7 +112,7 @@ export_tried m t gpa k slot count w =
     (tracked_tries_nothing (w.tds.ops t) w t gpas)))
 
 import_tried : (m : Machine) (b : Option Incoming) (t slot page : ℕ) (count : Option ℕ)
-    → RowTries (import_pages m b t slot page count) (let x = input_in b in list_page_tries t (arrivals x.header.gpa page x.words (page_count count)))
+    → RowTries (import_pages m b t slot page count) (let x = input_in b in page_tries t (arrivals x.header.gpa page x.words (page_count count)))
 import_tried m b t slot page count w =
     let x : Input = input_in b in
     let h : ClearHeader = x.header in
@@ -145,10 +144,10 @@ rows_try_lists o me (call.MemSeptRemove t gpa level) w =
 rows_try_lists o me (call.MemRangeBlock t gpa level) w = named_lists w t gpa level open_states []
 rows_try_lists o me (call.MemRangeUnblock t gpa level) w =
     named_lists w t gpa level blocked_states (tracked_page w t (entry_at w t level gpa).page ∷ [])
-rows_try_lists o me (call.ExportMem t gpa k slot) w = export_tried o.machine t gpa k slot None w
+rows_try_lists o me (call.ExportMem t gpa k slot count) w = export_tried o.machine t gpa k slot count w
 rows_try_lists o me (call.ExportTrack t slot zero) w = refl
 rows_try_lists o me (call.ExportTrack t slot (suc n)) w = refl
-rows_try_lists o me (call.ImportMem t slot page) w = import_tried o.machine (o.bundles slot) t slot page None w
+rows_try_lists o me (call.ImportMem t slot page count) w = import_tried o.machine (o.bundles slot) t slot page count w
 rows_try_lists o me (call.HostRead page word) w = refl
 rows_try_lists o me _ w = refl
 
@@ -160,7 +159,7 @@ tries_counted (Check b r ∷ items) = tries_counted items
 tries_counted (Try l m ∷ items) = let rest = tries_counted items in omega (arith, rest)
 
 -- a list of pages has five locks besides, or three
-pub export_many : (t gpa k : ℕ) (count : Option ℕ) (w : World) → length (list_export_tries w t k (gpas_from gpa (page_count count))) ≡ page_count count + 5
+pub export_many : (t gpa k : ℕ) (count : Option ℕ) (w : World) → length (export_tries w t k (gpas_from gpa (page_count count))) ≡ page_count count + 5
 export_many t gpa k count w =
     let gpas : List ℕ = gpas_from gpa (page_count count) in
     let pages : List Held = map (λ g. alone (OfPage (entry_at w t 0 g).page)) gpas in
@@ -170,7 +169,7 @@ export_many t gpa k count w =
     omega (arith, a, b, c)
 
 pub import_many : (t gpa page : ℕ) (words : ℕ → ℕ) (count : Option ℕ) (w : World)
-    → length (list_page_tries t (arrivals gpa page words (page_count count)) w) ≡ page_count count + 3
+    → length (page_tries t (arrivals gpa page words (page_count count)) w) ≡ page_count count + 3
 import_many t gpa page words count w =
     let pages : List Arrival = arrivals gpa page words (page_count count) in
     let b = length-map pages (λ (a : Arrival). alone (OfPage (page_filled w t a))) in
@@ -187,10 +186,20 @@ few_tries o (call.MngRd t field.Life) w = omega arith
 few_tries o (call.MngRd t field.Op) w = omega arith
 few_tries o (call.MngRd t field.Epoch) w = omega arith
 few_tries o (call.MngRd t field.Mrtd) w = omega arith
+few_tries o (call.ExportMem t gpa k slot count) w = let few = few_pages count in let many = export_many t gpa k count w in omega (arith, few, many)
+few_tries o (call.ImportMem t slot page count) w =
+    let x : Input = input_in (o.bundles slot) in
+    let few = few_pages count in
+    let many = import_many t x.header.gpa page x.words count w in
+    omega (arith, few, many)
 few_tries o _ w = omega arith
 
 same_count : (o : Opening) (c : Call) (v w : World) → length (tries_of o c v) ≡ length (tries_of o c w)
 same_count o (call.HostRead page word) v w = refl
+same_count o (call.ExportMem t gpa k slot count) v w = export_many t gpa k count v ∙ sym (export_many t gpa k count w)
+same_count o (call.ImportMem t slot page count) v w =
+    let x : Input = input_in (o.bundles slot) in
+    import_many t x.header.gpa page x.words count v ∙ sym (import_many t x.header.gpa page x.words count w)
 same_count o _ v w = refl
 
 pub row_tries : RowsTryFew

@@ -149,7 +149,7 @@ storing = Set 1 44 ∷ Store 1 8 ∷ Vmcall 1 ∷ []
 
 abbrev pub exports_page : List Call
 exports_page =
-    MigStreamCreate 1 9 ∷ ExportStateImmutable 1 0 ∷ VpEnter 1 4 1 ∷ ExportBlockw 1 0 ∷ MemTrack 1 ∷ ExportMem 1 0 0 1 ∷ VpEnter 1 4 9 ∷ ExportUnblockw 1 0 ∷ VpEnter 1 4 9 ∷ ExportPause 1 ∷ VpEnter 1 4 9 ∷ ExportTrack 1 2 0 ∷ ExportMem 1 0 0 3 ∷ []
+    MigStreamCreate 1 9 ∷ ExportStateImmutable 1 0 ∷ VpEnter 1 4 1 ∷ ExportBlockw 1 0 ∷ MemTrack 1 ∷ ExportMem 1 0 0 1 None ∷ VpEnter 1 4 9 ∷ ExportUnblockw 1 0 ∷ VpEnter 1 4 9 ∷ ExportPause 1 ∷ VpEnter 1 4 9 ∷ ExportTrack 1 2 0 ∷ ExportMem 1 0 0 3 None ∷ []
 
 -- word 1 of each page in a bundle
 abbrev pub second_words : List GuestOp → List Call → List ℕ

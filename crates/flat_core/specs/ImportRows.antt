@@ -24,7 +24,7 @@ use Rattle.flat_core.specs.Tree.{page_of_gpa, number_at, entry_at, walk, state_i
 use Rattle.flat_core.specs.Effects.{set_page, map_page, begin_memory, set_op, add_bundle}
 use Rattle.flat_core.specs.ExportRows.{image_of}
 use Rattle.flat_core.specs.Sessions.{stream_counter, bundles_so_far, has_stream, count_bundle, set_mig_epoch}
-use Rattle.flat_core.specs.PageLists.{page_count, count_argument, pages_argument, Arrival, arrivals}
+use Rattle.flat_core.specs.PageLists.{page_count, bundle_version, count_argument, pages_argument, Arrival, arrivals}
 use Rattle.flat_core.specs.Inputs.{Input, input_in, no_header, input_row, header_says, stream_there, session_same, epoch_same, counter_due, tag_holds}
 
 -- the operation states in which a session begins, its memory comes in, and its TD and VCPU states come in; in which an import
@@ -121,10 +121,13 @@ abbrev pub take_each : (tdr : ℕ) → List Arrival → World → World
 take_each t [] w = w
 take_each t (a ∷ pages) w = take_each t pages (take_in t a w)
 
--- A list's bundle is one of version 2 that says COUNT; as long as no such bundle is read, every other is of version 1
+-- its bundle is of the version that COUNT asks for, and a list's says COUNT
+abbrev pub count_says : ClearHeader → Option ℕ → List (Item Reply)
+count_says h None = []
+count_says h (Some n) = header_says (h.info == n) field.Count ∷ []
+
 abbrev pub list_says : ClearHeader → Option ℕ → List (Item Reply)
-list_says h None = []
-list_says h (Some n) = header_says (h.version == 2) field.Version ∷ header_says (h.info == n) field.Count ∷ []
+list_says h count = header_says (h.version == bundle_version count) field.Version ∷ count_says h count
 
 -- what is asked behind the arguments and the bundle's form
 abbrev pub import_conditions : World → (tdr : ℕ) → Input → List Arrival → List (Item Reply)

@@ -67,7 +67,7 @@ begun = prepared ++ ImportStateImmutable 1 0 ∷ VpCreate 1 4 ∷ MemSeptAdd 1 0
 -- The first page comes twice; the second time it is there already, so the page that is offered stays the host's.
 abbrev pub importing : List Call
 importing =
-    begun ++ ImportMem 1 1 8 ∷ ImportTrack 1 2 ∷ ImportMem 1 3 13 ∷ ImportMem 1 4 9 ∷ ImportStateTd 1 5 ∷ ImportStateVp 1 4 6 ∷ ImportTrack 1 7
+    begun ++ ImportMem 1 1 8 None ∷ ImportTrack 1 2 ∷ ImportMem 1 3 13 None ∷ ImportMem 1 4 9 None ∷ ImportStateTd 1 5 ∷ ImportStateVp 1 4 6 ∷ ImportTrack 1 7
     ∷ ImportCommit 1 ∷ ImportEnd 1 ∷ []
 
 abbrev pub imported : SoFar
@@ -112,19 +112,19 @@ pub record ImportExamples : Type 0 where
   pub noted : option_map positions (imported.world.hidden.given 1) ≡ option_map positions (source.hidden.paused 1)
   pub session : imported.world.key_table.last_imported ∷ imported.world.tds.sessions 1 ∷ imported.world.tds.mig_epochs 1 ∷ [] ≡ 1 ∷ 1 ∷ 0xffffffff ∷ []
   -- each bundle has its place in the order: a page waits for the token before it, a token for all bundles before it
-  pub out_of_order : after_begun (ImportMem 1 3 8 ∷ ImportTrack 1 7 ∷ ImportTrack 1 2 ∷ ImportMem 1 1 8 ∷ ImportMem 1 1 8 ∷ ImportTrack 1 2 ∷ ImportMem 1 4 9 ∷ ImportMem 1 3 10 ∷ ImportStateVp 1 4 6 ∷ ImportStateTd 1 5 ∷ ImportStateTd 1 5 ∷ ImportMem 1 1 8 ∷ [])
+  pub out_of_order : after_begun (ImportMem 1 3 8 None ∷ ImportTrack 1 7 ∷ ImportTrack 1 2 ∷ ImportMem 1 1 8 None ∷ ImportMem 1 1 8 None ∷ ImportTrack 1 2 ∷ ImportMem 1 4 9 None ∷ ImportMem 1 3 10 None ∷ ImportStateVp 1 4 6 ∷ ImportStateTd 1 5 ∷ ImportStateTd 1 5 ∷ ImportMem 1 1 8 None ∷ [])
       ≡ Refused (BundleHeader field.Epoch) ∷ Refused (OpStateIncorrect op.MemoryImport) ∷ Refused (TokenTotal 1 2) ∷ success ∷ Refused (BundleCounter 1 0) ∷ success ∷ success ∷ success
       ∷ Refused (OpStateIncorrect op.MemoryImport) ∷ success ∷ Refused (OpStateIncorrect op.StateImport) ∷ Refused (BundleHeader field.Epoch) ∷ []
   -- a virtual processor's state comes once; then the start token, after which no page comes; and the TD is committed and ended
-  pub last_steps : after_begun (ImportMem 1 1 8 ∷ ImportTrack 1 2 ∷ ImportMem 1 3 8 ∷ ImportMem 1 4 9 ∷ ImportStateTd 1 5 ∷ ImportStateVp 1 4 6 ∷ ImportStateVp 1 4 6 ∷ ImportCommit 1 ∷ ImportTrack 1 7 ∷ ImportMem 1 4 10 ∷ ImportEnd 1 ∷ ImportCommit 1 ∷ ImportCommit 1 ∷ ImportEnd 1 ∷ [])
+  pub last_steps : after_begun (ImportMem 1 1 8 None ∷ ImportTrack 1 2 ∷ ImportMem 1 3 8 None ∷ ImportMem 1 4 9 None ∷ ImportStateTd 1 5 ∷ ImportStateVp 1 4 6 ∷ ImportStateVp 1 4 6 ∷ ImportCommit 1 ∷ ImportTrack 1 7 ∷ ImportMem 1 4 10 None ∷ ImportEnd 1 ∷ ImportCommit 1 ∷ ImportCommit 1 ∷ ImportEnd 1 ∷ [])
       ≡ replicate 6 success ++ Refused (VcpuStateIncorrect vcpu.Ready) ∷ Refused (OpStateIncorrect op.StateImport) ∷ success ∷ Refused (OpStateIncorrect op.PostImport) ∷ Refused (OpStateIncorrect op.PostImport)
       ∷ success ∷ Refused (OpStateIncorrect op.LiveImport) ∷ success ∷ []
   -- each kind of bundle has its call, and each slot its bundle; a page that is taken is the host's; and the TD has as many
   -- virtual processors as the first bundle says
-  pub not_this_bundle : after_begun (ImportMem 1 0 8 ∷ ImportMem 1 9 8 ∷ ImportStateTd 1 1 ∷ ImportMem 1 1 1 ∷ ImportMem 1 1 32 ∷ ImportMem 1 1 4 ∷ ImportCommit 1 ∷ ImportEnd 1 ∷ VpInit 1 4 0 ∷ VpCreate 1 8 ∷ [])
+  pub not_this_bundle : after_begun (ImportMem 1 0 8 None ∷ ImportMem 1 9 8 None ∷ ImportStateTd 1 1 ∷ ImportMem 1 1 1 None ∷ ImportMem 1 1 32 None ∷ ImportMem 1 1 4 None ∷ ImportCommit 1 ∷ ImportEnd 1 ∷ VpInit 1 4 0 ∷ VpCreate 1 8 ∷ [])
       ≡ Refused (BundleHeader field.Kind) ∷ Refused (NoBundle 9) ∷ Refused (BundleHeader field.Kind) ∷ Refused (OperandInvalid 3) ∷ Refused (OperandInvalid 3) ∷ Refused (PageMetadataIncorrect 4)
       ∷ Refused (OpStateIncorrect op.MemoryImport) ∷ Refused (OpStateIncorrect op.MemoryImport) ∷ Refused (OpStateIncorrect op.MemoryImport) ∷ Refused (Limit Vcpus) ∷ []
-  pub no_map : after_prepared destination (ImportStateImmutable 1 0 ∷ ImportMem 1 1 8 ∷ []) ≡ success ∷ Refused (EptWalkFailed 3) ∷ []
+  pub no_map : after_prepared destination (ImportStateImmutable 1 0 ∷ ImportMem 1 1 8 None ∷ []) ≡ success ∷ Refused (EptWalkFailed 3) ∷ []
   -- a session is imported once, over a stream
   pub once : after_begun_of_two (ImportStateImmutable 1 0 ∷ MngCreate 20 2 ∷ MngKeyConfig 20 ∷ MngAddcx 20 21 ∷ MngAddcx 20 22 ∷ ImportStateImmutable 20 0 ∷ MigStreamCreate 20 23 ∷ ImportStateImmutable 20 0 ∷ [])
       ≡ Refused (OpStateIncorrect op.MemoryImport) ∷ (replicate 4 success ++ Refused (NoStream 0) ∷ success ∷ Refused (BundleHeader field.Session) ∷ [])
@@ -132,5 +132,5 @@ pub record ImportExamples : Type 0 where
   pub tag : after_prepared tampered (ImportStateImmutable 1 0 ∷ MngRd 1 Op ∷ []) ≡ Refused BundleTag ∷ Done (value.Op op.Uninitialized) ∷ []
   pub form : after_prepared misshapen (ImportStateImmutable 1 0 ∷ MngRd 1 Op ∷ []) ≡ Refused (BundleHeader field.Value) ∷ Done (value.Op op.Uninitialized) ∷ []
   -- an import that is given up makes a token, by which the source runs on
-  pub abandoned : after_begun (ImportMem 1 1 8 ∷ ImportAbort 1 30 ∷ ImportMem 1 1 9 ∷ ImportAbort 1 31 ∷ []) ≡ success ∷ success ∷ Refused (OpStateIncorrect op.FailedImport) ∷ Refused (OpStateIncorrect op.FailedImport) ∷ []
+  pub abandoned : after_begun (ImportMem 1 1 8 None ∷ ImportAbort 1 30 ∷ ImportMem 1 1 9 None ∷ ImportAbort 1 31 ∷ []) ≡ success ∷ success ∷ Refused (OpStateIncorrect op.FailedImport) ∷ Refused (OpStateIncorrect op.FailedImport) ∷ []
   pub runs_on : back_at_the_source (ExportAbortByToken 1 0 ∷ ExportAbortByToken 1 30 ∷ ExportAbortByToken 1 30 ∷ MngRd 1 Op ∷ []) ≡ Refused (NoBundle 0) ∷ success ∷ Refused (OpStateIncorrect op.Runnable) ∷ Done (value.Op op.Runnable) ∷ []

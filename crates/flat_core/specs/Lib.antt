@@ -24,7 +24,6 @@ pub mod BundleRows
 pub mod ImportRows
 pub mod Table
 pub mod Tries
-pub mod ListTries
 pub mod Guest
 pub mod Event
 pub mod Run

@@ -1,5 +1,5 @@
 -- What each call tries: its locks in order, each with its mode.
-use Rattle.std.specs.Prelude.{◌≡◌, ℕ, List, [], ◌∷◌, ◌++◌, ◌==◌, if◌then◌else◌}
+use Rattle.std.specs.Prelude.{◌≡◌, ℕ, List, [], ◌∷◌, ◌++◌, ◌==◌, if◌then◌else◌, map}
 use Rattle.td_words.specs.declared.names.Mode.{Mode}
 use Rattle.td_words.specs.declared.names.Mode.TheVariants.{Shared, Exclusive}
 use Rattle.td_words.specs.declared.names.ReadField.{ReadField}
@@ -13,7 +13,8 @@ use Rattle.flat_core.specs.Row.{Item, Check, Try, Row}
 use Rattle.flat_core.specs.Tree.{entry_at}
 use Rattle.flat_core.specs.Sessions.{stream_page}
 use Rattle.flat_core.specs.Inputs.{input_in}
-use Rattle.flat_core.specs.ImportRows.{filled_page}
+use Rattle.flat_core.specs.PageLists.{page_count, gpas_from, Arrival, arrivals}
+use Rattle.flat_core.specs.ImportRows.{page_filled}
 use Rattle.flat_core.specs.Table.{row_of}
 
 -- the tries of a row, whether or not its conditions hold
@@ -52,13 +53,14 @@ named_tries w t gpa level = td_tries t Shared ++ alone (OfTree t) ∷ shared (Of
 abbrev pub opened_tries : World → (tdr gpa : ℕ) → List Held
 opened_tries w t gpa = td_tries t Shared ++ alone (OfTree t) ∷ alone (OfPage (entry_at w t 0 gpa).page) ∷ []
 
--- of the row that exports a page, on a stream
-abbrev pub export_tries : World → (tdr gpa stream : ℕ) → List Held
-export_tries w t gpa k =
-    td_tries t Shared ++ shared (OfTree t) ∷ shared (OfEpoch t) ∷ alone (OfPage (entry_at w t 0 gpa).page) ∷ alone (OfPage (stream_page w t k)) ∷ []
+-- of the row that exports pages, on a stream: each page's lock, in GPA order
+abbrev pub export_tries : World → (tdr stream : ℕ) → List ℕ → List Held
+export_tries w t k gpas =
+    td_tries t Shared ++ shared (OfTree t) ∷ shared (OfEpoch t)
+    ∷ (map (λ gpa. alone (OfPage (entry_at w t 0 gpa).page)) gpas ++ alone (OfPage (stream_page w t k)) ∷ [])
 
--- of the rows of an import, and of others like them; IMPORT.MEM tries the page that it takes, or the one that the entry of its
--- bundle's GPA names
+-- of the rows of an import, and of others like them; IMPORT.MEM tries each page that it takes, or that the
+-- entry of its GPA names
 abbrev pub begin_tries : ℕ → List Held
 begin_tries t = td_tries t Exclusive ++ alone OfKeys ∷ []
 
@@ -71,8 +73,8 @@ tree_tries t = td_tries t Exclusive ++ alone (OfTree t) ∷ []
 abbrev pub vp_tries : (tdr vp : ℕ) → List Held
 vp_tries t v = td_tries t Exclusive ++ alone (OfPage v) ∷ []
 
-abbrev pub page_tries : (tdr gpa page : ℕ) → World → List Held
-page_tries t gpa page w = let e = entry_at w t 0 gpa in td_tries t Shared ++ alone (OfTree t) ∷ alone (OfPage (filled_page page e.state e.page)) ∷ []
+abbrev pub page_tries : (tdr : ℕ) → List Arrival → World → List Held
+page_tries t pages w = td_tries t Shared ++ alone (OfTree t) ∷ map (λ a. alone (OfPage (page_filled w t a))) pages
 
 -- The table of tries, a line a call. A line looks at the world where the page is tried that an entry names, or that of a stream;
 -- and at the bundle that came in, where it has the entry's GPA.
@@ -112,13 +114,13 @@ tries_of o (call.ExportPause tdr) w = pause_tries tdr
 tries_of o (call.ExportAbort tdr) w = td_tries tdr Exclusive ++ alone (OfTree tdr) ∷ []
 tries_of o (call.ExportRestore tdr gpa) w = opened_tries w tdr gpa
 tries_of o (call.ExportStateImmutable tdr slot) w = td_tries tdr Exclusive ++ alone OfKeys ∷ []
-tries_of o (call.ExportMem tdr gpa stream slot) w = export_tries w tdr gpa stream
+tries_of o (call.ExportMem tdr gpa stream slot count) w = export_tries w tdr stream (gpas_from gpa (page_count count))
 tries_of o (call.ExportTrack tdr slot start) w = td_tries tdr Exclusive ++ alone (OfTree tdr) ∷ []
 tries_of o (call.ExportStateTd tdr slot) w = td_tries tdr Exclusive
 tries_of o (call.ExportStateVp tdr vp slot) w = vp_tries tdr vp
 tries_of o (call.ExportAbortByToken tdr slot) w = tree_tries tdr
 tries_of o (call.ImportStateImmutable tdr slot) w = begin_tries tdr
-tries_of o (call.ImportMem tdr slot page) w = page_tries tdr (input_in (o.bundles slot)).header.gpa page w
+tries_of o (call.ImportMem tdr slot page count) w = let x = input_in (o.bundles slot) in page_tries tdr (arrivals x.header.gpa page x.words (page_count count)) w
 tries_of o (call.ImportTrack tdr slot) w = tree_tries tdr
 tries_of o (call.ImportStateTd tdr slot) w = op_tries tdr
 tries_of o (call.ImportStateVp tdr vp slot) w = vp_tries tdr vp

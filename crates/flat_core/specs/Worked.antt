@@ -132,14 +132,14 @@ bundles_by calls = map bundle_line (bundles_in (run (usual_opening (calls ∷ []
 
 -- it is exported running over one stream, and its page is blocked for writing, tracked and exported
 abbrev pub exporting_running : List Call
-exporting_running = running ++ MigStreamCreate 1 9 ∷ ExportStateImmutable 1 0 ∷ ExportBlockw 1 0 ∷ MemTrack 1 ∷ ExportMem 1 0 0 1 ∷ []
+exporting_running = running ++ MigStreamCreate 1 9 ∷ ExportStateImmutable 1 0 ∷ ExportBlockw 1 0 ∷ MemTrack 1 ∷ ExportMem 1 0 0 1 None ∷ []
 
 -- A TD with two pages is exported over two streams. The page that is exported while it runs is dirty once it isn't blocked any
 -- more, and is exported anew in the next epoch, when the TD is paused; the other one is without having been blocked.
 abbrev pub exporting_pages : List Call
 exporting_pages =
-    HostWrite 0 0 7 ∷ (built ++ HostWrite 0 0 5 ∷ MemPageAdd 1 4096 10 0 ∷ MrFinalize 1 ∷ MigStreamCreate 1 11 ∷ MigStreamCreate 1 12 ∷ ExportStateImmutable 1 0 ∷ ExportBlockw 1 0 ∷ MemTrack 1 ∷ ExportMem 1 0 1 1 ∷ ExportUnblockw 1 0
-    ∷ ExportPause 1 ∷ ExportTrack 1 2 0 ∷ ExportMem 1 0 0 3 ∷ ExportMem 1 4096 1 4 ∷ ExportStateTd 1 5 ∷ ExportStateVp 1 4 6 ∷ ExportTrack 1 7 1 ∷ [])
+    HostWrite 0 0 7 ∷ (built ++ HostWrite 0 0 5 ∷ MemPageAdd 1 4096 10 0 ∷ MrFinalize 1 ∷ MigStreamCreate 1 11 ∷ MigStreamCreate 1 12 ∷ ExportStateImmutable 1 0 ∷ ExportBlockw 1 0 ∷ MemTrack 1 ∷ ExportMem 1 0 1 1 None ∷ ExportUnblockw 1 0
+    ∷ ExportPause 1 ∷ ExportTrack 1 2 0 ∷ ExportMem 1 0 0 3 None ∷ ExportMem 1 4096 1 4 None ∷ ExportStateTd 1 5 ∷ ExportStateVp 1 4 6 ∷ ExportTrack 1 7 1 ∷ [])
 
 -- of a page's bundle its slot; its stream, counter, epoch and GPA; the page's first word, and how many it has
 abbrev pub page_line : Made → List ℕ
@@ -151,7 +151,7 @@ pages_by calls = map page_line (filter (λ b. b.header.kind == 3) (bundles_in (r
 -- what follows where one page was exported and is dirty, another one never was exported, and their TD is paused
 abbrev pub after_dirtied : List Call → List Reply
 after_dirtied calls =
-    drop 20 (answers_to (built ++ MemPageAdd 1 4096 10 0 ∷ MrFinalize 1 ∷ MigStreamCreate 1 9 ∷ ExportStateImmutable 1 0 ∷ ExportBlockw 1 0 ∷ MemTrack 1 ∷ ExportMem 1 0 0 1 ∷ ExportUnblockw 1 0 ∷ ExportPause 1 ∷ calls))
+    drop 20 (answers_to (built ++ MemPageAdd 1 4096 10 0 ∷ MrFinalize 1 ∷ MigStreamCreate 1 9 ∷ ExportStateImmutable 1 0 ∷ ExportBlockw 1 0 ∷ MemTrack 1 ∷ ExportMem 1 0 0 1 None ∷ ExportUnblockw 1 0 ∷ ExportPause 1 ∷ calls))
 
 abbrev pub built_items : List ℕ
 built_items = replicate 75 0
@@ -297,28 +297,28 @@ pub record Examples : Type 0 where
       ∷ (4 ∷ 3 ∷ 1 ∷ 2 ∷ 1 ∷ 0 ∷ 0 ∷ 512 ∷ []) ∷ (5 ∷ 1 ∷ 3 ∷ 2 ∷ 1 ∷ 0 ∷ 0 ∷ 24 ∷ []) ∷ (6 ∷ 2 ∷ 4 ∷ 2 ∷ 1 ∷ 0 ∷ 0 ∷ 8 ∷ []) ∷ (7 ∷ 5 ∷ 5 ∷ 0xffffffff ∷ 1 ∷ 0 ∷ 7 ∷ 0 ∷ []) ∷ []
   -- while the TD is exported running, its page is blocked for writing first, and the block tracked; it is exported once in an
   -- epoch, and only where it is dirty since
-  pub page_in_order : after_running (ExportMem 1 0 0 0 ∷ MigStreamCreate 1 9 ∷ ExportStateImmutable 1 1 ∷ ExportMem 1 0 0 2 ∷ ExportBlockw 1 0 ∷ ExportMem 1 0 1 3 ∷ ExportMem 1 0 0 4 ∷ MemTrack 1 ∷ ExportMem 1 0 0 5 ∷ MemSeptRd 1 0 0
-      ∷ ExportMem 1 0 0 6 ∷ ExportTrack 1 7 0 ∷ ExportMem 1 0 0 8 ∷ ExportUnblockw 1 0 ∷ MemSeptRd 1 0 0 ∷ ExportMem 1 0 0 9 ∷ ExportBlockw 1 0 ∷ MemTrack 1 ∷ ExportMem 1 0 0 10 ∷ ExportUnblockw 1 0 ∷ ExportBlockw 1 0 ∷ MemTrack 1
-      ∷ MemSeptRd 1 0 0 ∷ ExportMem 1 0 0 11 ∷ [])
+  pub page_in_order : after_running (ExportMem 1 0 0 0 None ∷ MigStreamCreate 1 9 ∷ ExportStateImmutable 1 1 ∷ ExportMem 1 0 0 2 None ∷ ExportBlockw 1 0 ∷ ExportMem 1 0 1 3 None ∷ ExportMem 1 0 0 4 None ∷ MemTrack 1 ∷ ExportMem 1 0 0 5 None ∷ MemSeptRd 1 0 0
+      ∷ ExportMem 1 0 0 6 None ∷ ExportTrack 1 7 0 ∷ ExportMem 1 0 0 8 None ∷ ExportUnblockw 1 0 ∷ MemSeptRd 1 0 0 ∷ ExportMem 1 0 0 9 None ∷ ExportBlockw 1 0 ∷ MemTrack 1 ∷ ExportMem 1 0 0 10 None ∷ ExportUnblockw 1 0 ∷ ExportBlockw 1 0 ∷ MemTrack 1
+      ∷ MemSeptRd 1 0 0 ∷ ExportMem 1 0 0 11 None ∷ [])
       ≡ Refused (OpStateIncorrect op.Runnable) ∷ success ∷ success ∷ Refused (EptEntryStateIncorrect entry.Mapped) ∷ success ∷ Refused (NoStream 1) ∷ Refused TlbTrackingNotDone ∷ success ∷ success
       ∷ Done (Entry entry.ExportedBlockedW (Some 8)) ∷ Refused (EptEntryStateIncorrect entry.ExportedBlockedW) ∷ success ∷ Refused (EptEntryStateIncorrect entry.ExportedBlockedW) ∷ success
       ∷ Done (Entry entry.ExportedDirty (Some 8)) ∷ Refused (EptEntryStateIncorrect entry.ExportedDirty) ∷ success ∷ success ∷ success ∷ success ∷ success ∷ success
       ∷ Done (Entry entry.ExportedDirtyBlockedW (Some 8)) ∷ Refused ExportedThisEpoch ∷ []
   -- the start token comes once each state has been exported, which is asked first, and no page is dirty; one that never was
   -- exported isn't asked for
-  pub dirty_pages : after_dirtied (ExportTrack 1 2 1 ∷ ExportMem 1 0 0 3 ∷ ExportStateTd 1 4 ∷ ExportStateVp 1 4 5 ∷ ExportTrack 1 6 1 ∷ ExportTrack 1 7 0 ∷ ExportMem 1 0 0 8 ∷ ExportTrack 1 9 1 ∷ ExportMem 1 0 0 10 ∷ [])
+  pub dirty_pages : after_dirtied (ExportTrack 1 2 1 ∷ ExportMem 1 0 0 3 None ∷ ExportStateTd 1 4 ∷ ExportStateVp 1 4 5 ∷ ExportTrack 1 6 1 ∷ ExportTrack 1 7 0 ∷ ExportMem 1 0 0 8 None ∷ ExportTrack 1 9 1 ∷ ExportMem 1 0 0 10 None ∷ [])
       ≡ Refused (StateMissing 2) ∷ Refused ExportedThisEpoch ∷ success ∷ success ∷ Refused (DirtyPages 1) ∷ success ∷ success ∷ success ∷ Refused (OpStateIncorrect op.PostExport) ∷ []
-  pub dirty_last : after_dirtied (ExportTrack 1 2 0 ∷ ExportMem 1 0 0 3 ∷ ExportTrack 1 4 1 ∷ ExportStateTd 1 5 ∷ ExportStateVp 1 4 6 ∷ ExportTrack 1 7 1 ∷ [])
+  pub dirty_last : after_dirtied (ExportTrack 1 2 0 ∷ ExportMem 1 0 0 3 None ∷ ExportTrack 1 4 1 ∷ ExportStateTd 1 5 ∷ ExportStateVp 1 4 6 ∷ ExportTrack 1 7 1 ∷ [])
       ≡ success ∷ success ∷ Refused (StateMissing 2) ∷ success ∷ success ∷ success ∷ []
   -- a session begins again once each page that was exported is restored
-  pub restored_first : after_dirtied (MemSeptRd 1 0 0 ∷ ExportAbort 1 ∷ ExportMem 1 0 0 2 ∷ ExportStateImmutable 1 3 ∷ ExportRestore 1 0 ∷ ExportStateImmutable 1 4 ∷ MemSeptRd 1 0 0 ∷ [])
+  pub restored_first : after_dirtied (MemSeptRd 1 0 0 ∷ ExportAbort 1 ∷ ExportMem 1 0 0 2 None ∷ ExportStateImmutable 1 3 ∷ ExportRestore 1 0 ∷ ExportStateImmutable 1 4 ∷ MemSeptRd 1 0 0 ∷ [])
       ≡ Done (Entry entry.ExportedDirty (Some 8)) ∷ success ∷ Refused (OpStateIncorrect op.Runnable) ∷ Refused (UnrestoredPages 1) ∷ success ∷ success ∷ Done (Entry entry.Mapped (Some 8)) ∷ []
   -- a paused TD's page needn't have been blocked
-  pub paused_page : after_running (MigStreamCreate 1 9 ∷ ExportStateImmutable 1 0 ∷ ExportPause 1 ∷ ExportMem 1 0 0 1 ∷ MemSeptRd 1 0 0 ∷ ExportMem 1 0 0 2 ∷ ExportAbort 1 ∷ ExportStateImmutable 1 3 ∷ ExportRestore 1 0 ∷ ExportStateImmutable 1 4 ∷ [])
+  pub paused_page : after_running (MigStreamCreate 1 9 ∷ ExportStateImmutable 1 0 ∷ ExportPause 1 ∷ ExportMem 1 0 0 1 None ∷ MemSeptRd 1 0 0 ∷ ExportMem 1 0 0 2 None ∷ ExportAbort 1 ∷ ExportStateImmutable 1 3 ∷ ExportRestore 1 0 ∷ ExportStateImmutable 1 4 ∷ [])
       ≡ success ∷ success ∷ success ∷ success ∷ Done (Entry entry.ExportedBlockedW (Some 8)) ∷ Refused (EptEntryStateIncorrect entry.ExportedBlockedW) ∷ success ∷ Refused (UnrestoredPages 1) ∷ success ∷ success ∷ []
   -- ranges come first, then alignment; then whether the stream is there, before the map is looked at
-  pub page_operands : after_running (MigStreamCreate 1 9 ∷ ExportStateImmutable 1 0 ∷ ExportMem 32 0 0 1 ∷ ExportMem 1 0x800000000001 4 2 ∷ ExportMem 1 1 4 3 ∷ ExportMem 1 1 0 4 ∷ ExportMem 8 0 0 5 ∷ ExportMem 1 0x200000 1 6 ∷ ExportMem 1 0x200000 0 7
-      ∷ ExportMem 1 4096 0 8 ∷ [])
+  pub page_operands : after_running (MigStreamCreate 1 9 ∷ ExportStateImmutable 1 0 ∷ ExportMem 32 0 0 1 None ∷ ExportMem 1 0x800000000001 4 2 None ∷ ExportMem 1 1 4 3 None ∷ ExportMem 1 1 0 4 None ∷ ExportMem 8 0 0 5 None ∷ ExportMem 1 0x200000 1 6 None ∷ ExportMem 1 0x200000 0 7 None
+      ∷ ExportMem 1 4096 0 8 None ∷ [])
       ≡ success ∷ success ∷ Refused (OperandInvalid 1) ∷ Refused (OperandInvalid 2) ∷ Refused (OperandInvalid 3) ∷ Refused (OperandInvalid 2) ∷ Refused (PageMetadataIncorrect 8) ∷ Refused (NoStream 1) ∷ Refused (EptWalkFailed 1)
       ∷ Refused (EptEntryStateIncorrect entry.Free) ∷ []
   -- what is measured: that the page was added; and where a chunk of it is, and its bytes

@@ -121,9 +121,9 @@ module _ (o : Opening) (w : World) (t n : ℕ) where
   call_remembers me (call.MemPageRemove tdr gpa) = refl
   call_remembers me (call.ExportTrack tdr slot zero) = refl
   call_remembers me (call.ExportTrack tdr slot (suc n)) = refl
-  call_remembers me (call.ExportMem tdr gpa k slot) =
-      ap (λ (v : World). memory_at v t n) (each_leaves tdr k (gpas_from gpa (page_count None)) (made_first tdr gpa k slot None w))
-  call_remembers me (call.ImportMem tdr slot page) =
+  call_remembers me (call.ExportMem tdr gpa k slot count) =
+      ap (λ (v : World). memory_at v t n) (each_leaves tdr k (gpas_from gpa (page_count count)) (made_first tdr gpa k slot count w))
+  call_remembers me (call.ImportMem tdr slot page count) =
       let x : Input = input_in (o.bundles slot) in comes_in w tdr (record { gpa = x.header.gpa; page = page; words = x.words }) t n
   call_remembers me (call.HostRead page word) = refl
   call_remembers me _ = refl

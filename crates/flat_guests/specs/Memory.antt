@@ -29,7 +29,7 @@ memory_after_call o (call.MemPageAdd tdr gpa page source) w t n = if t == tdr &&
 memory_after_call o (call.PhymemPageReclaim tdr page) w t n =
     if same_kind (w.pages.kinds page) kind.Reg && (t == tdr && n == w.pages.numbers page) then None else memory_at w t n
 memory_after_call o (call.MemPageRemove tdr gpa) w t n = if t == tdr && n == page_of_gpa gpa then None else memory_at w t n
-memory_after_call o (call.ImportMem tdr slot page) w t n =
+memory_after_call o (call.ImportMem tdr slot page count) w t n =
     let x = input_in (o.bundles slot) in if t == tdr && n == page_of_gpa x.header.gpa then Some x.words else memory_at w t n
 memory_after_call o _ w t n = memory_at w t n
 

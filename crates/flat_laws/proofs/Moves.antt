@@ -173,11 +173,11 @@ module _ (o : Opening) (s : State) (me q : ℕ) (all : IsGuarded o s) where
     taken-waits (call.MemPageAug t gpa page) ps e = by_test (q == page)
         (λ y. inl (let a = eq-eqb t t refl in let b = eq-eqb (number_at 0 gpa) (number_at 0 gpa) refl in rw (y, a, b) refl))
         (λ n. absurd (host-not-private (w.pages.kinds q) (host_kind _ host) (rw n at e)))
-    taken-waits (call.ImportMem t slot page) ps e = import_pages-waits o.machine (o.bundles slot) t slot page None w q host ps e
-    taken-waits (call.ExportMem t gpa k slot) ps e =
+    taken-waits (call.ImportMem t slot page count) ps e = import_pages-waits o.machine (o.bundles slot) t slot page count w q host ps e
+    taken-waits (call.ExportMem t gpa k slot count) ps e =
         absurd
         (host-not-private (w.pages.kinds q) (host_kind _ host)
-        (sym (ap (λ (v : World). v.pages.kinds q) (each_leaves t k (gpas_from gpa (page_count None)) (made_first t gpa k slot None w))) ∙ e))
+        (sym (ap (λ (v : World). v.pages.kinds q) (each_leaves t k (gpas_from gpa (page_count count)) (made_first t gpa k slot count w))) ∙ e))
     taken-waits (call.ExportTrack t slot zero) ps e = absurd (host-not-private (w.pages.kinds q) (host_kind _ host) e)
     taken-waits (call.ExportTrack t slot (suc n)) ps e = absurd (host-not-private (w.pages.kinds q) (host_kind _ host) e)
     taken-waits _ ps e = absurd (host-not-private (w.pages.kinds q) (host_kind _ host) e)

@@ -222,9 +222,9 @@ module _ (w : World) (h : Held w) where
         let left = (entry_at w tdr 0 gpa).page in (put_holds AreWords (put w.words left (λ i. 0)) page (w.words left) (cleared left) (h.0 left), h.1, h.2, h.3, h.4, h.5, h.6, h.7)
     call_keeps me (call.MigStreamCreate tdr page) is = (cleared page, h.1, h.2, h.3, h.4, h.5, h.6, h.7)
     call_keeps me (call.ExportStateImmutable tdr slot) is = makes _ (words_of (w.tds.mrtds tdr) (0 ∷ 1 ∷ 2 ∷ 3 ∷ 4 ∷ 5 ∷ []) (h.3 tdr))
-    call_keeps me (call.ExportMem tdr gpa stream slot) is =
-        let gpas : List ℕ = gpas_from gpa (page_count None) in
-        let first : World = made_first tdr gpa stream slot None w in
+    call_keeps me (call.ExportMem tdr gpa stream slot count) is =
+        let gpas : List ℕ = gpas_from gpa (page_count count) in
+        let first : World = made_first tdr gpa stream slot count w in
         let made : Held first = makes _ (exported_words w h.0 tdr gpas) in
         subst Held (sym (each_leaves tdr stream gpas first)) (made.0, made.1, made.2, made.3, made.4, made.5, made.6, made.7)
     call_keeps me (call.ExportTrack tdr slot zero) is = makes _ (All-nil IsWord)
@@ -232,8 +232,8 @@ module _ (w : World) (h : Held w) where
     call_keeps me (call.ExportStateTd tdr slot) is = makes _ (words_of (w.hidden.rtmrs tdr) (range_with_len 0 24) (h.2 tdr))
     call_keeps me (call.ExportStateVp tdr vp slot) is = makes _ (words_of (w.hidden.registers vp) (range_with_len 0 8) (h.1 vp))
     call_keeps me (call.ImportStateImmutable tdr slot) is = (h.0, h.1, h.2, put_holds AreWords w.tds.mrtds tdr _ h.3 (came slot), h.4, h.5, h.6, h.7)
-    call_keeps me (call.ImportMem tdr slot page) is =
-        let x : Input = input_in (o.bundles slot) in all_come_in tdr (page_count None) x.header.gpa page x.words w h (came slot)
+    call_keeps me (call.ImportMem tdr slot page count) is =
+        let x : Input = input_in (o.bundles slot) in all_come_in tdr (page_count count) x.header.gpa page x.words w h (came slot)
     call_keeps me (call.ImportStateTd tdr slot) is = (h.0, h.1, put_holds AreWords w.hidden.rtmrs tdr _ h.2 (came slot), h.3, h.4, h.5, h.6, h.7)
     call_keeps me (call.ImportStateVp tdr vp slot) is = (h.0, put_holds AreWords w.hidden.registers vp _ h.1 (came slot), h.2, h.3, h.4, h.5, h.6, h.7)
     call_keeps me (call.ImportAbort tdr slot) is = makes _ (All-nil IsWord)

@@ -153,11 +153,11 @@ act-counts o me (call.VpCreate tdr page) w v n is = by_test (v == page)
     (λ y. inl (let e : w.vps.entered v ≡ Some n = rw y at is in e))
 act-counts o me (call.ExportTrack tdr slot zero) w v n is = inl is
 act-counts o me (call.ExportTrack tdr slot (suc start)) w v n is = inl is
-act-counts o me (call.ExportMem tdr gpa stream slot) w v n is =
-    inl (sym (ap (λ (x : World). x.vps.entered v) (each_leaves tdr stream (gpas_from gpa (page_count None)) (made_first tdr gpa stream slot None w))) ∙ is)
-act-counts o me (call.ImportMem tdr slot page) w v n is =
+act-counts o me (call.ExportMem tdr gpa stream slot count) w v n is =
+    inl (sym (ap (λ (x : World). x.vps.entered v) (each_leaves tdr stream (gpas_from gpa (page_count count)) (made_first tdr gpa stream slot count w))) ∙ is)
+act-counts o me (call.ImportMem tdr slot page count) w v n is =
     let x : Input = input_in (o.bundles slot) in
-    inl (sym (ap (λ (z : World). z.vps.entered v) (takes_leave tdr (arrivals x.header.gpa page x.words (page_count None)) w)) ∙ is)
+    inl (sym (ap (λ (z : World). z.vps.entered v) (takes_leave tdr (arrivals x.header.gpa page x.words (page_count count)) w)) ∙ is)
 act-counts o me (call.HostRead page word) w v n is = inl is
 act-counts o me _ w v n is = inl is
 

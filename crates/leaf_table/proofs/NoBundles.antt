@@ -247,7 +247,7 @@ filled-bare true words behind = (refl, refl)
 filled-bare false words behind = (refl, refl)
 
 pub page_import-bare : (p : Place) (b : Option Incoming) (tdr slot page : ℕ) (o : Option Importing) (told : List ℕ) → IsBare (import_rest_of p.machine (input_in b) tdr slot page o told)
-page_import-bare p b tdr slot page None told = taking-bare b p (call.ImportMem tdr slot page) told refl
+page_import-bare p b tdr slot page None told = taking-bare b p (call.ImportMem tdr slot page count) told refl
 page_import-bare p b tdr slot page (Some y) told = filled-bare (any_taken (y.filling ∷ [])) _ _
 
 -- those that make a bundle report nothing, and a report makes none
@@ -255,7 +255,7 @@ pub state_td-quiet : (p : Place) (tdr slot : ℕ) (told : List ℕ) → IsQuiet 
 state_td-quiet p tdr slot told = taking-quiet None p (call.ExportStateTd tdr slot) told
 
 pub page_export-quiet : (p : Place) (tdr gpa stream slot : ℕ) (o : Option Exporting) (told words : List ℕ) → IsQuiet (page_rest_of p tdr gpa stream slot o told words)
-page_export-quiet p tdr gpa k slot None told words = taking-quiet None p (call.ExportMem tdr gpa k slot) told
+page_export-quiet p tdr gpa k slot None told words = taking-quiet None p (call.ExportMem tdr gpa k slot count) told
 page_export-quiet p tdr gpa k slot (Some x) told words =
     let e : Ends = record { tries = 0; makes = Some 512; reports = None; answer = only; fits = λ r. true } in
     fed-quiet e 0 (page_words_tree gpa k slot x) words (refl, λ r. refl) (making-ends e 512 refl (λ r. refl) (λ r. refl) 0 (page_words_tree gpa k slot x) (page-make gpa k slot x))

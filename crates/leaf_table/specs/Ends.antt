@@ -56,7 +56,7 @@ call_fits m _ r = true
 -- RTMRs, and that of a virtual processor's state its registers.
 abbrev pub call_makes : Call → Option ℕ
 call_makes (call.ExportStateImmutable tdr slot) = Some 6
-call_makes (call.ExportMem tdr gpa stream slot) = Some 512
+call_makes (call.ExportMem tdr gpa stream slot count) = Some 512
 call_makes (call.ExportTrack tdr slot start) = Some 0
 call_makes (call.ExportStateTd tdr slot) = Some 24
 call_makes (call.ExportStateVp tdr vp slot) = Some 8

@@ -8,7 +8,7 @@ use Rattle.leaf_table.specs.declared.leaves.AnyLeaf.TheVariants as leaf
 
 -- the call whose leaf takes it
 abbrev pub is_page_export : Call → Bool
-is_page_export (call.ExportMem tdr gpa stream slot) = true
+is_page_export (call.ExportMem tdr gpa stream slot count) = true
 is_page_export _ = false
 
 -- that leaf

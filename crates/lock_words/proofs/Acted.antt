@@ -101,18 +101,18 @@ acts-go-on o me (call.PhymemPageReclaim tdr page) w t la ps st = by_test (t == t
     given : (t == tdr) ≡ false → (b : Bool) → (page == tdr) ≡ b → Passes (reclaim_conditions w tdr page b) → (t == page) ≡ false
     given n true e x = rw (eqb-true page tdr e) n
     given n false e x = apart-owned o w t tdr page la st n (eqb-true _ tdr (and_parts (not (is_host w page)) (w.pages.owners page == tdr) x.0).1)
-acts-go-on o me (call.ImportMem tdr slot page) w t la ps st =
+acts-go-on o me (call.ImportMem tdr slot page count) w t la ps st =
     let x : Input = input_in (o.bundles slot) in
-    let same = takes_leave tdr (arrivals x.header.gpa page x.words (page_count None)) w in
+    let same = takes_leave tdr (arrivals x.header.gpa page x.words (page_count count)) w in
     inl (record {
-      alive = act-goes-on o me _ w _ la t st.alive refl (shape_of o me (call.ImportMem tdr slot page) w ps);
+      alive = act-goes-on o me _ w _ la t st.alive refl (shape_of o me (call.ImportMem tdr slot page count) w ps);
       has_tdcs = ap
           (λ (v : World). length (v.tds.controls t) == 0) same ∙ st.has_tdcs;
     })
-acts-go-on o me (call.ExportMem tdr gpa k slot) w t la ps st =
-    let same = each_leaves tdr k (gpas_from gpa (page_count None)) (made_first tdr gpa k slot None w) in
+acts-go-on o me (call.ExportMem tdr gpa k slot count) w t la ps st =
+    let same = each_leaves tdr k (gpas_from gpa (page_count count)) (made_first tdr gpa k slot count w) in
     inl (record {
-      alive = act-goes-on o me _ w _ la t st.alive refl (shape_of o me (call.ExportMem tdr gpa k slot) w ps);
+      alive = act-goes-on o me _ w _ la t st.alive refl (shape_of o me (call.ExportMem tdr gpa k slot count) w ps);
       has_tdcs = ap
           (λ (v : World). length (v.tds.controls t) == 0) same ∙ st.has_tdcs;
     })

@@ -237,7 +237,7 @@ rows-fit o me (call.ExportPause tdr) w = λ a. head-fits w tdr Exclusive live_op
 rows-fit o me (call.ExportAbort tdr) w = λ a. head-fits w tdr Exclusive abortable_ops (tree_exclusive tdr ∷ []) (λ st. ((refl, st), tt))
 rows-fit o me (call.ExportRestore tdr gpa) w = λ a b c. opened-fits w tdr gpa restoring_ops restored_states
 rows-fit o me (call.ExportStateImmutable tdr slot) w = λ a. head-fits w tdr Exclusive session_ops (keys_exclusive ∷ has_stream w tdr 0 ∷ all_restored w tdr ∷ session_room w ∷ []) (λ st. ((tt, tt), λ x y z. tt))
-rows-fit o me (call.ExportMem tdr gpa stream slot) w = export-fits o.machine tdr gpa stream slot None w
+rows-fit o me (call.ExportMem tdr gpa stream slot count) w = export-fits o.machine tdr gpa stream slot count w
 rows-fit o me (call.ExportTrack tdr slot start) w = λ a b. head-fits w tdr Exclusive (token_ops start) (tree_exclusive tdr ∷ counter_room w tdr 0 ∷ token_conditions w tdr start) (λ st. ((refl, st), λ x. conditions start))
   where
     conditions : (n : ℕ) → TriesFit w (held_as tdr Shared) (token_conditions w tdr n)
@@ -254,7 +254,7 @@ rows-fit o me (call.ImportStateImmutable tdr slot) w =
     λ a b c d. head-fits w tdr Exclusive first_ops (keys_exclusive ∷ has_stream w tdr 0 ∷ header_says (nat_lt w.key_table.last_imported x.header.session) header.Session
     ∷ header_says (x.header.epoch == 1) header.Epoch ∷ counter_due 0 x.header ∷ tag_holds x ∷ [])
     (λ st. ((tt, tt), λ e f g h i. tt))
-rows-fit o me (call.ImportMem tdr slot page) w = import-fits o.machine (o.bundles slot) tdr slot page None w
+rows-fit o me (call.ImportMem tdr slot page count) w = import-fits o.machine (o.bundles slot) tdr slot page count w
 rows-fit o me (call.ImportTrack tdr slot) w =
     let x : Input = input_in (o.bundles slot) in
     let h : ClearHeader = x.header in

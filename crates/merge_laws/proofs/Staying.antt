@@ -86,10 +86,10 @@ row-controls o me (call.MngAddcx u page) w p t v la ps x =
     rw off refl
 row-controls o me (call.ExportTrack u slot zero) w p t v la ps x = refl
 row-controls o me (call.ExportTrack u slot (suc start)) w p t v la ps x = refl
-row-controls o me (call.ExportMem u gpa k slot) w p t v la ps x = ap (λ (z : World). z.tds.controls t)
-    (each_leaves u k (gpas_from gpa (page_count None)) (made_first u gpa k slot None w))
-row-controls o me (call.ImportMem u slot page) w p t v la ps x =
-    let y : Input = input_in (o.bundles slot) in ap (λ (z : World). z.tds.controls t) (takes_leave u (arrivals y.header.gpa page y.words (page_count None)) w)
+row-controls o me (call.ExportMem u gpa k slot count) w p t v la ps x = ap (λ (z : World). z.tds.controls t)
+    (each_leaves u k (gpas_from gpa (page_count count)) (made_first u gpa k slot count w))
+row-controls o me (call.ImportMem u slot page count) w p t v la ps x =
+    let y : Input = input_in (o.bundles slot) in ap (λ (z : World). z.tds.controls t) (takes_leave u (arrivals y.header.gpa page y.words (page_count count)) w)
 row-controls o me _ w p t v la ps x = refl
 
 -- nor does a guest's operation

@@ -127,14 +127,14 @@ module _ (o : Opening) (me : ℕ) (w : World) (l : Lawful o.machine w) (h : Abor
   rest_aborts c ps = goes_aborts c (After c) (call-changes o me w l c ps)
 
   pub pages_aborts : (t gpa k slot : ℕ) (count : Option ℕ) → Passes ((export_pages o.machine t gpa k slot count).items w) → AbortsHold ((export_pages o.machine t gpa k slot count).act w)
-  pages_aborts t gpa k slot count ps = goes_aborts (call.ExportMem t gpa k slot) ((export_pages o.machine t gpa k slot count).act w) (pages_export o me w l t gpa k slot count ps) refl
+  pages_aborts t gpa k slot count ps = goes_aborts (call.ExportMem t gpa k slot count) ((export_pages o.machine t gpa k slot count).act w) (pages_export o me w l t gpa k slot count ps) refl
       (sent_as o.machine t gpa k slot count w (λ v. NoneComes w.outgoing.bundles v.outgoing.bundles) (λ e c f done. forward (sent_bundle w t gpa k slot count) refl refl))
       (sent_as o.machine t gpa k slot count w (λ v. v.key_table.last_imported ≡ w.key_table.last_imported) (λ e c f done. refl))
 
   taken_aborts : (t slot page : ℕ) (count : Option ℕ) → Passes ((import_pages o.machine (o.bundles slot) t slot page count).items w) → AbortsHold ((import_pages o.machine (o.bundles slot) t slot page count).act w)
   taken_aborts t slot page count ps =
       let x : Input = input_in (o.bundles slot) in
-      goes_aborts (call.ImportMem t slot page) ((import_pages o.machine (o.bundles slot) t slot page count).act w) (pages_import o me w l t slot page count ps) refl
+      goes_aborts (call.ImportMem t slot page count) ((import_pages o.machine (o.bundles slot) t slot page count).act w) (pages_import o me w l t slot page count ps) refl
       (taken_as t x.header.stream x.header.gpa page x.words (page_count count) w (λ v. NoneComes w.outgoing.bundles v.outgoing.bundles) (λ v taken. none refl))
       (taken_as t x.header.stream x.header.gpa page x.words (page_count count) w (λ v. v.key_table.last_imported ≡ w.key_table.last_imported) (λ v taken. refl))
 
@@ -144,12 +144,12 @@ module _ (o : Opening) (me : ℕ) (w : World) (l : Lawful o.machine w) (h : Abor
       let self = same_self t in
       begun_aborts w (After (call.ImportStateImmutable t slot)) h t x.header.session (ltb-true _ _ (search)) refl refl (rw self refl) (λ y z. rw z refl)
       (λ y z a. record { alive = record { kind = a.alive.kind; life = a.alive.life }; standing = rw z at a.standing })
-  row-aborts (call.ImportMem t slot page) ps = taken_aborts t slot page None ps
+  row-aborts (call.ImportMem t slot page count) ps = taken_aborts t slot page count ps
   row-aborts (call.ImportAbort t slot) ps =
       let td : TdPassed w t given_up_ops = search in
       given_up_aborts w h t slot (record { alive = td_alive td; standing = given_up_fills (w.tds.ops t) td.op })
   row-aborts (call.ExportStateImmutable t slot) ps = rest_aborts (call.ExportStateImmutable t slot) ps refl (forward _ refl refl) refl
-  row-aborts (call.ExportMem t gpa k slot) ps = pages_aborts t gpa k slot None ps
+  row-aborts (call.ExportMem t gpa k slot count) ps = pages_aborts t gpa k slot count ps
   row-aborts (call.ExportTrack t slot zero) ps = rest_aborts (call.ExportTrack t slot zero) ps refl (forward _ refl refl) refl
   row-aborts (call.ExportTrack t slot (suc n)) ps = rest_aborts (call.ExportTrack t slot (suc n)) ps refl (forward _ refl refl) refl
   row-aborts (call.ExportStateTd t slot) ps = rest_aborts (call.ExportStateTd t slot) ps refl (forward _ refl refl) refl

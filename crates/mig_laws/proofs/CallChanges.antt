@@ -375,23 +375,23 @@ module _ (o : Opening) (me : ℕ) (w : World) (l : Lawful o.machine w) where
 
   -- pages are exported, or come in, with any COUNT
   pub pages_export : (t gpa k slot : ℕ) (count : Option ℕ) → Passes ((export_pages o.machine t gpa k slot count).items w)
-      → Changes (call.ExportMem t gpa k slot) w ((export_pages o.machine t gpa k slot count).act w)
+      → Changes (call.ExportMem t gpa k slot count) w ((export_pages o.machine t gpa k slot count).act w)
   pages_export t gpa k slot count ps =
       let p = export_passed o.machine w t gpa k slot count ps in
       let exporting = abortable_exporting (w.tds.ops t) p.td.op in
-      sent_as o.machine t gpa k slot count w (Changes (call.ExportMem t gpa k slot) w) (λ e c f done.
+      sent_as o.machine t gpa k slot count w (Changes (call.ExportMem t gpa k slot count) w) (λ e c f done.
       changing t (λ x a. record { kind = a.kind; life = a.life })
       (λ x y. counted l t k _ (td_alive p.td) p.few refl refl x y (λ j. record (td w x) { leaves = λ n. done.outside x n (and_left (x == t) _ y) j }))
       (sent (λ x a. record { kind = a.kind; life = a.life }) exporting (λ z. cc) exporting refl))
 
   pub pages_import : (t slot page : ℕ) (count : Option ℕ) → Passes ((import_pages o.machine (o.bundles slot) t slot page count).items w)
-      → Changes (call.ImportMem t slot page) w ((import_pages o.machine (o.bundles slot) t slot page count).act w)
+      → Changes (call.ImportMem t slot page count) w ((import_pages o.machine (o.bundles slot) t slot page count).act w)
   pages_import t slot page count ps =
       let x : Input = input_in (o.bundles slot) in
       let k : ℕ = x.header.stream in
       let p = take_asked o.machine (o.bundles slot) w t slot page count ps in
       let filling = (filling_fills (w.tds.ops t) p.td.op).0 in
-      taken_as t k x.header.gpa page x.words (page_count count) w (Changes (call.ImportMem t slot page) w) (λ v taken.
+      taken_as t k x.header.gpa page x.words (page_count count) w (Changes (call.ImportMem t slot page count) w) (λ v taken.
       let back : (y : ℕ) → Back w (count_bundle t k (TakenAs w v)) y = λ y a. record { kind = taken.roots y a.kind; life = a.life } in
       changing t back
       (λ y z. record {
@@ -510,7 +510,7 @@ module _ (o : Opening) (me : ℕ) (w : World) (l : Lawful o.machine w) where
         blocked = λ a n s. le_same _;
       })
       (sends (λ k. cc) (rw (same_self t) refl) (λ k. cc))
-  by-call (call.ExportMem t gpa k slot) ps back = pages_export t gpa k slot None ps
+  by-call (call.ExportMem t gpa k slot count) ps back = pages_export t gpa k slot count ps
   by-call (call.ExportTrack t slot zero) ps back =
       let td : TdPassed w t abortable_ops = search in
       let exporting = abortable_exporting (w.tds.ops t) td.op in
@@ -530,7 +530,7 @@ module _ (o : Opening) (me : ℕ) (w : World) (l : Lawful o.machine w) where
   by-call (call.ImportStateImmutable t slot) ps back =
       let td : TdPassed w t first_ops = search in
       changing t back (λ x y. counted l t 0 _ (td_alive td) (ltb-true _ _ (search)) refl refl x y (rw y refl)) (imported (op.MemoryImport ∷ []) (rw (same_self t) refl) refl (λ k. cc) (λ k. cc))
-  by-call (call.ImportMem t slot page) ps back = pages_import t slot page None ps
+  by-call (call.ImportMem t slot page count) ps back = pages_import t slot page count ps
   by-call (call.ImportTrack t slot) ps back =
       let b : Bool = is_start (input_in (o.bundles slot)).header in
       let td : TdPassed w t (import_token_ops b) = search in
@@ -556,25 +556,25 @@ module _ (o : Opening) (me : ℕ) (w : World) (l : Lawful o.machine w) where
   call-changes c ps = by-call c ps (row_alive o me c w ps (λ u h e. cc))
 
   -- what is made and noted
-  export_keeps : (t gpa k slot : ℕ) (count : Option ℕ) → Kept (call.ExportMem t gpa k slot) w ((export_pages o.machine t gpa k slot count).act w)
-  export_keeps t gpa k slot count = sent_as o.machine t gpa k slot count w (Kept (call.ExportMem t gpa k slot) w) (λ e c f done. record { made = λ z. cc; paused = λ z. refl; given = λ z. refl })
+  export_keeps : (t gpa k slot : ℕ) (count : Option ℕ) → Kept (call.ExportMem t gpa k slot count) w ((export_pages o.machine t gpa k slot count).act w)
+  export_keeps t gpa k slot count = sent_as o.machine t gpa k slot count w (Kept (call.ExportMem t gpa k slot count) w) (λ e c f done. record { made = λ z. cc; paused = λ z. refl; given = λ z. refl })
 
-  pub import_keeps : (t slot page : ℕ) (count : Option ℕ) → Kept (call.ImportMem t slot page) w ((import_pages o.machine (o.bundles slot) t slot page count).act w)
+  pub import_keeps : (t slot page : ℕ) (count : Option ℕ) → Kept (call.ImportMem t slot page count) w ((import_pages o.machine (o.bundles slot) t slot page count).act w)
   import_keeps t slot page count =
       let x : Input = input_in (o.bundles slot) in
-      taken_as t x.header.stream x.header.gpa page x.words (page_count count) w (Kept (call.ImportMem t slot page) w)
+      taken_as t x.header.stream x.header.gpa page x.words (page_count count) w (Kept (call.ImportMem t slot page count) w)
       (λ v taken. record { made = λ k. (refl, refl, λ p. le_same _); paused = λ k. refl; given = λ k. refl })
 
   pub call-keeps : (c : Call) → Kept c w (After c)
   call-keeps (call.VpCreate t page) = record { made = λ k. (refl, refl, λ p. lower w.vps.exported page p); paused = λ k. refl; given = λ k. refl }
   call-keeps (call.ExportPause t) = record { made = λ k. (refl, refl, λ p. le_same _); paused = λ k. cc; given = λ k. refl }
   call-keeps (call.ExportStateImmutable t slot) = record { made = λ k. cc; paused = λ k. refl; given = λ k. refl }
-  call-keeps (call.ExportMem t gpa stream slot) = export_keeps t gpa stream slot None
+  call-keeps (call.ExportMem t gpa stream slot count) = export_keeps t gpa stream slot count
   call-keeps (call.ExportTrack t slot zero) = record { made = λ k. cc; paused = λ k. refl; given = λ k. refl }
   call-keeps (call.ExportTrack t slot (suc n)) = record { made = λ k. cc; paused = λ k. refl; given = λ k. refl }
   call-keeps (call.ExportStateTd t slot) = record { made = λ k. cc; paused = λ k. refl; given = λ k. refl }
   call-keeps (call.ExportStateVp t p slot) = record { made = λ k. cc; paused = λ k. refl; given = λ k. refl }
-  call-keeps (call.ImportMem t slot page) = import_keeps t slot page None
+  call-keeps (call.ImportMem t slot page count) = import_keeps t slot page count
   call-keeps (call.ImportCommit t) = record { made = λ k. (refl, refl, λ p. le_same _); paused = λ k. refl; given = λ k. cc }
   call-keeps (call.ImportAbort t slot) = record { made = λ k. cc; paused = λ k. refl; given = λ k. refl }
   call-keeps (call.HostRead page word) = record { made = λ k. (refl, refl, λ p. le_same _); paused = λ k. refl; given = λ k. refl }

@@ -29,7 +29,7 @@ use Rattle.mig_laws.proofs.WellStays.{NumbersStay}
 -- the calls that give a TD what its source has made, and the one that notes what it starts with
 abbrev pub is_import : Call → Bool
 is_import (call.ImportStateImmutable t slot) = true
-is_import (call.ImportMem t slot page) = true
+is_import (call.ImportMem t slot page count) = true
 is_import (call.ImportTrack t slot) = true
 is_import (call.ImportStateTd t slot) = true
 is_import (call.ImportStateVp t p slot) = true

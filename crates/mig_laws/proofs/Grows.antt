@@ -176,7 +176,7 @@ module _ (o : Opening) (me : ℕ) (w : World) (l : Lawful o.machine w) (h : Paus
       rw off refl
   row-noted (call.ExportTrack t slot zero) ps s e = refl
   row-noted (call.ExportTrack t slot (suc n)) ps s e = refl
-  row-noted (call.ImportMem t slot page) ps s e = ap (λ (f : ℕ → Option Image). f s) ((import_keeps o me w l t slot page None).paused refl)
+  row-noted (call.ImportMem t slot page count) ps s e = ap (λ (f : ℕ → Option Image). f s) ((import_keeps o me w l t slot page count).paused refl)
   row-noted c ps s e = refl
 
   adds : (x : Option ℕ) (before after : List Made) → AddsOwn x before after → (more : List Made) × (after ≡ before ++ more)

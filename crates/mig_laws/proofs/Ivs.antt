@@ -285,7 +285,7 @@ module _ (o : Opening) (me : ℕ) (w : World) (l : Lawful o.machine w) (h : IvsH
 
   pub row-ivs : AbortsHold w → (c : Call) → Passes ((row_of o me c).items w) → IvsHold (After c)
   row-ivs a (call.ExportStateImmutable t slot) ps = immutable_ivs t slot ps
-  row-ivs a (call.ExportMem t gpa k slot) ps = pages_ivs t gpa k slot None ps
+  row-ivs a (call.ExportMem t gpa k slot count) ps = pages_ivs t gpa k slot count ps
   row-ivs a (call.ExportTrack t slot start) ps = token_ivs t slot start ps
   row-ivs a (call.ExportStateTd t slot) ps = td_ivs t slot ps
   row-ivs a (call.ExportStateVp t p slot) ps = vp_ivs t p slot ps

@@ -115,7 +115,7 @@ module _ (o : Opening) (me : ℕ) (w : World) (l : Lawful o.machine w) where
   pages_stay : (t slot page : ℕ) (count : Option ℕ) → Passes ((taking t slot page count).items w) → Stays w ((taking t slot page count).act w)
   pages_stay t slot page count ps =
       let x : Input = input slot in
-      goes_stays (call.ImportMem t slot page) ((taking t slot page count).act w) (pages_import o me w l t slot page count ps) refl
+      goes_stays (call.ImportMem t slot page count) ((taking t slot page count).act w) (pages_import o me w l t slot page count ps) refl
       (taken_as t x.header.stream x.header.gpa page x.words (page_count count) w (λ v. v.key_table.last_imported ≡ w.key_table.last_imported) (λ v taken. refl))
 
   row-stays : (c : Call) → Passes ((row_of o me c).items w) → Stays w (After c)
@@ -131,7 +131,7 @@ module _ (o : Opening) (me : ℕ) (w : World) (l : Lawful o.machine w) where
               counts = counts_grow w.streams.counters (more_counted t 0) (w.tds.streams x) (one_higher w.streams.counters (stream_page w t 0));
             }));
       }
-  row-stays (call.ImportMem t slot page) ps = pages_stay t slot page None ps
+  row-stays (call.ImportMem t slot page count) ps = pages_stay t slot page count ps
   row-stays (call.ExportTrack t slot zero) ps = rest_stays (call.ExportTrack t slot zero) ps refl refl
   row-stays (call.ExportTrack t slot (suc n)) ps = rest_stays (call.ExportTrack t slot (suc n)) ps refl refl
   row-stays c ps = rest_stays c ps refl refl
@@ -276,8 +276,8 @@ module _ (o : Opening) (me : ℕ) (w : World) (l : Lawful o.machine w) where
           let no : true ≡ false = sym (ap (λ (n : ℕ). n == 6) six) ∙ subst (λ (z : ℕ). ((input z).header.kind == 6) ≡ false) (sym is) forward in cc)
       by (call.ImportStateImmutable t at) e ps = (let is : at ≡ slot = cc in
           subst (λ (z : ℕ). IsSpent (After (call.ImportStateImmutable t at)) (number_of (input z).header)) is (first_spent t at a ps))
-      by (call.ImportMem t at page) e ps = (let is : at ≡ slot = cc in
-          subst (λ (z : ℕ). IsSpent (After (call.ImportMem t at page)) (number_of (input z).header)) is (pages_spent t at page None a ps))
+      by (call.ImportMem t at page count) e ps = (let is : at ≡ slot = cc in
+          subst (λ (z : ℕ). IsSpent (After (call.ImportMem t at page count)) (number_of (input z).header)) is (pages_spent t at page count a ps))
       by (call.ImportTrack t at) e ps = (let f = token_fits t at ps in
           let kind = no_token (input at).header.kind 3 refl (token_kind (input at).header.kind (search)) in
           let first = first_stream t at (search) (ne_eqb (input at).header.kind 3 kind) in
@@ -308,7 +308,7 @@ module _ (o : Opening) (me : ℕ) (w : World) (l : Lawful o.machine w) where
           let six = only_kind 6 (input at).header.kind (search) in
           let no : true ≡ false = sym (ap (λ (n : ℕ). n == 6) six) ∙ subst (λ (z : ℕ). ((input z).header.kind == 6) ≡ false) (sym is) forward in cc)
       by (call.ImportStateImmutable t at) e ps = first_never t at ps (at_slot at cc)
-      by (call.ImportMem t at page) e ps = pages_never t at page None ps (at_slot at cc)
+      by (call.ImportMem t at page count) e ps = pages_never t at page count ps (at_slot at cc)
       by (call.ImportTrack t at) e ps = never t (input at).header (token_fits t at ps) (at_slot at cc)
       by (call.ImportStateTd t at) e ps = never t (input at).header (td_fits t at ps) (at_slot at cc)
       by (call.ImportStateVp t p at) e ps = never t (input at).header (vp_fits t p at ps) (at_slot at cc)
@@ -332,8 +332,8 @@ module _ (o : Opening) (me : ℕ) (w : World) (l : Lawful o.machine w) where
           let due = is_due 0 (input at).header.counter (search) in
           subst (λ (z : ℕ). ((input z).header.stream ≡ 0) × ((input z).header.counter ≡ 0)) is (first, due))
       by (call.ExportAbortByToken t at) e ps = absurd (let is : at ≡ slot = cc in other at 6 is (only_kind 6 (input at).header.kind (search)) refl)
-      by (call.ImportMem t at page) e ps = absurd (let is : at ≡ slot = cc in
-          other at 3 is (only_kind 3 (input at).header.kind (take_asked o.machine (o.bundles at) w t at page None ps).kind) refl)
+      by (call.ImportMem t at page count) e ps = absurd (let is : at ≡ slot = cc in
+          other at 3 is (only_kind 3 (input at).header.kind (take_asked o.machine (o.bundles at) w t at page count ps).kind) refl)
       by (call.ImportTrack t at) e ps = absurd (let is : at ≡ slot = cc in
           no_token (input at).header.kind 0 refl (token_kind (input at).header.kind (search)) (at_slot at is))
       by (call.ImportStateTd t at) e ps = absurd (let is : at ≡ slot = cc in other at 1 is (only_kind 1 (input at).header.kind (search)) refl)

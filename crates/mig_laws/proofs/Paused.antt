@@ -313,7 +313,7 @@ module _ (o : Opening) (me : ℕ) (w : World) (l : Lawful o.machine w) (src : So
       held_pauses t w src.ivs h (record { alive = td_alive td; standing = live_exporting (w.tds.ops t) td.op }) (only_live (w.tds.ops t) td.op)
   row-pauses (call.ExportStateImmutable t slot) ps =
       pauses_made t slot (record (about 0 1) { info = length (w.tds.vps t) }) (six_words (w.tds.mrtds t)) (begin_session t w) refl refl (begun_pauses t w src.ivs h)
-  row-pauses (call.ExportMem t gpa k slot) ps = sent_pauses t gpa k slot None ps
+  row-pauses (call.ExportMem t gpa k slot count) ps = sent_pauses t gpa k slot count ps
   row-pauses (call.ExportTrack t slot start) ps = token_pauses t slot start ps
   row-pauses (call.ExportStateTd t slot) ps =
       pauses_made t slot (about 1 (w.tds.mig_epochs t)) (payload_words (w.hidden.rtmrs t) 24) (note_td_export t w) refl refl (before_pauses _ (unmoved w _ refl refl (λ x n. refl) refl refl) refl refl refl)

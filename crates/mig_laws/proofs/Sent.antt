@@ -243,7 +243,7 @@ module _ (o : Opening) (me : ℕ) (w : World) (l : Lawful o.machine w) (known : 
 
   pub row-source : (c : Call) → Passes ((row_of o me c).items w) → SourceHolds (After c)
   row-source (call.ExportStateImmutable t slot) ps = immutable_source t slot ps
-  row-source (call.ExportMem t gpa k slot) ps = pages_source t gpa k slot None ps
+  row-source (call.ExportMem t gpa k slot count) ps = pages_source t gpa k slot count ps
   row-source (call.ExportTrack t slot start) ps = token_source t slot start ps
   row-source (call.ExportStateTd t slot) ps =
       bundle_source t slot (about 1 (w.tds.mig_epochs t)) (payload_words (w.hidden.rtmrs t) 24) (note_td_export t w) refl (unmoved w _ refl refl (λ x n. refl) refl refl) (row-ivs o me w l h.ivs h.aborts (call.ExportStateTd t slot) ps) (row-aborts o me w l h.aborts (call.ExportStateTd t slot) ps)

@@ -21,13 +21,13 @@ single_more bs b off h = All-push (λ (x : Made). is_list x.header ≡ false) bs
 
 row-single : (o : Opening) (me : ℕ) (w : World) → MadeSingle w → (c : Call) → MadeSingle ((row_of o me c).act w)
 row-single o me w h (call.ExportStateImmutable t slot) = single_more w.outgoing.bundles _ refl h
-row-single o me w h (call.ExportMem t gpa k slot) = single_more w.outgoing.bundles _ refl h
+row-single o me w h (call.ExportMem t gpa k slot count) = single_more w.outgoing.bundles _ refl h
 row-single o me w h (call.ExportTrack t slot zero) = single_more w.outgoing.bundles _ refl h
 row-single o me w h (call.ExportTrack t slot (suc n)) = single_more w.outgoing.bundles _ refl h
 row-single o me w h (call.ExportStateTd t slot) = single_more w.outgoing.bundles _ refl h
 row-single o me w h (call.ExportStateVp t p slot) = single_more w.outgoing.bundles _ refl h
 row-single o me w h (call.ImportAbort t slot) = single_more w.outgoing.bundles _ refl h
-row-single o me w h (call.ImportMem t slot page) = subst AreSingle (sym (calls-add o me (call.ImportMem t slot page) w)) h
+row-single o me w h (call.ImportMem t slot page count) = subst AreSingle (sym (calls-add o me (call.ImportMem t slot page count) w)) h
 row-single o me w h (call.HostRead page word) = h
 row-single o me w h _ = h
 

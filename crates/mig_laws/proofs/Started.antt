@@ -454,7 +454,7 @@ module _ (o : Opening) (me : ℕ) (w : World) (l : Lawful o.machine w) (src : So
   pub row-starts : (c : Call) → Passes ((row_of o me c).items w) → StartsHold (Then c)
   row-starts (call.ExportPause t) ps = pause_starts t ps
   row-starts (call.ExportStateImmutable t slot) ps = immutable_starts t slot ps
-  row-starts (call.ExportMem t gpa k slot) ps = pages_starts t gpa k slot None ps
+  row-starts (call.ExportMem t gpa k slot count) ps = pages_starts t gpa k slot count ps
   row-starts (call.ExportTrack t slot start) ps = track_starts t slot start ps
   row-starts (call.ExportStateTd t slot) ps = td_starts t slot ps
   row-starts (call.ExportStateVp t p slot) ps = vp_starts t p slot ps

@@ -424,7 +424,7 @@ module _ (o : Opening) (me : ℕ) (w : World) (l : Lawful o.machine w) (src : So
       let exporting : IsExporting w t = record { alive = td_alive td; standing = live_exporting (w.tds.ops t) td.op } in
       states_held t w src.ivs h exporting (not_post w t pauses exporting (λ e. let no : op.LiveExport ≡ op.PostExport = sym (only_live (w.tds.ops t) td.op) ∙ e in cc))
   row-states (call.ExportStateImmutable t slot) ps = immutable_states t slot ps
-  row-states (call.ExportMem t gpa k slot) ps = pages_states t gpa k slot None ps
+  row-states (call.ExportMem t gpa k slot count) ps = pages_states t gpa k slot count ps
   row-states (call.ExportTrack t slot start) ps = token_states t slot start ps
   row-states (call.ExportStateTd t slot) ps = td_states t slot ps
   row-states (call.ExportStateVp t p slot) ps = vp_states t p slot ps
@@ -494,7 +494,7 @@ module _ (o : Opening) (me : ℕ) (w : World) (forms : FormsHold w) (h : ArePaus
       (λ n. h session image (rw n at e))
   row-pauses (call.ExportTrack t slot zero) session image e = h session image e
   row-pauses (call.ExportTrack t slot (suc n)) session image e = h session image e
-  row-pauses (call.ImportMem t slot page) session image e = pages_short t slot page None session image e
+  row-pauses (call.ImportMem t slot page count) session image e = pages_short t slot page count session image e
   row-pauses c session image e = h session image e
 
 same_pauses : (w v : World) → v.hidden.paused ≡ w.hidden.paused → ArePausesShort w → ArePausesShort v

@@ -379,7 +379,7 @@ module _ (o : Opening) (me : ℕ) (w : World) (l : Lawful o.machine w) (i : IvsH
   row-well (call.ExportStateImmutable t slot) ps =
       let td : TdPassed w t session_ops = search in
       immutable_well o w l i h t slot (td_alive td) (ltb-true 0 (length (w.tds.streams t)) (search)) (length (w.tds.vps t)) (six_words (w.tds.mrtds t))
-  row-well (call.ExportMem t gpa k slot) ps = sent_well t gpa k slot None ps
+  row-well (call.ExportMem t gpa k slot count) ps = sent_well t gpa k slot count ps
   row-well (call.ExportTrack t slot start) ps = token_well t slot start ps
   row-well (call.ExportStateTd t slot) ps =
       let td : TdPassed w t paused_ops = search in

@@ -135,7 +135,7 @@ module _ (o : Opening) (me : ℕ) (w : World) (l : Lawful o.machine w) (aborts :
   sent_commits : (t gpa k slot : ℕ) (count : Option ℕ) → Passes ((export_pages o.machine t gpa k slot count).items w) → CommitsHold ((export_pages o.machine t gpa k slot count).act w)
   sent_commits t gpa k slot count ps =
       let row = export_pages o.machine t gpa k slot count in
-      goes_commits (call.ExportMem t gpa k slot) (row.act w) (pages_export o me w l t gpa k slot count ps) refl
+      goes_commits (call.ExportMem t gpa k slot count) (row.act w) (pages_export o me w l t gpa k slot count ps) refl
       (sent_as o.machine t gpa k slot count w (λ v. NoneComes w.outgoing.bundles v.outgoing.bundles) (λ e c f done. forward (sent_bundle w t gpa k slot count) refl refl))
       (sent_as o.machine t gpa k slot count w (λ v. v.key_table.last_imported ≡ w.key_table.last_imported) (λ e c f done. refl))
       (sent_as o.machine t gpa k slot count w (λ v. v.hidden.given ≡ w.hidden.given) (λ e c f done. refl))
@@ -145,7 +145,7 @@ module _ (o : Opening) (me : ℕ) (w : World) (l : Lawful o.machine w) (aborts :
       let x : Input = input_in (o.bundles slot) in
       let row = import_pages o.machine (o.bundles slot) t slot page count in
       let n : ℕ = page_count count in
-      goes_commits (call.ImportMem t slot page) (row.act w) (pages_import o me w l t slot page count ps) refl
+      goes_commits (call.ImportMem t slot page count) (row.act w) (pages_import o me w l t slot page count ps) refl
       (taken_as t x.header.stream x.header.gpa page x.words n w (λ v. NoneComes w.outgoing.bundles v.outgoing.bundles) (λ v taken. none refl))
       (taken_as t x.header.stream x.header.gpa page x.words n w (λ v. v.key_table.last_imported ≡ w.key_table.last_imported) (λ v taken. refl))
       (taken_as t x.header.stream x.header.gpa page x.words n w (λ v. v.hidden.given ≡ w.hidden.given) (λ v taken. refl))
@@ -156,7 +156,7 @@ module _ (o : Opening) (me : ℕ) (w : World) (l : Lawful o.machine w) (aborts :
       let self = same_self t in
       begun_commits w (After (call.ImportStateImmutable t slot)) h t x.header.session (ltb-true _ _ (search)) refl refl (rw self refl) (λ y z. rw z refl)
       (λ y z a. record { alive = record { kind = a.alive.kind; life = a.alive.life }; standing = rw z at a.standing }) refl
-  row-commits (call.ImportMem t slot page) ps = taken_commits t slot page None ps
+  row-commits (call.ImportMem t slot page count) ps = taken_commits t slot page count ps
   row-commits (call.ImportCommit t) ps =
       let td : TdPassed w t commit_ops = search in
       committed_commits w h aborts t (record { alive = td_alive td; standing = (commit_fills (w.tds.ops t) td.op).0 })
@@ -164,7 +164,7 @@ module _ (o : Opening) (me : ℕ) (w : World) (l : Lawful o.machine w) (aborts :
       let td : TdPassed w t given_up_ops = search in
       given_up_commits w h t slot (record { alive = td_alive td; standing = given_up_fills (w.tds.ops t) td.op })
   row-commits (call.ExportStateImmutable t slot) ps = rest_commits (call.ExportStateImmutable t slot) ps refl (forward _ refl refl) refl refl
-  row-commits (call.ExportMem t gpa k slot) ps = sent_commits t gpa k slot None ps
+  row-commits (call.ExportMem t gpa k slot count) ps = sent_commits t gpa k slot count ps
   row-commits (call.ExportTrack t slot zero) ps = rest_commits (call.ExportTrack t slot zero) ps refl (forward _ refl refl) refl refl
   row-commits (call.ExportTrack t slot (suc n)) ps = rest_commits (call.ExportTrack t slot (suc n)) ps refl (forward _ refl refl) refl refl
   row-commits (call.ExportStateTd t slot) ps = rest_commits (call.ExportStateTd t slot) ps refl (forward _ refl refl) refl refl

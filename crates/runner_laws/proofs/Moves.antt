@@ -126,10 +126,10 @@ module _ (o : Opening) (me : ℕ) (w : World) where
   own c v t x others goes = by_test (x == t) (λ y. subst (λ (z : ℕ). Moves o c w v z) (sym (eqb-true x t y)) goes) (λ y. let s = others y in stays s.0 s.1)
 
   -- pages that come in, with any COUNT
-  taken_moves : (t slot page : ℕ) (count : Option ℕ) (x : ℕ) → Moves o (call.ImportMem t slot page) w ((import_pages o.machine (o.bundles slot) t slot page count).act w) x
+  taken_moves : (t slot page : ℕ) (count : Option ℕ) (x : ℕ) → Moves o (call.ImportMem t slot page count) w ((import_pages o.machine (o.bundles slot) t slot page count).act w) x
   taken_moves t slot page count x =
       let b : Input = input_in (o.bundles slot) in
-      taken_as t b.header.stream b.header.gpa page b.words (page_count count) w (λ v. Moves o (call.ImportMem t slot page) w v x) (λ v taken. stays refl refl)
+      taken_as t b.header.stream b.header.gpa page b.words (page_count count) w (λ v. Moves o (call.ImportMem t slot page count) w v x) (λ v taken. stays refl refl)
 
   taken_given : (t slot page : ℕ) (count : Option ℕ) → ((import_pages o.machine (o.bundles slot) t slot page count).act w).hidden.given ≡ w.hidden.given
   taken_given t slot page count =
@@ -165,7 +165,7 @@ module _ (o : Opening) (me : ℕ) (w : World) where
       (put_here w.tds.ops t op.Runnable))
   row-moves (call.ImportStateImmutable t slot) ps x there =
       own (call.ImportStateImmutable t slot) (After (call.ImportStateImmutable t slot)) t x (λ y. (rw y refl, rw y refl)) (builds (new_is_new (w.tds.ops t) (search)))
-  row-moves (call.ImportMem t slot page) ps x there = taken_moves t slot page None x
+  row-moves (call.ImportMem t slot page count) ps x there = taken_moves t slot page count x
   row-moves (call.ImportTrack t slot) ps x there =
       let b : Input = input_in (o.bundles slot) in
       let p = token_waits (is_start b.header) (w.tds.ops t) (search) in
@@ -185,7 +185,7 @@ module _ (o : Opening) (me : ℕ) (w : World) where
   -- what IMPORT.COMMIT has noted stays noted
   pub row-given : (c : Call) → is_commit c ≡ false → (After c).hidden.given ≡ w.hidden.given
   row-given (call.ImportCommit t) off = cc
-  row-given (call.ImportMem t slot page) off = taken_given t slot page None
+  row-given (call.ImportMem t slot page count) off = taken_given t slot page count
   row-given (call.ExportTrack t slot zero) off = refl
   row-given (call.ExportTrack t slot (suc n)) off = refl
   row-given c off = refl

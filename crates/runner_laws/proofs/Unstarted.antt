@@ -83,7 +83,7 @@ module _ (o : Opening) (me : ℕ) (w : World) (l : Lawful o.machine w) (session 
 
   pub row-unstarted : (c : Call) → Passes ((row_of o me c).items w) → IsUnstarted (After c) session
   row-unstarted (call.ExportStateImmutable t slot) ps = begun_unstarted t slot
-  row-unstarted (call.ExportMem t gpa k slot) ps = bundle_unstarted (call.ExportMem t gpa k slot) ps refl _ refl refl refl
+  row-unstarted (call.ExportMem t gpa k slot count) ps = bundle_unstarted (call.ExportMem t gpa k slot count) ps refl _ refl refl refl
   row-unstarted (call.ExportTrack t slot zero) ps = bundle_unstarted (call.ExportTrack t slot zero) ps refl _ refl refl refl
   row-unstarted (call.ExportTrack t slot (suc n)) ps = started_unstarted t slot n ps
   row-unstarted (call.ExportStateTd t slot) ps = bundle_unstarted (call.ExportStateTd t slot) ps refl _ refl refl refl

@@ -97,8 +97,8 @@ slots (suc i) = slots i ++ (i + 1) ∷ []
 exported : (i : ℕ) → i ≤ 512 → AreFit (export_lines i) i (slots i)
 exported zero within = record { fit = All-nil FitsCall; few = omega arith; outputs = refl }
 exported (suc i) within =
-    let more : AreFit (call.ExportMem 1 (4096 * i) (i % 2) (i + 1) ∷ []) 1 ((i + 1) ∷ []) = record {
-      fit = lines-fit (call.ExportMem 1 (4096 * i) (i % 2) (i + 1) ∷ []) ((omega arith, (omega (arith, within), ((let e = even_fits i in omega (arith, e)), (omega (arith, within), tt)))), tt);
+    let more : AreFit (call.ExportMem 1 (4096 * i) (i % 2) (i + 1) count ∷ []) 1 ((i + 1) ∷ []) = record {
+      fit = lines-fit (call.ExportMem 1 (4096 * i) (i % 2) (i + 1) count ∷ []) ((omega arith, (omega (arith, within), ((let e = even_fits i in omega (arith, e)), (omega (arith, within), tt)))), tt);
       few = omega arith;
       outputs = refl;
     } in
@@ -108,8 +108,8 @@ exported (suc i) within =
 imported : (i : ℕ) → i ≤ 512 → AreFit (import_lines i) i []
 imported zero within = record { fit = All-nil FitsCall; few = omega arith; outputs = refl }
 imported (suc i) within =
-    let more : AreFit (call.ImportMem 1 (i + 1) (12 + i) ∷ []) 1 [] = record {
-      fit = lines-fit (call.ImportMem 1 (i + 1) (12 + i) ∷ []) ((omega arith, (omega (arith, within), (omega (arith, within), tt))), tt);
+    let more : AreFit (call.ImportMem 1 (i + 1) (12 + i) count ∷ []) 1 [] = record {
+      fit = lines-fit (call.ImportMem 1 (i + 1) (12 + i) count ∷ []) ((omega arith, (omega (arith, within), (omega (arith, within), tt))), tt);
       few = omega arith;
       outputs = refl;
     } in

@@ -43,11 +43,11 @@ add_lines n (suc i) = add_lines n i ++ call.HostWrite 0 0 (page_word n i) ∷ ca
 
 abbrev pub export_lines : ℕ → List Call
 export_lines zero = []
-export_lines (suc i) = export_lines i ++ call.ExportMem 1 (4096 * i) (i % 2) (i + 1) ∷ []
+export_lines (suc i) = export_lines i ++ call.ExportMem 1 (4096 * i) (i % 2) (i + 1) count ∷ []
 
 abbrev pub import_lines : ℕ → List Call
 import_lines zero = []
-import_lines (suc i) = import_lines i ++ call.ImportMem 1 (i + 1) (12 + i) ∷ []
+import_lines (suc i) = import_lines i ++ call.ImportMem 1 (i + 1) (12 + i) count ∷ []
 
 -- the source: the TD is built, entered, and exported, with a start token
 abbrev pub begin_lines : List Call

@@ -197,10 +197,10 @@ module _ (o : Opening) (me : ℕ) (w : World) where
   asked (call.MemSeptRemove t gpa level) = both _ _ _ (named w t gpa level (entry.NlBlocked ∷ []) (empty_below w t gpa level ∷ tracked_page w t (entry_at w t level gpa).page ∷ []) refl)
   asked (call.MemRangeBlock t gpa level) = both _ _ _ (named w t gpa level open_states [] refl)
   asked (call.MemRangeUnblock t gpa level) = both _ _ _ (named w t gpa level blocked_states (tracked_page w t (entry_at w t level gpa).page ∷ []) refl)
-  asked (call.ExportMem t gpa stream slot) = pages_sent t gpa stream slot None
+  asked (call.ExportMem t gpa stream slot count) = pages_sent t gpa stream slot count
   asked (call.ExportTrack t slot zero) = (refl, refl)
   asked (call.ExportTrack t slot (suc n)) = (refl, refl)
-  asked (call.ImportMem t slot page) = pages_taken t slot page None
+  asked (call.ImportMem t slot page count) = pages_taken t slot page count
   asked (call.ImportTrack t slot) = token t (is_start (input_in (o.bundles slot)).header)
   asked _ = (refl, refl)
 

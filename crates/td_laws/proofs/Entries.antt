@@ -213,12 +213,12 @@ module _ (o : Opening) (w : World) (t level number : ℕ) where
   call_moves me owned (call.ExportBlockw tdr gpa) ps = set_here tdr 0 (number_at 0 gpa) _ (goes_on write_blocked (entry_at w tdr 0 gpa).state writable_states (search) refl)
   call_moves me owned (call.ExportUnblockw tdr gpa) ps =
       set_here tdr 0 (number_at 0 gpa) _ (goes_on write_unblocked (entry_at w tdr 0 gpa).state write_blocked_states (search) refl)
-  call_moves me owned (call.ExportMem tdr gpa k slot) ps = pages_sent tdr gpa k slot None ps
+  call_moves me owned (call.ExportMem tdr gpa k slot count) ps = pages_sent tdr gpa k slot count ps
   call_moves me owned (call.ExportRestore tdr gpa) ps =
       set_here tdr 0 (number_at 0 gpa) _ (goes_on (λ a. entry.Mapped) _ restored_states (search) refl)
   call_moves me owned (call.ExportTrack tdr slot zero) ps = stays before
   call_moves me owned (call.ExportTrack tdr slot (suc n)) ps = stays before
-  call_moves me owned (call.ImportMem tdr slot page) ps = pages_taken tdr slot page None
+  call_moves me owned (call.ImportMem tdr slot page count) ps = pages_taken tdr slot page count
   call_moves me owned (call.HostRead page word) ps = stays before
   call_moves me owned _ ps = stays before
 

@@ -51,9 +51,9 @@ module _ (o : Opening) (w : World) (h : ℕ) where
       by _ = refl
   call_changes me (call.ExportTrack tdr slot zero) = refl
   call_changes me (call.ExportTrack tdr slot (suc n)) = refl
-  call_changes me (call.ExportMem tdr gpa k slot) = sent_stays tdr gpa k slot None
-  call_changes me (call.ImportMem tdr slot page) =
-      let x : Input = input_in (o.bundles slot) in taken_stays tdr x.header.stream (arrivals x.header.gpa page x.words (page_count None))
+  call_changes me (call.ExportMem tdr gpa k slot count) = sent_stays tdr gpa k slot count
+  call_changes me (call.ImportMem tdr slot page count) =
+      let x : Input = input_in (o.bundles slot) in taken_stays tdr x.header.stream (arrivals x.header.gpa page x.words (page_count count))
   call_changes me (call.HostRead page word) = refl
   call_changes me _ = refl
 

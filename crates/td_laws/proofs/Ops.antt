@@ -88,9 +88,9 @@ module _ (o : Opening) (me : ℕ) (w : World) where
     op_leads (call.MngRd tdr _) = refl
     op_leads (call.ExportTrack tdr slot zero) = refl
     op_leads (call.ExportTrack tdr slot (suc n)) = refl
-    op_leads (call.ExportMem tdr gpa k slot) = (sent_leaves tdr gpa k slot None).0
-    op_leads (call.ImportMem tdr slot page) =
-        let x : Input = input_in (o.bundles slot) in (taken_leaves tdr x.header.stream (arrivals x.header.gpa page x.words (page_count None))).0
+    op_leads (call.ExportMem tdr gpa k slot count) = (sent_leaves tdr gpa k slot count).0
+    op_leads (call.ImportMem tdr slot page count) =
+        let x : Input = input_in (o.bundles slot) in (taken_leaves tdr x.header.stream (arrivals x.header.gpa page x.words (page_count count))).0
     op_leads (call.ImportTrack tdr slot) = token_leads tdr (is_start (input_in (o.bundles slot)).header)
     op_leads (call.HostRead page word) = refl
     op_leads _ = refl
@@ -103,9 +103,9 @@ module _ (o : Opening) (me : ℕ) (w : World) where
     life_leads (call.MngRd tdr f) = kept_lives (op_step o (call.MngRd tdr f))
     life_leads (call.ExportTrack tdr slot zero) = refl
     life_leads (call.ExportTrack tdr slot (suc n)) = refl
-    life_leads (call.ExportMem tdr gpa k slot) = (sent_leaves tdr gpa k slot None).1
-    life_leads (call.ImportMem tdr slot page) =
-        let x : Input = input_in (o.bundles slot) in (taken_leaves tdr x.header.stream (arrivals x.header.gpa page x.words (page_count None))).1
+    life_leads (call.ExportMem tdr gpa k slot count) = (sent_leaves tdr gpa k slot count).1
+    life_leads (call.ImportMem tdr slot page count) =
+        let x : Input = input_in (o.bundles slot) in (taken_leaves tdr x.header.stream (arrivals x.header.gpa page x.words (page_count count))).1
     life_leads (call.ImportTrack tdr slot) = kept_lives (op_step o (call.ImportTrack tdr slot))
     life_leads (call.HostRead page word) = refl
     life_leads _ = refl

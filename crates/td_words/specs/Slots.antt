@@ -6,7 +6,7 @@ use Rattle.td_words.specs.declared.calls.Call.TheVariants as call
 -- the output slot of a call that makes a bundle
 abbrev pub output_slot : Call → Option ℕ
 output_slot (call.ExportStateImmutable tdr slot) = Some slot
-output_slot (call.ExportMem tdr gpa stream slot) = Some slot
+output_slot (call.ExportMem tdr gpa stream slot count) = Some slot
 output_slot (call.ExportTrack tdr slot start) = Some slot
 output_slot (call.ExportStateTd tdr slot) = Some slot
 output_slot (call.ExportStateVp tdr vp slot) = Some slot
@@ -17,7 +17,7 @@ output_slot _ = None
 abbrev pub input_slot : Call → Option ℕ
 input_slot (call.ExportAbortByToken tdr slot) = Some slot
 input_slot (call.ImportStateImmutable tdr slot) = Some slot
-input_slot (call.ImportMem tdr slot page) = Some slot
+input_slot (call.ImportMem tdr slot page count) = Some slot
 input_slot (call.ImportTrack tdr slot) = Some slot
 input_slot (call.ImportStateTd tdr slot) = Some slot
 input_slot (call.ImportStateVp tdr vp slot) = Some slot

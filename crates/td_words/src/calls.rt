@@ -156,6 +156,7 @@ pub enum Call {
         gpa: u64,
         stream: u64,
         slot: u16,
+        count: Option<u64>,
     },
     ExportTrack {
         tdr: u64,
@@ -183,6 +184,7 @@ pub enum Call {
         tdr: u64,
         slot: u64,
         page: u64,
+        count: Option<u64>,
     },
     ImportTrack {
         tdr: u64,

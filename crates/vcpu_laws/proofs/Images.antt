@@ -48,9 +48,9 @@ module _ (o : Opening) (w : World) (p : ℕ) where
   call_notes : (c : Call) → noted ((row_of o p c).act w) ≡ noted_after_call c w
   call_notes (call.ExportTrack tdr slot zero) = refl
   call_notes (call.ExportTrack tdr slot (suc n)) = refl
-  call_notes (call.ExportMem tdr gpa k slot) = sent_noted tdr gpa k slot None w
-  call_notes (call.ImportMem tdr slot page) =
-      let x : Input = input_in (o.bundles slot) in taken_noted tdr x.header.stream (arrivals x.header.gpa page x.words (page_count None)) w
+  call_notes (call.ExportMem tdr gpa k slot count) = sent_noted tdr gpa k slot count w
+  call_notes (call.ImportMem tdr slot page count) =
+      let x : Input = input_in (o.bundles slot) in taken_noted tdr x.header.stream (arrivals x.header.gpa page x.words (page_count count)) w
   call_notes (call.HostRead page word) = refl
   call_notes _ = refl
 

@@ -52,9 +52,9 @@ module _ (o : Opening) (w : World) (v : ℕ) where
   call_changes me (call.ImportStateVp tdr vp slot) = by_test (v == vp) (λ y. rw y refl) (λ y. rw y refl)
   call_changes me (call.ExportTrack tdr slot zero) = refl
   call_changes me (call.ExportTrack tdr slot (suc n)) = refl
-  call_changes me (call.ExportMem tdr gpa k slot) = sent_vcpus tdr gpa k slot None v w
-  call_changes me (call.ImportMem tdr slot page) =
-      let x : Input = input_in (o.bundles slot) in taken_vcpus tdr x.header.stream (arrivals x.header.gpa page x.words (page_count None)) v w
+  call_changes me (call.ExportMem tdr gpa k slot count) = sent_vcpus tdr gpa k slot count v w
+  call_changes me (call.ImportMem tdr slot page count) =
+      let x : Input = input_in (o.bundles slot) in taken_vcpus tdr x.header.stream (arrivals x.header.gpa page x.words (page_count count)) v w
   call_changes me (call.HostRead page word) = refl
   call_changes me _ = refl
 

@@ -103,6 +103,6 @@ lists-are-rows o me (call.MemSeptAdd tdr gpa level page) w g h = let rest = behi
 lists-are-rows o me (call.MemSeptRemove tdr gpa level) w g h = let rest = behind g (walk w tdr gpa level) _ h.1.1.1.1 in assumption (h, rest)
 lists-are-rows o me (call.MemRangeBlock tdr gpa level) w g h = let rest = behind g (walk w tdr gpa level) _ h.1.1.1.1 in assumption (h, rest)
 lists-are-rows o me (call.MemRangeUnblock tdr gpa level) w g h = let rest = behind g (walk w tdr gpa level) _ h.1.1.1.1 in assumption (h, rest)
-lists-are-rows o me (call.ExportMem tdr gpa stream slot) w g h = export_listed o.machine tdr gpa stream slot None w g h
-lists-are-rows o me (call.ImportMem tdr slot page) w g h = import_listed o.machine (o.bundles slot) tdr slot page None w g h
+lists-are-rows o me (call.ExportMem tdr gpa stream slot count) w g h = export_listed o.machine tdr gpa stream slot count w g h
+lists-are-rows o me (call.ImportMem tdr slot page count) w g h = import_listed o.machine (o.bundles slot) tdr slot page count w g h
 lists-are-rows o me _ w g h = assumption h

@@ -131,17 +131,17 @@ uses_of o w (call.ExportPause tdr) = td_uses tdr ++ of_td tdr ExportPause ∷ of
 uses_of o w (call.ExportAbort tdr) = td_uses tdr ++ of_td tdr ExportAbort ∷ of_td tdr ChangesOp ∷ []
 uses_of o w (call.ExportRestore tdr gpa) = td_uses tdr ++ of_td tdr ExportRestore ∷ []
 uses_of o w (call.ExportStateImmutable tdr slot) = td_uses tdr ++ of_td tdr ExportImmutable ∷ of_td tdr ChangesOp ∷ []
-uses_of o w (call.ExportMem tdr gpa stream slot) =
+uses_of o w (call.ExportMem tdr gpa stream slot count) =
     td_uses tdr ++ (of_td tdr ExportMemory ∷ of_td tdr BlockTestedShared ∷ of_both tdr (stream_page w tdr stream) ExportMemoryStream
-    ∷ export_uses w tdr (gpas_from gpa (page_count None)))
+    ∷ export_uses w tdr (gpas_from gpa (page_count count)))
 uses_of o w (call.ExportTrack tdr slot start) = td_uses tdr ++ of_td tdr ExportTokens ∷ of_td tdr ChangesOp ∷ []
 uses_of o w (call.ExportStateTd tdr slot) = td_uses tdr ++ of_td tdr ExportTdState ∷ []
 uses_of o w (call.ExportStateVp tdr vp slot) = td_uses tdr ++ of_page vp HeadPage ∷ of_both tdr vp ExportVpState ∷ []
 uses_of o w (call.ExportAbortByToken tdr slot) = td_uses tdr ++ of_td tdr ExportAbort ∷ of_td tdr ChangesOp ∷ []
 uses_of o w (call.ImportStateImmutable tdr slot) = td_uses tdr ++ of_td tdr ImportImmutable ∷ of_td tdr BeginsEpochs ∷ []
-uses_of o w (call.ImportMem tdr slot page) =
+uses_of o w (call.ImportMem tdr slot page count) =
     let x = input_in (o.bundles slot) in
-    td_uses tdr ++ of_td tdr ImportMemory ∷ fills_uses w tdr (arrivals x.header.gpa page x.words (page_count None))
+    td_uses tdr ++ of_td tdr ImportMemory ∷ fills_uses w tdr (arrivals x.header.gpa page x.words (page_count count))
 uses_of o w (call.ImportTrack tdr slot) = td_uses tdr ++ of_td tdr ImportTokens ∷ of_td tdr ChangesOp ∷ []
 uses_of o w (call.ImportStateTd tdr slot) = td_uses tdr ++ of_td tdr ImportTdState ∷ of_td tdr ChangesOp ∷ []
 uses_of o w (call.ImportStateVp tdr vp slot) = td_uses tdr ++ of_page vp HeadPage ∷ of_both tdr vp ImportVpState ∷ []
