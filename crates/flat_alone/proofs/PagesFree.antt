@@ -159,7 +159,7 @@ free_gpas hs place gpa None rest h = h
 free_gpas hs place gpa (Some n) rest h = λ a. h
 
 free_says : (hs : List Held) (h : ClearHeader) (count : Option ℕ) (rest : List (Item Reply)) → FreeTries hs rest → FreeTries hs (list_says h count ++ rest)
-free_says hs h None rest f = f
+free_says hs h None rest f = λ a. f
 free_says hs h (Some n) rest f = λ a b. f
 
 abbrev export_last : World → (t k : ℕ) → List ℕ → List (Item Reply)

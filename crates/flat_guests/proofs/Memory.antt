@@ -124,7 +124,7 @@ module _ (o : Opening) (w : World) (t n : ℕ) where
   call_remembers me (call.ExportMem tdr gpa k slot count) =
       ap (λ (v : World). memory_at v t n) (each_leaves tdr k (gpas_from gpa (page_count count)) (made_first tdr gpa k slot count w))
   call_remembers me (call.ImportMem tdr slot page count) =
-      let x : Input = input_in (o.bundles slot) in comes_in w tdr (record { gpa = x.header.gpa; page = page; words = x.words }) t n
+      let x : Input = input_in (o.bundles slot) in lists_remember tdr x.header.gpa page (page_count count) x.words w t n
   call_remembers me (call.HostRead page word) = refl
   call_remembers me _ = refl
 

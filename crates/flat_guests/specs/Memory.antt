@@ -9,7 +9,7 @@ use Rattle.flat_core.specs.World.{World, put}
 use Rattle.flat_core.specs.Processor.{Guest}
 use Rattle.flat_core.specs.Opening.{Opening}
 use Rattle.flat_core.specs.Inputs.{input_in}
-use Rattle.flat_core.specs.PageLists.{arrivals}
+use Rattle.flat_core.specs.PageLists.{page_count, arrivals}
 use Rattle.flat_core.specs.ImportRows.{take_each}
 use Rattle.flat_core.specs.Row.{Succeeds}
 use Rattle.flat_core.specs.Conditions.{same_kind}
@@ -21,8 +21,16 @@ use Rattle.flat_core.specs.Event.{State, Event, OfCall, OfOperation, Reaches, li
 abbrev pub memory_at : World → (tdr gpa_page : ℕ) → Option (ℕ → ℕ)
 memory_at w t n = w.hidden.memories t n
 
--- after a call has succeeded: of a TD that begins nothing is known, a page that is added has the source's words, one that is
--- imported those of its bundle, and of a private page that is removed or reclaimed nothing is known
+-- after pages have come in: each of so many GPA pages from one on has its 512 words of the bundle
+abbrev pub is_in_run : (first count n : ℕ) → Bool
+is_in_run first count n = nat_le first n && nat_lt n (first + count)
+
+abbrev pub memory_after_pages : (tdr first count : ℕ) → (ℕ → ℕ) → World → (t gpa_page : ℕ) → Option (ℕ → ℕ)
+memory_after_pages tdr first count words w t n =
+    if t == tdr && is_in_run first count n then Some (λ i. words (512 * (n - first) + i)) else memory_at w t n
+
+-- after a call has succeeded: of a TD that begins nothing is known, a page that is added has the source's words, those that are
+-- imported their words of the bundle, and of a private page that is removed or reclaimed nothing is known
 abbrev pub memory_after_call : Opening → Call → World → (tdr gpa_page : ℕ) → Option (ℕ → ℕ)
 memory_after_call o (call.MngCreate tdr hkid) w t n = if t == tdr then None else memory_at w t n
 memory_after_call o (call.MemPageAdd tdr gpa page source) w t n = if t == tdr && n == page_of_gpa gpa then Some (w.words source) else memory_at w t n
@@ -30,16 +38,8 @@ memory_after_call o (call.PhymemPageReclaim tdr page) w t n =
     if same_kind (w.pages.kinds page) kind.Reg && (t == tdr && n == w.pages.numbers page) then None else memory_at w t n
 memory_after_call o (call.MemPageRemove tdr gpa) w t n = if t == tdr && n == page_of_gpa gpa then None else memory_at w t n
 memory_after_call o (call.ImportMem tdr slot page count) w t n =
-    let x = input_in (o.bundles slot) in if t == tdr && n == page_of_gpa x.header.gpa then Some x.words else memory_at w t n
+    let x = input_in (o.bundles slot) in memory_after_pages tdr (page_of_gpa x.header.gpa) (page_count count) x.words w t n
 memory_after_call o _ w t n = memory_at w t n
-
--- after the pages of a list have come in: each of so many GPA pages from one on has its 512 words of the bundle
-abbrev pub is_in_run : (first count n : ℕ) → Bool
-is_in_run first count n = nat_le first n && nat_lt n (first + count)
-
-abbrev pub memory_after_pages : (tdr first count : ℕ) → (ℕ → ℕ) → World → (t gpa_page : ℕ) → Option (ℕ → ℕ)
-memory_after_pages tdr first count words w t n =
-    if t == tdr && is_in_run first count n then Some (λ i. words (512 * (n - first) + i)) else memory_at w t n
 
 -- after a guest's operation has: a page that was PENDING is accepted with zeros
 abbrev pub memory_after_operation : Option GuestOp → Guest → World → (tdr gpa_page : ℕ) → Option (ℕ → ℕ)

@@ -109,7 +109,7 @@ module _ (w : World) (first : Option Held) (items : List (Item Reply)) (h : Trie
   run-fits m place page tdr (Some n) = λ a b. h
 
   says-fit : (x : ClearHeader) (count : Option ℕ) → TriesFit w first (list_says x count ++ items)
-  says-fit x None = h
+  says-fit x None = λ a. h
   says-fit x (Some n) = λ a b. h
 
 page-fits : (w : World) (t gpa : ℕ) → TriesFit w (held_as t Shared) (page_to_export w t gpa)
