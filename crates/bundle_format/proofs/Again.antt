@@ -7,14 +7,14 @@ use Rattle.td_words.specs.declared.headers.Header.{Header}
 use Rattle.bundle_format.specs.Kinds.{kind_of}
 use Rattle.bundle_format.specs.Headers.{header_bytes, header_in, is_lawful, payload_length, judged, bundle_in}
 use Rattle.bundle_format.specs.Laws.{IsBundle}
-use Rattle.bundle_format.proofs.Faults.{facts_of, ranges_of, judged_lawful}
+use Rattle.bundle_format.proofs.Faults.{facts_of, version_small, ranges_of, judged_lawful}
 
 header_back : (h : Header) (rest : List ℕ) → is_lawful h ≡ true → header_in (header_bytes h ++ rest) ≡ h
 header_back h rest e =
     let f = facts_of h e in
     let r = ranges_of h (kind_of h.kind) f.fits in
     let size = little_number-reads_back 2 h.size [] (omega (arith, f.size)) in
-    let version = little_number-reads_back 2 h.version [] (omega (arith, f.version)) in
+    let version = little_number-reads_back 2 h.version [] (let small = version_small h.version h.kind f.version in omega (arith, small)) in
     let stream = little_number-reads_back 2 h.stream [] (omega (arith, r.0)) in
     let counter = little_number-reads_back 4 h.counter [] (omega (arith, f.counter)) in
     let epoch = little_number-reads_back 4 h.epoch [] (omega (arith, r.1)) in

@@ -1,17 +1,17 @@
 -- A lawful header has no fault.
-use Rattle.std.proofs.Common.{◌≡◌, ◌<◌, ◌≤◌, ◌+◌, ◌%◌, ◌^◌, ℕ, Option, Some, None, Ok, true, false, not, ◌==◌, nat_lt, nat_le, length, inl, inr, refl, arith}
+use Rattle.std.proofs.Common.{◌≡◌, ◌<◌, ◌≤◌, ◌+◌, ◌%◌, ◌^◌, ℕ, Option, Some, None, Ok, Bool, if◌then◌else◌, ◌-◌, true, false, not, ◌==◌, nat_lt, nat_le, length, inl, inr, refl, arith}
 use Rattle.std.proofs.lemmas.Bool.{and_parts, and_left, and_right, or_from, eqb-true, eq-eqb, leb-true, ltb-true, le-ltb, ne_eqb, not_from_true, cases_Bool}
 use Rattle.td_words.specs.declared.headers.Header.{Header}
 use Rattle.bundle_format.specs.declared.kinds.BundleKind.{BundleKind}
 use Rattle.bundle_format.specs.declared.kinds.BundleKind.TheVariants as kind
 use Rattle.bundle_format.specs.declared.kinds.Allowed.{Allowed}
-use Rattle.bundle_format.specs.Kinds.{kind_of, allowed}
-use Rattle.bundle_format.specs.Headers.{is_lawful, fits_kind, payload_of, payload_length, is_used, uses_unused, is_outside, judged_by_kind, judged}
+use Rattle.bundle_format.specs.Kinds.{kind_of, is_version, allowed, list_line, allowed_in}
+use Rattle.bundle_format.specs.Headers.{is_lawful, allows, fits, fits_kind, payload_of, payload_length, is_used, uses_unused, is_outside, judged_by_kind, judged}
 
 -- what a lawful header says of each field
 pub record Facts (h : Header) : Type 0 where
   pub size : h.size ≡ 64
-  pub version : h.version ≡ 1
+  pub version : is_version h.version h.kind ≡ true
   pub reserved : h.reserved ≡ 0
   pub counter : h.counter < 2 ^ 32
   pub iv : h.iv ≡ h.counter
@@ -24,7 +24,7 @@ pub record Facts (h : Header) : Type 0 where
 pub facts_of : (h : Header) → is_lawful h ≡ true → Facts h
 facts_of h e =
     let a = and_parts (h.size == 64) _ e in
-    let b = and_parts (h.version == 1) _ a.1 in
+    let b = and_parts (is_version h.version h.kind) _ a.1 in
     let c = and_parts (h.reserved == 0) _ b.1 in
     let d = and_parts (nat_lt h.counter (2 ^ 32)) _ c.1 in
     let f = and_parts (h.iv == h.counter) _ d.1 in
@@ -34,7 +34,7 @@ facts_of h e =
     let l = and_parts (length h.tag == 16) _ k.1 in
     record {
       size = eqb-true h.size 64 a.0;
-      version = eqb-true h.version 1 b.0;
+      version = b.0;
       reserved = eqb-true h.reserved 0 c.0;
       counter = ltb-true h.counter (2 ^ 32) d.0;
       iv = eqb-true h.iv h.counter f.0;
@@ -50,24 +50,27 @@ pub record Within (h : Header) (a : Allowed) : Type 0 where
   pub stream : h.stream ≤ a.stream
   pub epoch : h.epoch ≤ a.epoch
   pub index : h.index ≤ a.index
+  pub least : a.least_info ≤ h.info
   pub info : h.info ≤ a.info
   pub gpa : h.gpa ≤ a.gpa
   pub total : h.total ≤ a.total
 
-pub within_of : (h : Header) (k : BundleKind) → fits_kind h (Some k) ≡ true → Within h (allowed k)
-within_of h k e =
-    let a = and_parts (nat_le h.stream (allowed k).stream) _ e in
-    let b = and_parts (nat_le h.epoch (allowed k).epoch) _ a.1 in
-    let c = and_parts (nat_le h.index (allowed k).index) _ b.1 in
-    let d = and_parts (nat_le h.info (allowed k).info) _ c.1 in
-    let f = and_parts (nat_le h.gpa (allowed k).gpa) _ d.1 in
+pub within_of : (h : Header) (x : Allowed) → fits h x ≡ true → Within h x
+within_of h x e =
+    let a = and_parts (nat_le h.stream x.stream) _ e in
+    let b = and_parts (nat_le h.epoch x.epoch) _ a.1 in
+    let c = and_parts (nat_le h.index x.index) _ b.1 in
+    let l = and_parts (nat_le x.least_info h.info) _ c.1 in
+    let d = and_parts (nat_le h.info x.info) _ l.1 in
+    let f = and_parts (nat_le h.gpa x.gpa) _ d.1 in
     record {
-      stream = leb-true h.stream (allowed k).stream a.0;
-      epoch = leb-true h.epoch (allowed k).epoch b.0;
-      index = leb-true h.index (allowed k).index c.0;
-      info = leb-true h.info (allowed k).info d.0;
-      gpa = leb-true h.gpa (allowed k).gpa f.0;
-      total = leb-true h.total (allowed k).total f.1;
+      stream = leb-true h.stream x.stream a.0;
+      epoch = leb-true h.epoch x.epoch b.0;
+      index = leb-true h.index x.index c.0;
+      least = leb-true x.least_info h.info l.0;
+      info = leb-true h.info x.info d.0;
+      gpa = leb-true h.gpa x.gpa f.0;
+      total = leb-true h.total x.total f.1;
     }
 
 -- what any kind allows is in the field's range
@@ -88,12 +91,27 @@ small kind.EpochToken = record { stream = omega arith; epoch = omega arith; inde
 small kind.StartToken = record { stream = omega arith; epoch = omega arith; index = omega arith; info = omega arith; gpa = omega arith; total = omega arith }
 small kind.AbortToken = record { stream = omega arith; epoch = omega arith; index = omega arith; info = omega arith; gpa = omega arith; total = omega arith }
 
+pub small_in : (version info : ℕ) (k : BundleKind) → Small (allowed_in version info k)
+small_in version info k = by (version == 2)
+  where
+    by : (b : Bool) → Small (if b then list_line info else allowed k)
+    by true = record { stream = omega arith; epoch = omega arith; index = omega arith; info = omega arith; gpa = omega arith; total = omega arith }
+    by false = small k
+
+-- a version is 1 or 2
+pub version_small : (version kind : ℕ) → is_version version kind ≡ true → version ≤ 2
+version_small version kind e =
+    elim (cases_Bool (version == 1)) [
+      | inl y ↦ omega (arith, eqb-true version 1 y)
+      | inr y ↦ omega (arith, eqb-true version 2 (and_parts (version == 2) _ (rw y at e)).0)
+    ]
+
 pub ranges_of : (h : Header) (k : Option BundleKind) → fits_kind h k ≡ true
     → (h.stream < 2 ^ 16) × (h.epoch < 2 ^ 32) × (h.index < 2 ^ 16) × (h.info < 2 ^ 32) × (h.gpa < 2 ^ 64) × (h.total < 2 ^ 64)
 ranges_of h None e = cc
 ranges_of h (Some k) e =
-    let w = within_of h k e in
-    let s = small k in (
+    let w = within_of h (allows h k) e in
+    let s = small_in h.version h.info k in (
       omega (arith, w.stream, s.stream),
       omega (arith, w.epoch, s.epoch),
       omega (arith, w.index, s.index),
@@ -125,22 +143,24 @@ none_outside h a f w =
     (or_from (not (h.iv == h.counter)) _ (not_from_true (h.iv == h.counter) (eq-eqb h.iv h.counter f.iv))
     (or_from (h.session == 0) _ (ne_eqb h.session 0 (λ z. absurd (omega (arith, f.some_session))))
     (or_from (nat_lt a.index h.index) _ (le-ltb a.index h.index w.index)
+    (or_from (nat_lt h.info a.least_info) _ (le-ltb h.info a.least_info w.least)
     (or_from (nat_lt a.info h.info) _ (le-ltb a.info h.info w.info)
     (or_from (nat_lt a.gpa h.gpa) _ (le-ltb a.gpa h.gpa w.gpa)
-    (not_from_true (h.gpa % 4096 == 0) (eq-eqb (h.gpa % 4096) 0 f.gpa)))))))
+    (not_from_true (h.gpa % 4096 == 0) (eq-eqb (h.gpa % 4096) 0 f.gpa))))))))
 
-kind_judged : (h : Header) (n : ℕ) (k : Option BundleKind) → Facts h → fits_kind h k ≡ true → n ≡ 64 + payload_of k → judged_by_kind h n k ≡ Ok h
+kind_judged : (h : Header) (n : ℕ) (k : Option BundleKind) → Facts h → fits_kind h k ≡ true → n ≡ 64 + payload_of h k → judged_by_kind h n k ≡ Ok h
 kind_judged h n None f e whole = cc
 kind_judged h n (Some k) f e whole =
-    let w = within_of h k e in
-    let a = none_unused h (allowed k) f.reserved w in
-    let b = none_outside h (allowed k) f w in
-    let c = not_from_true (n == 64 + (allowed k).payload) (eq-eqb n (64 + (allowed k).payload) whole) in
+    let x : Allowed = allows h k in
+    let w = within_of h x e in
+    let a = none_unused h x f.reserved w in
+    let b = none_outside h x f w in
+    let c = not_from_true (n == 64 + x.payload) (eq-eqb n (64 + x.payload) whole) in
     rw (a, b, c) refl
 
 pub judged_lawful : (h : Header) (n : ℕ) → is_lawful h ≡ true → n ≡ 64 + payload_length h → judged h n ≡ Ok h
 judged_lawful h n e whole =
     let f = facts_of h e in
     let a = not_from_true (h.size == 64) (eq-eqb h.size 64 f.size) in
-    let b = not_from_true (h.version == 1) (eq-eqb h.version 1 f.version) in
+    let b = not_from_true (is_version h.version h.kind) f.version in
     rw (a, b) (kind_judged h n (kind_of h.kind) f f.fits whole)

@@ -9,8 +9,9 @@ use Rattle.td_words.specs.declared.names.HeaderField.{HeaderField}
 use Rattle.td_words.specs.declared.names.HeaderField.TheVariants as field
 use Rattle.bundle_format.specs.declared.kinds.BundleKind.{BundleKind}
 use Rattle.bundle_format.specs.declared.kinds.BundleKind.TheVariants as kind
-use Rattle.bundle_format.specs.Kinds.{kind_of, allowed}
-use Rattle.bundle_format.specs.Headers.{header_bytes, header_in, is_lawful, fits_kind, payload_of, payload_length, is_used, uses_unused, is_outside, judged_by_kind, judged, bundle_in}
+use Rattle.bundle_format.specs.declared.kinds.Allowed.{Allowed}
+use Rattle.bundle_format.specs.Kinds.{kind_of, is_version, allowed, list_line, allowed_in}
+use Rattle.bundle_format.specs.Headers.{header_bytes, header_in, is_lawful, allows, fits_kind, payload_of, payload_length, is_used, uses_unused, is_outside, judged_by_kind, judged, bundle_in}
 use Rattle.bundle_format.specs.Laws.{IsBundle}
 use Rattle.bundle_format.proofs.Digits.{bytes_from}
 
@@ -60,6 +61,20 @@ total_within kind.EpochToken v small h = omega arith
 total_within kind.StartToken v small h = omega arith
 total_within kind.AbortToken v small h = none_used v h
 
+epoch_in : (version info : ℕ) (k : BundleKind) (v : ℕ) → v < 2 ^ 32 → is_used (allowed_in version info k).epoch v ≡ false → v ≤ (allowed_in version info k).epoch
+epoch_in version info k v small = by (version == 2)
+  where
+    by : (b : Bool) → is_used (if b then list_line info else allowed k).epoch v ≡ false → v ≤ (if b then list_line info else allowed k).epoch
+    by true h = omega (arith, small)
+    by false h = epoch_within k v small h
+
+total_in : (version info : ℕ) (k : BundleKind) (v : ℕ) → v < 2 ^ 64 → is_used (allowed_in version info k).total v ≡ false → v ≤ (allowed_in version info k).total
+total_in version info k v small = by (version == 2)
+  where
+    by : (b : Bool) → is_used (if b then list_line info else allowed k).total v ≡ false → v ≤ (if b then list_line info else allowed k).total
+    by true h = none_used v h
+    by false h = total_within k v small h
+
 -- what is known of a header that was let through
 pub record Through (b : Header) (n : ℕ) (k : Option BundleKind) (h : Header) : Type 0 where
   pub same : b ≡ h
@@ -68,7 +83,7 @@ pub record Through (b : Header) (n : ℕ) (k : Option BundleKind) (h : Header) :
   pub session : 1 ≤ b.session
   pub gpa : (b.gpa % 4096 == 0) ≡ true
   pub fits : fits_kind b k ≡ true
-  pub whole : n ≡ 64 + payload_of k
+  pub whole : n ≡ 64 + payload_of b k
 
 ok_same : (x y : Header) → (let a : Result Header HeaderField = Ok x in a ≡ Ok y) → x ≡ y
 ok_same x y h = cc
@@ -77,7 +92,7 @@ through : (b : Header) (n : ℕ) (k : Option BundleKind) (h : Header) → b.epoc
     → judged_by_kind b n k ≡ Ok h → Through b n k h
 through b n None h small_epoch small_total e = cc
 through b n (Some k) h small_epoch small_total e =
-    let a = allowed k in
+    let a : Allowed = allows b k in
     let p = passed (uses_unused b a) field.Reserved _ h e in
     let q = passed (is_outside b a) field.Value _ h p.1 in
     let r = passed (not (n == 64 + a.payload)) field.Length _ h q.1 in
@@ -90,7 +105,8 @@ through b n (Some k) h small_epoch small_total e =
     let o1 = or_parts (not (b.iv == b.counter)) _ o0.1 in
     let o2 = or_parts (b.session == 0) _ o1.1 in
     let o3 = or_parts (nat_lt a.index b.index) _ o2.1 in
-    let o4 = or_parts (nat_lt a.info b.info) _ o3.1 in
+    let least = or_parts (nat_lt b.info a.least_info) _ o3.1 in
+    let o4 = or_parts (nat_lt a.info b.info) _ least.1 in
     let o5 = or_parts (nat_lt a.gpa b.gpa) _ o4.1 in
     record {
       same = ok_same b h r.1;
@@ -99,11 +115,12 @@ through b n (Some k) h small_epoch small_total e =
       session = some_if b.session (eqb-false b.session 0 o2.0);
       gpa = not-false (b.gpa % 4096 == 0) o5.1;
       fits = and_from (nat_le b.stream a.stream) _ (le-leb b.stream a.stream (ltb-false a.stream b.stream o0.0))
-          (and_from (nat_le b.epoch a.epoch) _ (le-leb b.epoch a.epoch (epoch_within k b.epoch small_epoch u1.0))
+          (and_from (nat_le b.epoch a.epoch) _ (le-leb b.epoch a.epoch (epoch_in b.version b.info k b.epoch small_epoch u1.0))
           (and_from (nat_le b.index a.index) _ (le-leb b.index a.index (ltb-false a.index b.index o3.0))
+          (and_from (nat_le a.least_info b.info) _ (le-leb a.least_info b.info (ltb-false b.info a.least_info least.0))
           (and_from (nat_le b.info a.info) _ (le-leb b.info a.info (ltb-false a.info b.info o4.0))
           (and_from (nat_le b.gpa a.gpa) _ (le-leb b.gpa a.gpa (ltb-false a.gpa b.gpa o5.0))
-          (le-leb b.total a.total (total_within k b.total small_total u4.1))))));
+          (le-leb b.total a.total (total_in b.version b.info k b.total small_total u4.1)))))));
       whole = eqb-true n (64 + a.payload) (not-false (n == 64 + a.payload) r.0);
     }
   where
@@ -118,7 +135,7 @@ read_from bs h fits e =
     let p = passed (nat_lt n 64) field.Short (judged b n) h e in
     let long = ltb-false n 64 p.0 in
     let q = passed (not (b.size == 64)) field.Size _ h p.1 in
-    let r = passed (not (b.version == 1)) field.Version _ h q.1 in
+    let r = passed (not (is_version b.version b.kind)) field.Version _ h q.1 in
     let number : (at m : ℕ) → little_number m (drop at bs) < 256 ^ m = λ at m.
     little_from-lt 0 m (drop at bs) (λ i. subst (λ (x : ℕ). x < 256) (sym (get_or-drop at bs i 0)) (fits (at + i))) in
     let t = through b n (kind_of b.kind) h (let s = number 12 4 in omega arith) (let s = number 40 8 in omega arith) r.1 in
@@ -127,7 +144,7 @@ read_from bs h fits e =
     let tag : length b.tag ≡ 16 = length-take-le 16 (drop 48 bs) (omega (arith, length-drop 48 bs)) in
     let lawful : is_lawful b ≡ true =
     and_from (b.size == 64) _ (not-false (b.size == 64) q.0)
-    (and_from (b.version == 1) _ (not-false (b.version == 1) r.0)
+    (and_from (is_version b.version b.kind) _ (not-false (is_version b.version b.kind) r.0)
     (and_from (b.reserved == 0) _ t.reserved
     (and_from (nat_lt b.counter (2 ^ 32)) _ (lt-ltb b.counter (2 ^ 32) counter)
     (and_from (b.iv == b.counter) _ t.iv

@@ -6,7 +6,7 @@ use Rattle.td_words.specs.declared.names.HeaderField.{HeaderField}
 use Rattle.td_words.specs.declared.names.HeaderField.TheVariants as field
 use Rattle.bundle_format.specs.declared.kinds.BundleKind.{BundleKind}
 use Rattle.bundle_format.specs.declared.kinds.Allowed.{Allowed}
-use Rattle.bundle_format.specs.Kinds.{kind_of, allowed}
+use Rattle.bundle_format.specs.Kinds.{kind_of, is_version, allowed_in}
 
 -- a header's bytes but its tag, numbers lowest byte first: those that the tag authenticates beside the payload
 abbrev pub head_bytes : Header → List ℕ
@@ -38,26 +38,33 @@ header_in bs = record {
   tag = take 16 (drop 48 bs);
 }
 
--- whether each field that depends on the kind has a value that the kind allows
+-- what a header's kind allows in its version
+abbrev pub allows : Header → BundleKind → Allowed
+allows h k = allowed_in h.version h.info k
+
+-- whether each field that depends on kind and version has a value that these allow
+abbrev pub fits : Header → Allowed → Bool
+fits h a =
+    nat_le h.stream a.stream && (nat_le h.epoch a.epoch && (nat_le h.index a.index && (nat_le a.least_info h.info
+    && (nat_le h.info a.info && (nat_le h.gpa a.gpa && nat_le h.total a.total)))))
+
 abbrev pub fits_kind : Header → Option BundleKind → Bool
 fits_kind h None = false
-fits_kind h (Some k) =
-    nat_le h.stream (allowed k).stream && (nat_le h.epoch (allowed k).epoch && (nat_le h.index (allowed k).index
-    && (nat_le h.info (allowed k).info && (nat_le h.gpa (allowed k).gpa && nat_le h.total (allowed k).total))))
+fits_kind h (Some k) = fits h (allows h k)
 
 -- a lawful header: each field has a value that the layout allows for its kind
 abbrev pub is_lawful : Header → Bool
 is_lawful h =
-    (h.size == 64) && ((h.version == 1) && ((h.reserved == 0) && (nat_lt h.counter (2 ^ 32) && ((h.iv == h.counter)
+    (h.size == 64) && (is_version h.version h.kind && ((h.reserved == 0) && (nat_lt h.counter (2 ^ 32) && ((h.iv == h.counter)
     && (nat_le 1 h.session && (nat_lt h.session (2 ^ 16) && ((h.gpa % 4096 == 0) && ((length h.tag == 16) && fits_kind h (kind_of h.kind)))))))))
 
--- the length of the payload that a header's kind wants
-abbrev pub payload_of : Option BundleKind → ℕ
-payload_of None = 0
-payload_of (Some k) = (allowed k).payload
+-- the length of the payload that a header's kind and version want
+abbrev pub payload_of : Header → Option BundleKind → ℕ
+payload_of h None = 0
+payload_of h (Some k) = (allows h k).payload
 
 abbrev pub payload_length : Header → ℕ
-payload_length h = payload_of (kind_of h.kind)
+payload_length h = payload_of h (kind_of h.kind)
 
 -- ---- the first fault
 
@@ -74,23 +81,23 @@ uses_unused h a =
 -- whether a field has no value that the kind allows
 abbrev pub is_outside : Header → Allowed → Bool
 is_outside h a =
-    nat_lt a.stream h.stream || (not (h.iv == h.counter) || ((h.session == 0) || (nat_lt a.index h.index || (nat_lt a.info h.info
-    || (nat_lt a.gpa h.gpa || not (h.gpa % 4096 == 0))))))
+    nat_lt a.stream h.stream || (not (h.iv == h.counter) || ((h.session == 0) || (nat_lt a.index h.index || (nat_lt h.info a.least_info
+    || (nat_lt a.info h.info || (nat_lt a.gpa h.gpa || not (h.gpa % 4096 == 0)))))))
 
 -- the faults that depend on the kind, of a bundle of n bytes
 abbrev pub judged_by_kind : Header → ℕ → Option BundleKind → Result Header HeaderField
 judged_by_kind h n None = Err field.Kind
 judged_by_kind h n (Some k) =
-    if uses_unused h (allowed k) then Err field.Reserved
-    else if is_outside h (allowed k) then Err field.Value
-    else if not (n == 64 + (allowed k).payload) then Err field.Length
+    if uses_unused h (allows h k) then Err field.Reserved
+    else if is_outside h (allows h k) then Err field.Value
+    else if not (n == 64 + (allows h k).payload) then Err field.Length
     else Ok h
 
 -- the faults of a header, of a bundle of n bytes
 abbrev pub judged : Header → ℕ → Result Header HeaderField
 judged h n =
     if not (h.size == 64) then Err field.Size
-    else if not (h.version == 1) then Err field.Version
+    else if not (is_version h.version h.kind) then Err field.Version
     else judged_by_kind h n (kind_of h.kind)
 
 -- a bundle's header, or its first fault

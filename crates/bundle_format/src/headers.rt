@@ -3,7 +3,7 @@
 ghost use Rattle.std.specs.Prelude.{◌≡◌, ◌≤◌, true, length};
 ghost use Rattle.bundle_format.specs.Headers.{head_bytes, header_bytes, header_in, is_lawful, uses_unused, is_outside, bundle_in};
 
-use crate::kinds::{Allowed, BundleKind};
+use crate::kinds::{Allowed, BundleKind, is_version};
 use byteorder::{ByteOrder, LittleEndian};
 use td_words::{Header, HeaderField};
 
@@ -53,13 +53,13 @@ pub fn read_bundle(bytes: &[u8]) -> Result<Header, HeaderField>
     if header.size != 64 {
         return Err(HeaderField::Size);
     }
-    if header.version != 1 {
+    if !is_version(header.version, header.kind) {
         return Err(HeaderField::Version);
     }
     let Some(kind) = BundleKind::of(header.kind) else {
         return Err(HeaderField::Kind);
     };
-    let allowed = kind.allowed();
+    let allowed = kind.allowed_in(header.version, header.info);
     if uses_unused(&header, &allowed) {
         return Err(HeaderField::Reserved);
     }
@@ -117,6 +117,7 @@ fn is_outside(header: &Header, allowed: &Allowed) -> bool
         || header.iv != header.counter as u64
         || header.session == 0
         || header.index > allowed.index
+        || header.info < allowed.least_info
         || header.info > allowed.info
         || header.gpa > allowed.gpa
         || header.gpa % 4096 != 0
