@@ -1,6 +1,6 @@
 //! Headers as bytes.
 
-ghost use Rattle.std.specs.Prelude.{◌≡◌, ◌≤◌, true, length};
+ghost use Rattle.std.specs.Prelude.{◌≡◌, ◌<◌, ◌≤◌, ◌+◌, ◌^◌, ◌==◌, true, length};
 ghost use Rattle.bundle_format.specs.Headers.{head_bytes, header_bytes, header_in, is_lawful, uses_unused, is_outside, bundle_in};
 
 use crate::kinds::{Allowed, BundleKind, is_version};
@@ -66,7 +66,7 @@ pub fn read_bundle(bytes: &[u8]) -> Result<Header, HeaderField>
     if is_outside(&header, &allowed) {
         return Err(HeaderField::Value);
     }
-    if bytes.len() != 64 + allowed.payload {
+    if !is_whole(bytes.len(), &allowed) {
         return Err(HeaderField::Length);
     }
     Ok(header)
@@ -95,6 +95,14 @@ fn header_at(bytes: &[u8]) -> Header
         total: LittleEndian::read_u64(&bytes[40..]),
         tag,
     }
+}
+
+/// Whether bundles of that length have a payload of the length that is allowed.
+fn is_whole(length: usize, allowed: &Allowed) -> bool
+    requires { allowed.now.payload < 2 ^ 45 }
+    ensures { result ≡ (length == 64 + allowed.now.payload) }
+{
+    length == 64 + allowed.payload
 }
 
 /// Whether byte 7, or a field that the kind doesn't use, isn't 0.
