@@ -15,12 +15,12 @@ use Rattle.flat_core.specs.Laws.{with_bundles}
 use Rattle.flat_core.proofs.Tests.{by_test, put_here}
 use Rattle.flat_core.proofs.Due.{due_event_is}
 use Rattle.flat_core.proofs.Induction.{event_keeps, in_runs}
-use Rattle.flat_bundles.specs.Bundles.{AddsBundle, AreOfLines, BundlesAreOfLines, times, slots_of, acted, AreFitting, LinesAreKept}
+use Rattle.flat_bundles.specs.Bundles.{most_words, AddsBundle, AreOfLines, BundlesAreOfLines, times, slots_of, acted, AreFitting, LinesAreKept}
 use Rattle.flat_bundles.proofs.Times.{times-append, all-left, less-left, one-less, once, once-apart, all-in}
 use Rattle.flat_bundles.proofs.Steps.{Goes, stays, makes, event-goes}
 
 abbrev IsPage : Made → Type 0
-IsPage m = length m.payload ≤ 512
+IsPage m = length m.payload ≤ most_words
 
 abbrev acted_in : State → ℕ → ℕ
 acted_in s q = acted (s.lps q)

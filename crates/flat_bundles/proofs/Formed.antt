@@ -1,9 +1,9 @@
 -- Every bundle that a run makes has the form of its type: what keeps it, event by event.
-use Rattle.std.proofs.Common.{◌≡◌, refl, sym, ◌∙◌, ap, subst, ℕ, zero, suc, ◌+◌, ◌-◌, ◌*◌, ◌%◌, ◌^◌, ◌<◌, ◌≤◌, List, [], ◌∷◌, length, Option, Some, None, Bool, true, false, ◌==◌, ◌&&◌, arith}
+use Rattle.std.proofs.Common.{◌≡◌, refl, sym, ◌∙◌, ap, subst, ℕ, zero, suc, ◌+◌, ◌-◌, ◌*◌, ◌%◌, ◌^◌, ◌<◌, ◌≤◌, List, [], ◌∷◌, length, Option, Some, None, Bool, true, false, ◌==◌, ◌&&◌, nat_le, arith}
 use Rattle.std.specs.Prelude.{slice_get}
 use Rattle.std.specs.List.{All, list_any, sum_by}
 use Rattle.std.proofs.Math.Nat.{mod-le}
-use Rattle.std.proofs.lemmas.Bool.{eqb-true, eq-eqb, and_parts, lt-ltb, ltb-true, le-leb}
+use Rattle.std.proofs.lemmas.Bool.{eqb-true, eq-eqb, and_parts, lt-ltb, ltb-true, le-leb, leb-true}
 use Rattle.std.proofs.lemmas.List.Elements.{All-nil, All-push}
 use Rattle.std.proofs.lemmas.List.FromFn.{length-map-range_with_len}
 use Rattle.std.proofs.lemmas.List.Sums.{sum_by-cons}
@@ -22,7 +22,7 @@ use Rattle.td_words.specs.NameNumber.{op_number}
 use Rattle.bundle_format.specs.declared.kinds.BundleKind.{BundleKind}
 use Rattle.bundle_format.specs.declared.kinds.BundleKind.TheVariants as bundle
 use Rattle.bundle_format.specs.declared.kinds.Allowed.{Allowed}
-use Rattle.bundle_format.specs.Kinds.{kind_of, allowed}
+use Rattle.bundle_format.specs.Kinds.{kind_of, is_version, allowed_in}
 use Rattle.bundle_format.specs.Headers.{fits_kind, is_lawful, payload_of}
 use Rattle.flat_core.specs.World.{World, Tds, ClearHeader, Made, put}
 use Rattle.flat_core.specs.Processor.{Guest, Lp}
@@ -35,9 +35,9 @@ use Rattle.flat_core.specs.Effects.{set_op, restate, pass_operation, tell_words,
 use Rattle.flat_core.specs.Guest.{ByRow, operation_of, is_pending_at, reach}
 use Rattle.flat_core.specs.Sessions.{About, about, header_of, stream_page, stream_counter, bundles_so_far, payload_words, count_bundle, make_bundle, begin_session, set_mig_epoch, count_export, note_td_export, note_vp_export}
 use Rattle.flat_core.specs.ExportRows.{live_ops, abortable_ops}
-use Rattle.flat_core.specs.BundleRows.{start_epoch, paused_ops}
+use Rattle.flat_core.specs.BundleRows.{start_epoch, paused_ops, words_of_pages, about_pages, export_page, export_each}
 use Rattle.flat_core.specs.Inputs.{Input, input_in, most_info}
-use Rattle.flat_core.specs.PageLists.{page_count, Arrival, arrivals}
+use Rattle.flat_core.specs.PageLists.{page_count, gpas_from, Arrival, arrivals}
 use Rattle.flat_core.specs.ImportRows.{filling_ops, vp_state_ops, given_up_ops, take_each, is_start, import_token_ops, abort_header}
 use Rattle.flat_core.specs.Table.{row_of}
 use Rattle.flat_core.specs.Lawful.{IsAlive, Lawful}
@@ -52,13 +52,14 @@ use Rattle.flat_core.proofs.ImportKeeps.{input_form}
 use Rattle.flat_core.proofs.Induction.{in_runs}
 use Rattle.flat_core.proofs.Operations.{operation_row, accepted}
 use Rattle.flat_core.proofs.Passed.{TdPassed, td_alive}
-use Rattle.flat_core.proofs.PageLists.{takes_leave}
+use Rattle.flat_core.proofs.PageLists.{gpas_many, takes_leave}
+use Rattle.flat_bundles.proofs.Rows.{pages-many}
 use Rattle.flat_bundles.specs.Formed.{tagged, IsFormed, AreCodesShort, EveryBundleIsFormed, has_session, FormsHold, FormsAreKept}
 
 -- a header's values are among those that its kind allows
 record IsWithin (h : ClearHeader) (a : Allowed) : Type 0 where
   size : h.size ≡ 64
-  version : h.version ≡ 1
+  version : is_version h.version h.kind ≡ true
   reserved : h.reserved ≡ 0
   counter : h.counter < 2 ^ 32
   iv : h.iv ≡ h.counter
@@ -68,6 +69,7 @@ record IsWithin (h : ClearHeader) (a : Allowed) : Type 0 where
   stream : h.stream ≤ a.stream
   epoch : h.epoch ≤ a.epoch
   index : h.index ≤ a.index
+  least : a.least_info ≤ h.info
   info : h.info ≤ a.info
   gpa : h.gpa ≤ a.gpa
   total : h.total ≤ a.total
@@ -75,31 +77,36 @@ record IsWithin (h : ClearHeader) (a : Allowed) : Type 0 where
 both : {a b : Bool} → a ≡ true → b ≡ true → (a && b) ≡ true
 both e f = rw (e, f) refl
 
-lawful_of : (h : ClearHeader) (k : BundleKind) → kind_of h.kind ≡ Some k → IsWithin h (allowed k) → (tag : List ℕ) → length tag ≡ 16 → is_lawful (tagged tag h) ≡ true
+lawful_of : (h : ClearHeader) (k : BundleKind) → kind_of h.kind ≡ Some k → IsWithin h (allowed_in h.version h.info k) → (tag : List ℕ) → length tag ≡ 16
+    → is_lawful (tagged tag h) ≡ true
 lawful_of h k is v tag long =
+    let x : Allowed = allowed_in h.version h.info k in
     let fits : fits_kind (tagged tag h) (Some k) ≡ true =
-    both (le-leb h.stream (allowed k).stream v.stream) (both (le-leb h.epoch (allowed k).epoch v.epoch) (both (le-leb h.index (allowed k).index v.index)
-    (both (le-leb h.info (allowed k).info v.info) (both (le-leb h.gpa (allowed k).gpa v.gpa) (le-leb h.total (allowed k).total v.total))))) in
-    both (eq-eqb h.size 64 v.size) (both (eq-eqb h.version 1 v.version) (both (eq-eqb h.reserved 0 v.reserved) (both (lt-ltb h.counter (2 ^ 32) v.counter) (both (eq-eqb h.iv h.counter v.iv)
+    both (le-leb h.stream x.stream v.stream) (both (le-leb h.epoch x.epoch v.epoch) (both (le-leb h.index x.index v.index)
+    (both (le-leb x.least_info h.info v.least) (both (le-leb h.info x.info v.info) (both (le-leb h.gpa x.gpa v.gpa) (le-leb h.total x.total v.total)))))) in
+    both (eq-eqb h.size 64 v.size) (both v.version (both (eq-eqb h.reserved 0 v.reserved) (both (lt-ltb h.counter (2 ^ 32) v.counter) (both (eq-eqb h.iv h.counter v.iv)
     (both (le-leb 1 h.session v.session) (both (lt-ltb h.session (2 ^ 16) v.session_small) (both (eq-eqb (h.gpa % 4096) 0 v.page) (both (eq-eqb (length tag) 16 long)
-    (subst (λ (x : Option BundleKind). fits_kind (tagged tag h) x ≡ true) (sym is) fits)))))))))
+    (subst (λ (z : Option BundleKind). fits_kind (tagged tag h) z ≡ true) (sym is) fits)))))))))
 
-formed_of : (b : Made) (k : BundleKind) → kind_of b.header.kind ≡ Some k → IsWithin b.header (allowed k) → 8 * length b.payload ≡ (allowed k).payload → IsFormed b
-formed_of b k is v long = record { lawful = λ tag tagged. lawful_of b.header k is v tag tagged; whole = λ tag. long ∙ ap payload_of (sym is) }
+formed_of : (b : Made) (k : BundleKind) → kind_of b.header.kind ≡ Some k → (let x : Allowed = allowed_in b.header.version b.header.info k in
+    IsWithin b.header x → 8 * length b.payload ≡ x.payload → IsFormed b)
+formed_of b k is v long = record { lawful = λ tag size. lawful_of b.header k is v tag size; whole = λ tag. long ∙ ap (payload_of (tagged tag b.header)) (sym is) }
 
 -- what a bundle of a session says besides its session and its counter
 record FitsKind (a : About) (k : Allowed) : Type 0 where
-  version : a.version ≡ 1
+  version : is_version a.version a.kind ≡ true
   page : a.gpa % 4096 ≡ 0
   stream : a.stream ≤ k.stream
   epoch : a.epoch ≤ k.epoch
   index : a.index ≤ k.index
+  least : k.least_info ≤ a.info
   info : a.info ≤ k.info
   gpa : a.gpa ≤ k.gpa
   total : a.total ≤ k.total
 
 -- a bundle is made
-module _ (w : World) (h : FormsHold w) (t slot : ℕ) (a : About) (payload : List ℕ) (k : BundleKind) (is : kind_of a.kind ≡ Some k) (v : FitsKind a (allowed k)) (long : 8 * length payload ≡ (allowed k).payload)
+module _ (w : World) (h : FormsHold w) (t slot : ℕ) (a : About) (payload : List ℕ) (k : BundleKind) (is : kind_of a.kind ≡ Some k) (v : FitsKind a (allowed_in a.version a.info k))
+    (long : 8 * length payload ≡ (allowed_in a.version a.info k).payload)
     (session : 1 ≤ w.tds.sessions t) (small : w.tds.sessions t < 2 ^ 16) (counter : stream_counter w t a.stream < 2 ^ 32) where
   abbrev new : Made
   new = record { slot = slot; header = header_of w t a; payload = payload }
@@ -117,6 +124,7 @@ module _ (w : World) (h : FormsHold w) (t slot : ℕ) (a : About) (payload : Lis
     stream = v.stream;
     epoch = v.epoch;
     index = v.index;
+    least = v.least;
     info = v.info;
     gpa = v.gpa;
     total = v.total;
@@ -228,29 +236,58 @@ module _ (o : Opening) (me : ℕ) (w : World) (l : Lawful o.machine w) (h : Form
         session = λ x e. by_test (x == t) (λ y. rw y (omega arith)) (λ y. rw y (h.session x (rw y at e)));
       } in
       made_forms (begin_session t w) begun t slot (record (about 0 1) { info = length (w.tds.vps t) }) (six_words (w.tds.mrtds t)) bundle.ImmutableState refl
-      (record { version = refl; page = refl; stream = omega arith; epoch = omega arith; index = omega arith; info = few; gpa = omega arith; total = omega arith }) refl
+      (record { version = refl; page = refl; stream = omega arith; epoch = omega arith; index = omega arith; least = omega arith; info = few; gpa = omega arith; total = omega arith }) refl
       (rw (same_self t) (omega arith)) (rw (same_self t) (omega (arith, room)))
       (by_test (list_any (λ p. p == stream_page w t 0) (w.tds.streams t)) (λ y. rw y (omega arith)) (λ y. rw y (l.streams.counter (stream_page w t 0))))
 
-  page_forms : (t gpa k slot : ℕ) → Passes ((row_of o me (call.ExportMem t gpa k slot count)).items w) → FormsHold (After (call.ExportMem t gpa k slot count))
-  page_forms t gpa k slot ps =
+  -- what the export of pages leaves
+  kept-forms : (t k : ℕ) (gpas : List ℕ) (v : World) → FormsHold v → FormsHold (export_each t k gpas v)
+  kept-forms t k [] v f = f
+  kept-forms t k (gpa ∷ gpas) v f = kept-forms t k gpas (export_page t k gpa v) (record { formed = f.formed; position = f.position; session = f.session })
+
+  page_forms : (t gpa k slot : ℕ) (count : Option ℕ) → Passes ((row_of o me (call.ExportMem t gpa k slot count)).items w) → FormsHold (After (call.ExportMem t gpa k slot count))
+  page_forms t gpa k slot None ps =
       let few : k < 4 = ltb-true _ _ (search) in
       let low : gpa < 2 ^ 47 = ltb-true _ _ (search) in
-      let v : World = count_export t k (entry_at w t 0 gpa).state (restate t (number_at 0 gpa) entry.ExportedBlockedW (w.tds.mig_epochs t) w) in
-      made_forms v (record { formed = h.formed; position = h.position; session = h.session }) t slot (record (about 3 (w.tds.mig_epochs t)) { stream = k; gpa = gpa }) (payload_words (w.words (entry_at w t 0 gpa).page) 512) bundle.Memory refl
+      kept-forms t k (gpa ∷ []) (make_bundle t slot (about_pages w t k gpa None) (words_of_pages w t (gpa ∷ [])) w)
+      (made_forms w h t slot (about_pages w t k gpa None) (words_of_pages w t (gpa ∷ [])) bundle.Memory refl
       (record {
         version = refl;
         page = eqb-true (gpa % 4096) 0 (search);
-        stream = omega
-            (arith, few);
+        stream = omega (arith, few);
         epoch = epoch_fits t;
         index = omega arith;
+        least = omega arith;
         info = omega arith;
         gpa = omega (arith, low);
         total = omega arith;
       })
-      (let all = length-map-range_with_len (w.words (entry_at w t 0 gpa).page) 0 512 in omega (arith, all))
-      (h.session t (abortable_session (w.tds.ops t) (search))) (l.sessions.session t) (counter_fits t k)
+      (let long = pages-many w t (gpa ∷ []) in omega (arith, long))
+      (h.session t (abortable_session (w.tds.ops t) (search))) (l.sessions.session t) (counter_fits t k))
+  page_forms t gpa k slot (Some n) ps =
+      let few : k < 4 = ltb-true _ _ (search) in
+      let (some, most) = and_parts (nat_le 1 n) (nat_le n 16) (search) in
+      let least = leb-true 1 n some in
+      let many = leb-true n 16 most in
+      let ends : gpa + 4096 * n ≤ 2 ^ 47 = leb-true _ _ (search) in
+      let gpas : List ℕ = gpas_from gpa (page_count (Some n)) in
+      let size : length gpas ≡ n = gpas_many gpa (page_count (Some n)) ∙ (rw most refl) in
+      let long = pages-many w t gpas in
+      kept-forms t k gpas (make_bundle t slot (about_pages w t k gpa (Some n)) (words_of_pages w t gpas) w)
+      (made_forms w h t slot (about_pages w t k gpa (Some n)) (words_of_pages w t gpas) bundle.Memory refl
+      (record {
+        version = refl;
+        page = eqb-true (gpa % 4096) 0 (search);
+        stream = omega (arith, few);
+        epoch = epoch_fits t;
+        index = omega arith;
+        least = least;
+        info = many;
+        gpa = omega (arith, ends);
+        total = omega arith;
+      })
+      (omega (arith, long, size))
+      (h.session t (abortable_session (w.tds.ops t) (search))) (l.sessions.session t) (counter_fits t k))
 
   token_forms : (t slot first : ℕ) → Passes ((row_of o me (call.ExportTrack t slot first)).items w) → FormsHold (After (call.ExportTrack t slot first))
   token_forms t slot zero ps =
@@ -263,6 +300,7 @@ module _ (o : Opening) (me : ℕ) (w : World) (l : Lawful o.machine w) (h : Form
         epoch = omega
             (arith, less);
         index = omega arith;
+        least = omega arith;
         info = omega arith;
         gpa = omega arith;
         total = total_fits t;
@@ -272,12 +310,12 @@ module _ (o : Opening) (me : ℕ) (w : World) (l : Lawful o.machine w) (h : Form
       let own : 1 ≤ w.tds.sessions t = h.session t (paused_session (w.tds.ops t) (search)) in
       made_forms (set_op t op.PostExport (set_mig_epoch t start_epoch w)) (over_forms (set_mig_epoch t start_epoch w) t op.PostExport (λ e. own) (record { formed = h.formed; position = h.position; session = h.session }))
       t slot (record (about 5 start_epoch) { total = bundles_so_far w t }) [] bundle.StartToken refl
-      (record { version = refl; page = refl; stream = omega arith; epoch = omega arith; index = omega arith; info = omega arith; gpa = omega arith; total = total_fits t }) refl own (l.sessions.session t) (counter_fits t 0)
+      (record { version = refl; page = refl; stream = omega arith; epoch = omega arith; index = omega arith; least = omega arith; info = omega arith; gpa = omega arith; total = total_fits t }) refl own (l.sessions.session t) (counter_fits t 0)
 
   td_forms : (t slot : ℕ) → Passes ((row_of o me (call.ExportStateTd t slot)).items w) → FormsHold (After (call.ExportStateTd t slot))
   td_forms t slot ps =
       made_forms (note_td_export t w) (record { formed = h.formed; position = h.position; session = h.session }) t slot (about 1 (w.tds.mig_epochs t)) (payload_words (w.hidden.rtmrs t) 24) bundle.TdState refl
-      (record { version = refl; page = refl; stream = omega arith; epoch = epoch_fits t; index = omega arith; info = omega arith; gpa = omega arith; total = omega arith })
+      (record { version = refl; page = refl; stream = omega arith; epoch = epoch_fits t; index = omega arith; least = omega arith; info = omega arith; gpa = omega arith; total = omega arith })
       (let all = length-map-range_with_len (w.hidden.rtmrs t) 0 24 in omega (arith, all))
       (h.session t (paused_session (w.tds.ops t) (search))) (l.sessions.session t) (counter_fits t 0)
 
@@ -296,6 +334,7 @@ module _ (o : Opening) (me : ℕ) (w : World) (l : Lawful o.machine w) (h : Form
         epoch = epoch_fits t;
         index = index_fits t p (td_alive td) its.0
             (eqb-true _ _ its.1);
+        least = omega arith;
         info = omega (arith, low, same);
         gpa = omega arith;
         total = omega arith;
@@ -320,6 +359,7 @@ module _ (o : Opening) (me : ℕ) (w : World) (l : Lawful o.machine w) (h : Form
           stream = omega arith;
           epoch = omega arith;
           index = omega arith;
+          least = omega arith;
           info = omega arith;
           gpa = omega arith;
           total = omega arith;
@@ -355,7 +395,7 @@ module _ (o : Opening) (me : ℕ) (w : World) (l : Lawful o.machine w) (h : Form
   row-forms (call.ExportAbort t) ps = over_forms w t op.Runnable (λ e. cc) h
   row-forms (call.ExportAbortByToken t slot) ps = over_forms w t op.Runnable (λ e. cc) h
   row-forms (call.ExportStateImmutable t slot) ps = immutable_forms t slot ps
-  row-forms (call.ExportMem t gpa k slot count) ps = page_forms t gpa k slot ps
+  row-forms (call.ExportMem t gpa k slot count) ps = page_forms t gpa k slot count ps
   row-forms (call.ExportTrack t slot first) ps = token_forms t slot first ps
   row-forms (call.ExportStateTd t slot) ps = td_forms t slot ps
   row-forms (call.ExportStateVp t p slot) ps = vp_forms t p slot ps

@@ -1,5 +1,5 @@
 -- Which bundles each act adds.
-use Rattle.std.proofs.Common.{◌≡◌, refl, ap, ℕ, zero, suc, ◌≤◌, List, [], ◌∷◌, ◌++◌, length, Some, None, arith}
+use Rattle.std.proofs.Common.{◌≡◌, refl, sym, ap, subst, ℕ, zero, suc, ◌≤◌, ◌*◌, length-append, List, [], ◌∷◌, ◌++◌, length, Some, None, arith}
 use Rattle.std.proofs.lemmas.List.FromFn.{length-map-range_with_len}
 use Rattle.td_words.specs.declared.calls.Call.{Call}
 use Rattle.td_words.specs.declared.calls.Call.TheVariants as call
@@ -12,24 +12,40 @@ use Rattle.flat_core.specs.Opening.{Opening}
 use Rattle.flat_core.specs.Row.{OperationRow}
 use Rattle.flat_core.specs.Tree.{entry_at}
 use Rattle.flat_core.specs.Table.{row_of}
-use Rattle.flat_core.specs.Sessions.{payload_words}
+use Rattle.flat_core.specs.Sessions.{payload_words, header_of}
+use Rattle.flat_core.specs.BundleRows.{words_of_pages, about_pages}
 use Rattle.flat_core.specs.Inputs.{Input, input_in}
 use Rattle.flat_core.specs.Guest.{ByRow, operation_of, is_pending_at, reach}
-use Rattle.flat_core.specs.PageLists.{page_count, arrivals}
-use Rattle.flat_core.proofs.PageLists.{takes_leave}
+use Rattle.flat_core.specs.PageLists.{page_count, gpas_from, arrivals}
+use Rattle.flat_core.proofs.PageLists.{list_fits, made_first, each_leaves, takes_leave}
 use Rattle.flat_core.proofs.Operations.{operation_row, accepted}
-use Rattle.flat_bundles.specs.Bundles.{AddsBundle, CallsAddTheirOwn}
+use Rattle.flat_bundles.specs.Bundles.{most_words, AddsBundle, CallsAddTheirOwn}
 
 -- so many words, where they are a page at most
-of_page : (ws : ℕ → ℕ) (n : ℕ) → n ≤ 512 → length (payload_words ws n) ≤ 512
+of_page : (ws : ℕ → ℕ) (n : ℕ) → n ≤ 512 → length (payload_words ws n) ≤ most_words
 of_page ws n few = omega (arith, few, length-map-range_with_len ws 0 n)
 
-adds-one : (m : Made) (ms : List Made) → length m.payload ≤ 512 → AddsBundle m.slot ms (ms ++ m ∷ [])
+-- a page has 512
+pub pages-many : (w : World) (t : ℕ) (gpas : List ℕ) → length (words_of_pages w t gpas) ≡ 512 * length gpas
+pages-many w t [] = refl
+pages-many w t (gpa ∷ []) = length-map-range_with_len (w.words (entry_at w t 0 gpa).page) 0 512
+pages-many w t (gpa ∷ next ∷ gpas) =
+    let ws : List ℕ = payload_words (w.words (entry_at w t 0 gpa).page) 512 in
+    let all = length-map-range_with_len (w.words (entry_at w t 0 gpa).page) 0 512 in
+    let more = pages-many w t (next ∷ gpas) in
+    let both = length-append ws (words_of_pages w t (next ∷ gpas)) in
+    omega (arith, all, more, both)
+
+adds-one : (m : Made) (ms : List Made) → length m.payload ≤ most_words → AddsBundle m.slot ms (ms ++ m ∷ [])
 adds-one m ms page = record { bundle = m; added = refl; slot_is = refl; page = page }
 
 pub calls-add : CallsAddTheirOwn
 calls-add o me (call.ExportStateImmutable tdr slot) w = adds-one _ w.outgoing.bundles (omega arith)
-calls-add o me (call.ExportMem tdr gpa stream slot count) w = adds-one _ w.outgoing.bundles (of_page (w.words (entry_at w tdr 0 gpa).page) 512 (omega arith))
+calls-add o me (call.ExportMem tdr gpa stream slot count) w =
+    let gpas : List ℕ = gpas_from gpa (page_count count) in
+    let b : Made = record { slot = slot; header = header_of w tdr (about_pages w tdr stream gpa count); payload = words_of_pages w tdr gpas } in
+    subst (λ (ms : List Made). AddsBundle slot w.outgoing.bundles ms) (sym (ap (λ (v : World). v.outgoing.bundles) (each_leaves tdr stream gpas (made_first tdr gpa stream slot count w))))
+    (adds-one b w.outgoing.bundles (let few = list_fits gpa count in let long = pages-many w tdr gpas in omega (arith, few, long)))
 calls-add o me (call.ExportTrack tdr slot zero) w = adds-one _ w.outgoing.bundles (omega arith)
 calls-add o me (call.ExportTrack tdr slot (suc n)) w = adds-one _ w.outgoing.bundles (omega arith)
 calls-add o me (call.ExportStateTd tdr slot) w = adds-one _ w.outgoing.bundles (of_page (w.hidden.rtmrs tdr) 24 (omega arith))

@@ -1,5 +1,5 @@
 -- The bundles that a run makes are of its lines (TD Migration Architecture, "Migration Bundles").
-use Rattle.std.specs.Prelude.{◌≡◌, ◌≢◌, ◌≤◌, ℕ, suc, ◌+◌, List, [], ◌∷◌, ◌++◌, length, map, drop, filter_map, Option, Some, None, ◌==◌, All, AllPairs}
+use Rattle.std.specs.Prelude.{◌≡◌, ◌≢◌, ◌≤◌, ℕ, suc, ◌+◌, ◌*◌, List, [], ◌∷◌, ◌++◌, length, map, drop, filter_map, Option, Some, None, ◌==◌, All, AllPairs}
 use Rattle.std.specs.List.{Contains}
 use Rattle.td_words.specs.declared.calls.Call.{Call}
 use Rattle.td_words.specs.declared.replies.Reply.{Reply}
@@ -13,12 +13,16 @@ use Rattle.flat_core.specs.Table.{row_of}
 use Rattle.flat_core.specs.Run.{bundles_in}
 use Rattle.flat_core.specs.Laws.{IsKept, HoldsInRuns}
 
--- a bundle comes behind those before, in that slot, with a payload of at most a page
+-- a bundle has at most the words of sixteen pages
+abbrev pub most_words : ℕ
+most_words = 512 * 16
+
+-- a bundle comes behind those before, in that slot, with a payload of at most sixteen pages
 pub record AddsBundle (slot : ℕ) (before after : List Made) : Type 0 where
   pub bundle : Made
   pub added : after ≡ before ++ bundle ∷ []
   pub slot_is : bundle.slot ≡ slot
-  pub page : length bundle.payload ≤ 512
+  pub page : length bundle.payload ≤ most_words
 
 -- one bundle in the output slot that is named, and none where none is
 abbrev pub AddsOwn : Option ℕ → (before after : List Made) → Type 0
@@ -30,11 +34,11 @@ abbrev pub CallsAddTheirOwn : Type 0
 CallsAddTheirOwn = (o : Opening) (me : ℕ) (c : Call) (w : World) → AddsOwn (output_slot c) w.outgoing.bundles ((row_of o me c).act w).outgoing.bundles
 
 -- each bundle is in a slot that one of these calls names; where no two of them name one slot, no two bundles are in one; and
--- no payload is longer than a page
+-- no payload is longer than sixteen pages
 pub record AreOfLines (calls : List (List Call)) (bundles : List Made) : Type 0 where
   pub each : All (λ m. Contains (output_slots calls) m.slot) bundles
   pub apart : AllPairs (λ a b. a ≢ b) (output_slots calls) → AllPairs (λ m n. m.slot ≢ n.slot) bundles
-  pub pages : All (λ m. length m.payload ≤ 512) bundles
+  pub pages : All (λ m. length m.payload ≤ most_words) bundles
 
 -- The bundles that every run has made, at its end and in every state before it, are of its lines.
 abbrev pub BundlesAreOfLines : Type 0
@@ -70,7 +74,7 @@ acted lp = answered lp.call.phase + length lp.replies
 -- the bundles that were made and the calls that are still to act name no slot oftener than all calls do
 pub record AreFitting (o : Opening) (s : State) : Type 0 where
   pub slots : (k : ℕ) → times k (slots_of (bundles_in s)) + times_left k o.calls (λ p. acted (s.lps p)) ≤ times k (output_slots o.calls)
-  pub pages : All (λ m. length m.payload ≤ 512) (bundles_in s)
+  pub pages : All (λ m. length m.payload ≤ most_words) (bundles_in s)
 
 -- One event keeps it, whatever bundles have come in; so it keeps that they are of these lines.
 abbrev pub LinesAreKept : Type 0
