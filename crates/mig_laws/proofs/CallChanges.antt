@@ -556,7 +556,7 @@ module _ (o : Opening) (me : ℕ) (w : World) (l : Lawful o.machine w) where
   call-changes c ps = by-call c ps (row_alive o me c w ps (λ u h e. cc))
 
   -- what is made and noted
-  export_keeps : (t gpa k slot : ℕ) (count : Option ℕ) → Kept (call.ExportMem t gpa k slot count) w ((export_pages o.machine t gpa k slot count).act w)
+  pub export_keeps : (t gpa k slot : ℕ) (count : Option ℕ) → Kept (call.ExportMem t gpa k slot count) w ((export_pages o.machine t gpa k slot count).act w)
   export_keeps t gpa k slot count = sent_as o.machine t gpa k slot count w (Kept (call.ExportMem t gpa k slot count) w) (λ e c f done. record { made = λ z. cc; paused = λ z. refl; given = λ z. refl })
 
   pub import_keeps : (t slot page : ℕ) (count : Option ℕ) → Kept (call.ImportMem t slot page count) w ((import_pages o.machine (o.bundles slot) t slot page count).act w)

@@ -33,7 +33,7 @@ use Rattle.mig_laws.specs.Imports.{counts_of, HasState, begins_epoch, IsBegunBy,
 use Rattle.mig_laws.specs.Grows.{IsLater, SourcesGoOn, DestinationsFollow, UnforgedStays}
 use Rattle.mig_laws.proofs.Places.{by_places, at_place, count-append, last-append, last_none}
 use Rattle.mig_laws.proofs.Joined.{placed, not_imported}
-use Rattle.mig_laws.proofs.CallChanges.{import_keeps}
+use Rattle.mig_laws.proofs.CallChanges.{export_keeps, import_keeps}
 use Rattle.mig_laws.proofs.OneMore.{any_at}
 use Rattle.mig_laws.proofs.GuestChanges.{Fixed, operation_fixed, reach_fixed}
 use Rattle.mig_laws.proofs.Paused.{not_post, only_live}
@@ -176,6 +176,7 @@ module _ (o : Opening) (me : ℕ) (w : World) (l : Lawful o.machine w) (h : Paus
       rw off refl
   row-noted (call.ExportTrack t slot zero) ps s e = refl
   row-noted (call.ExportTrack t slot (suc n)) ps s e = refl
+  row-noted (call.ExportMem t gpa k slot count) ps s e = ap (λ (f : ℕ → Option Image). f s) ((export_keeps o me w l t gpa k slot count).paused refl)
   row-noted (call.ImportMem t slot page count) ps s e = ap (λ (f : ℕ → Option Image). f s) ((import_keeps o me w l t slot page count).paused refl)
   row-noted c ps s e = refl
 

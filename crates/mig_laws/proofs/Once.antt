@@ -21,6 +21,7 @@ use Rattle.flat_core.specs.Guest.{ByRow, operation_of, is_pending_at, reach}
 use Rattle.flat_core.specs.Sessions.{stream_page, stream_counter}
 use Rattle.flat_core.specs.Inputs.{Input, input_in, has_no_fault, fault_of_input, header_of_input, has_values, most_stream}
 use Rattle.flat_core.specs.PageLists.{page_count}
+use Rattle.flat_core.specs.BundleRows.{export_pages}
 use Rattle.flat_core.specs.ImportRows.{td_state_ops, vp_state_ops, import_pages, import_token_ops, is_start}
 use Rattle.flat_core.specs.Table.{row_of}
 use Rattle.flat_core.specs.Lawful.{Lawful}
@@ -44,9 +45,9 @@ use Rattle.mig_laws.proofs.OneMore.{only_kind, token_kind, no_token, other_kind,
 use Rattle.mig_laws.proofs.OneMore.{td_state_fills, vp_state_fills, token_fills, fills_importing}
 use Rattle.mig_laws.proofs.Rest.{IsAtRest}
 use Rattle.mig_laws.proofs.Changes.{begins_import, Changes, ImportGoes, import_goes, each_counts}
-use Rattle.mig_laws.proofs.CallChanges.{counts_grow, one_higher, pages_import, call-changes}
+use Rattle.mig_laws.proofs.CallChanges.{counts_grow, one_higher, pages_export, pages_import, call-changes}
 use Rattle.mig_laws.proofs.RestRows.{operation_rests, reach_rests, left_rests}
-use Rattle.mig_laws.proofs.Lists.{taken_as, take_asked, is_due}
+use Rattle.mig_laws.proofs.Lists.{sent_as, taken_as, take_asked, is_due}
 use Rattle.mig_laws.proofs.Source.{always_source}
 
 count_within : (f : ℕ → ℕ) (ps : List ℕ) (k : ℕ) → get_or (map f ps) k 0 ≤ f (get_or ps k 0)
@@ -118,6 +119,10 @@ module _ (o : Opening) (me : ℕ) (w : World) (l : Lawful o.machine w) where
       goes_stays (call.ImportMem t slot page count) ((taking t slot page count).act w) (pages_import o me w l t slot page count ps) refl
       (taken_as t x.header.stream x.header.gpa page x.words (page_count count) w (λ v. v.key_table.last_imported ≡ w.key_table.last_imported) (λ v taken. refl))
 
+  sent_stay : (t gpa k slot : ℕ) (count : Option ℕ) → Passes ((export_pages o.machine t gpa k slot count).items w) → Stays w ((export_pages o.machine t gpa k slot count).act w)
+  sent_stay t gpa k slot count ps = goes_stays (call.ExportMem t gpa k slot count) ((export_pages o.machine t gpa k slot count).act w) (pages_export o me w l t gpa k slot count ps) refl
+      (sent_as o.machine t gpa k slot count w (λ v. v.key_table.last_imported ≡ w.key_table.last_imported) (λ e c f done. refl))
+
   row-stays : (c : Call) → Passes ((row_of o me c).items w) → Stays w (After c)
   row-stays (call.ImportStateImmutable t slot) ps =
       let later : w.key_table.last_imported < (input slot).header.session = ltb-true _ _ (search) in
@@ -131,6 +136,7 @@ module _ (o : Opening) (me : ℕ) (w : World) (l : Lawful o.machine w) where
               counts = counts_grow w.streams.counters (more_counted t 0) (w.tds.streams x) (one_higher w.streams.counters (stream_page w t 0));
             }));
       }
+  row-stays (call.ExportMem t gpa k slot count) ps = sent_stay t gpa k slot count ps
   row-stays (call.ImportMem t slot page count) ps = pages_stay t slot page count ps
   row-stays (call.ExportTrack t slot zero) ps = rest_stays (call.ExportTrack t slot zero) ps refl refl
   row-stays (call.ExportTrack t slot (suc n)) ps = rest_stays (call.ExportTrack t slot (suc n)) ps refl refl

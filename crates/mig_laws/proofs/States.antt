@@ -484,6 +484,9 @@ all_short w [] h = All-nil (λ (v : VpImage). v.position ≤ 256)
 all_short w (p ∷ ps) h = All-cons (λ (v : VpImage). v.position ≤ 256) (vp_image w p) (map (vp_image w) ps) (h p) (all_short w ps h)
 
 module _ (o : Opening) (me : ℕ) (w : World) (forms : FormsHold w) (h : ArePausesShort w) where
+  sent_short : (t gpa k slot : ℕ) (count : Option ℕ) → ArePausesShort ((export_pages o.machine t gpa k slot count).act w)
+  sent_short t gpa k slot count = sent_as o.machine t gpa k slot count w ArePausesShort (λ e c f done. h)
+
   pages_short : (t slot page : ℕ) (count : Option ℕ) → ArePausesShort ((import_pages o.machine (o.bundles slot) t slot page count).act w)
   pages_short t slot page count = (let x : Input = input_in (o.bundles slot) in taken_as t x.header.stream x.header.gpa page x.words (page_count count) w ArePausesShort (λ v taken. h))
 
@@ -494,6 +497,7 @@ module _ (o : Opening) (me : ℕ) (w : World) (forms : FormsHold w) (h : ArePaus
       (λ n. h session image (rw n at e))
   row-pauses (call.ExportTrack t slot zero) session image e = h session image e
   row-pauses (call.ExportTrack t slot (suc n)) session image e = h session image e
+  row-pauses (call.ExportMem t gpa k slot count) session image e = sent_short t gpa k slot count session image e
   row-pauses (call.ImportMem t slot page count) session image e = pages_short t slot page count session image e
   row-pauses c session image e = h session image e
 

@@ -22,7 +22,7 @@ use Rattle.flat_core.specs.Guest.{ByRow, operation_of, is_pending_at, reach}
 use Rattle.flat_core.specs.PageLists.{page_count}
 use Rattle.flat_core.specs.Inputs.{Input, input_in, has_no_fault, fault_of_input, header_of_input}
 use Rattle.flat_core.specs.ExportRows.{image_of, abortable_ops}
-use Rattle.flat_core.specs.BundleRows.{session_ops, paused_ops}
+use Rattle.flat_core.specs.BundleRows.{session_ops, paused_ops, export_pages}
 use Rattle.flat_core.specs.ImportRows.{import_pages, is_start, import_token_ops, op_then, late_ops, sent_ops}
 use Rattle.flat_core.specs.Table.{row_of}
 use Rattle.flat_core.specs.Lawful.{is_exporting}
@@ -32,7 +32,7 @@ use Rattle.flat_core.proofs.Operations.{operation_row, accepted}
 use Rattle.mig_laws.specs.Ivs.{is_filling}
 use Rattle.mig_laws.specs.Paused.{is_paused}
 use Rattle.mig_laws.proofs.Ivs.{given_up_fills}
-use Rattle.mig_laws.proofs.Lists.{taken_as}
+use Rattle.mig_laws.proofs.Lists.{sent_as, taken_as}
 use Rattle.mig_laws.proofs.OneMore.{only_kind, td_state_fills, commit_fills}
 use Rattle.mig_laws.proofs.Paused.{only_live, abortable_stands}
 use Rattle.runner_laws.specs.Runner.{is_waiting, IsCalledBack}
@@ -125,7 +125,13 @@ module _ (o : Opening) (me : ℕ) (w : World) where
   own : (c : Call) (v : World) (t x : ℕ) → ((x == t) ≡ false → (v.tds.ops x ≡ w.tds.ops x) × (v.tds.sessions x ≡ w.tds.sessions x)) → Moves o c w v t → Moves o c w v x
   own c v t x others goes = by_test (x == t) (λ y. subst (λ (z : ℕ). Moves o c w v z) (sym (eqb-true x t y)) goes) (λ y. let s = others y in stays s.0 s.1)
 
-  -- pages that come in, with any COUNT
+  -- lists of pages, with any COUNT
+  sent_moves : (t gpa k slot : ℕ) (count : Option ℕ) (x : ℕ) → Moves o (call.ExportMem t gpa k slot count) w ((export_pages o.machine t gpa k slot count).act w) x
+  sent_moves t gpa k slot count x = sent_as o.machine t gpa k slot count w (λ v. Moves o (call.ExportMem t gpa k slot count) w v x) (λ e c f done. stays refl refl)
+
+  sent_given : (t gpa k slot : ℕ) (count : Option ℕ) → ((export_pages o.machine t gpa k slot count).act w).hidden.given ≡ w.hidden.given
+  sent_given t gpa k slot count = sent_as o.machine t gpa k slot count w (λ v. v.hidden.given ≡ w.hidden.given) (λ e c f done. refl)
+
   taken_moves : (t slot page : ℕ) (count : Option ℕ) (x : ℕ) → Moves o (call.ImportMem t slot page count) w ((import_pages o.machine (o.bundles slot) t slot page count).act w) x
   taken_moves t slot page count x =
       let b : Input = input_in (o.bundles slot) in
@@ -165,6 +171,7 @@ module _ (o : Opening) (me : ℕ) (w : World) where
       (put_here w.tds.ops t op.Runnable))
   row-moves (call.ImportStateImmutable t slot) ps x there =
       own (call.ImportStateImmutable t slot) (After (call.ImportStateImmutable t slot)) t x (λ y. (rw y refl, rw y refl)) (builds (new_is_new (w.tds.ops t) (search)))
+  row-moves (call.ExportMem t gpa k slot count) ps x there = sent_moves t gpa k slot count x
   row-moves (call.ImportMem t slot page count) ps x there = taken_moves t slot page count x
   row-moves (call.ImportTrack t slot) ps x there =
       let b : Input = input_in (o.bundles slot) in
@@ -185,6 +192,7 @@ module _ (o : Opening) (me : ℕ) (w : World) where
   -- what IMPORT.COMMIT has noted stays noted
   pub row-given : (c : Call) → is_commit c ≡ false → (After c).hidden.given ≡ w.hidden.given
   row-given (call.ImportCommit t) off = cc
+  row-given (call.ExportMem t gpa k slot count) off = sent_given t gpa k slot count
   row-given (call.ImportMem t slot page count) off = taken_given t slot page count
   row-given (call.ExportTrack t slot zero) off = refl
   row-given (call.ExportTrack t slot (suc n)) off = refl
