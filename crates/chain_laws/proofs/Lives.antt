@@ -12,11 +12,12 @@ use Rattle.flat_core.specs.Row.{Passes}
 use Rattle.flat_core.specs.Effects.{set_life, set_key}
 use Rattle.flat_core.specs.Inputs.{Input, input_in}
 use Rattle.flat_core.specs.PageLists.{page_count}
+use Rattle.flat_core.specs.BundleRows.{export_pages}
 use Rattle.flat_core.specs.ImportRows.{import_pages}
 use Rattle.flat_core.specs.Table.{row_of}
 use Rattle.flat_core.proofs.Tests.{by_test, host_kind}
 use Rattle.flat_core.proofs.Parts.{IsLive}
-use Rattle.mig_laws.proofs.Lists.{taken_as}
+use Rattle.mig_laws.proofs.Lists.{sent_as, taken_as}
 
 pub data LifeGoes (w v : World) (x : ℕ) : Type 0 where
   lives : IsLive (v.tds.lives x) → LifeGoes w v x
@@ -26,7 +27,10 @@ module _ (o : Opening) (me : ℕ) (w : World) where
   abbrev After : Call → World
   After c = (row_of o me c).act w
 
-  -- pages that come in, with any COUNT
+  -- lists of pages, with any COUNT
+  sent_life : (t gpa k slot : ℕ) (count : Option ℕ) (x : ℕ) → IsLive (w.tds.lives x) → LifeGoes w ((export_pages o.machine t gpa k slot count).act w) x
+  sent_life t gpa k slot count x live = sent_as o.machine t gpa k slot count w (λ v. LifeGoes w v x) (λ e c f done. lives live)
+
   taken_life : (t slot page : ℕ) (count : Option ℕ) (x : ℕ) → IsLive (w.tds.lives x) → LifeGoes w ((import_pages o.machine (o.bundles slot) t slot page count).act w) x
   taken_life t slot page count x live =
       let b : Input = input_in (o.bundles slot) in
@@ -43,5 +47,6 @@ module _ (o : Opening) (me : ℕ) (w : World) where
       (λ y. lives (rw y live))
   row-life (call.ExportTrack t slot zero) ps x there live = lives live
   row-life (call.ExportTrack t slot (suc n)) ps x there live = lives live
+  row-life (call.ExportMem t gpa k slot count) ps x there live = sent_life t gpa k slot count x live
   row-life (call.ImportMem t slot page count) ps x there live = taken_life t slot page count x live
   row-life c ps x there live = lives live

@@ -20,6 +20,7 @@ use Rattle.flat_core.specs.Tree.{page_of_gpa, word_of_gpa}
 use Rattle.flat_core.specs.Inputs.{Input, input_in}
 use Rattle.flat_core.specs.Sessions.{payload_words, count_bundle}
 use Rattle.flat_core.specs.PageLists.{page_count}
+use Rattle.flat_core.specs.BundleRows.{export_pages}
 use Rattle.flat_core.specs.ImportRows.{import_pages}
 use Rattle.flat_core.specs.ExportRows.{image_of}
 use Rattle.flat_core.specs.Table.{row_of}
@@ -31,7 +32,7 @@ use Rattle.flat_core.proofs.Due.{Due, calls, frees, leaves, stops, fills, operat
 use Rattle.flat_core.proofs.Operations.{operation_row}
 use Rattle.flat_core.proofs.PageLists.{TakenAs}
 use Rattle.flat_guests.specs.Memory.{is_in_run, memory_after_pages}
-use Rattle.mig_laws.proofs.Lists.{taken_as}
+use Rattle.mig_laws.proofs.Lists.{sent_world, sent_as, taken_as}
 use Rattle.mig_laws.specs.Paused.{image_words}
 use Rattle.mig_laws.specs.States.{in_32_bits}
 use Rattle.mig_laws.specs.Image.{StartsAs}
@@ -99,6 +100,13 @@ module _ (o : Opening) (me : ℕ) (w : World) (m : ChainMemory) (h : Same m w) w
       same_after : (t first n : ℕ) (words : ℕ → ℕ) (a b : ℕ) → SameWords (memory_after_pages t first n words w a b) (memory_after_pages t first n words (with_memory m w) a b)
       same_after t first n words a b = by_test (a == t && is_in_run first n b) (λ z. rw z (λ k le. refl)) (λ z. rw z (h.0 a b))
 
+  -- and those that are exported leave it
+  sent_memory : (t gpa k slot : ℕ) (count : Option ℕ) → let row = export_pages o.machine t gpa k slot count in Same (memory_in (row.act (with_memory m w))) (row.act w)
+  sent_memory t gpa k slot count =
+      let row = export_pages o.machine t gpa k slot count in
+      sent_as o.machine t gpa k slot count w (λ v. Same (memory_in (row.act (with_memory m w))) v) (λ e c f done.
+      sent_as o.machine t gpa k slot count (with_memory m w) (λ u. Same (memory_in u) (sent_world w t gpa k slot count e c f)) (λ e' c' f' done'. h))
+
   row_memory : (c : Call) → Same (memory_in (After c (with_memory m w))) (After c w)
   row_memory (call.PhymemPageReclaim t page) = (
     same_put w.hidden.memories m.pages t (w.pages.numbers page) (memory_unless (same_kind (w.pages.kinds page) kind.Reg) (w.hidden.memories t (w.pages.numbers page))) (memory_unless (same_kind (w.pages.kinds page) kind.Reg) (m.pages t (w.pages.numbers page)))
@@ -108,6 +116,7 @@ module _ (o : Opening) (me : ℕ) (w : World) (m : ChainMemory) (h : Same m w) w
   row_memory (call.MngCreate t k) = (λ x g. by_test (x == t) (λ y. rw y tt) (λ y. rw y (h.0 x g)), h.1)
   row_memory (call.MemPageAdd t gpa page source) = (same_put w.hidden.memories m.pages t (page_of_gpa gpa) (Some (w.words source)) (Some (w.words source)) (words_itself (Some (w.words source))) h.0, h.1)
   row_memory (call.MemPageRemove t gpa) = (same_put w.hidden.memories m.pages t (page_of_gpa gpa) None None tt h.0, h.1)
+  row_memory (call.ExportMem t gpa k slot count) = sent_memory t gpa k slot count
   row_memory (call.ImportMem t slot page count) = taken_memory t slot page count
   row_memory (call.ExportPause t) = (h.0, λ n g. by_test (n == w.tds.sessions t) (λ y. rw y (h.0 t g)) (λ y. rw y (h.1 n g)))
   row_memory (call.ExportTrack t slot zero) = h

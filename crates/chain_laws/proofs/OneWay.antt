@@ -35,7 +35,7 @@ use Rattle.image_laws.specs.IvBytes.{HaveOwnIvBytes}
 use Rattle.image_laws.proofs.IvBytes.{keys_go_by_type, iv_bytes_are_kept}
 use Rattle.mig_laws.proofs.Rows.{over_beside, row-beside}
 use Rattle.mig_laws.proofs.Ivs.{given_up_fills}
-use Rattle.mig_laws.proofs.Lists.{take_asked}
+use Rattle.mig_laws.proofs.Lists.{sent_as, take_asked}
 use Rattle.mig_laws.proofs.OneMore.{filling_fills, td_state_fills, vp_state_fills, commit_fills, token_fills}
 use Rattle.mig_laws.proofs.Changes.{is_import}
 use Rattle.mig_laws.proofs.RestRows.{row-rests}
@@ -119,7 +119,8 @@ module _ (o : Opening) (me : ℕ) (w : World) (l : Lawful o.machine w) where
         let td : TdPassed w t given_up_ops = search in
         absurd (h.none t (record { alive = td_alive td; standing = given_up_fills (w.tds.ops t) td.op }))
     row-takes (call.ExportStateImmutable t slot) off ps = rest_takes (call.ExportStateImmutable t slot) ps refl (All-push (λ m. is_forward m ≡ true) w.outgoing.bundles _ h.bundles refl)
-    row-takes (call.ExportMem t gpa k slot count) off ps = rest_takes (call.ExportMem t gpa k slot count) ps refl (All-push (λ m. is_forward m ≡ true) w.outgoing.bundles _ h.bundles refl)
+    row-takes (call.ExportMem t gpa k slot count) off ps = rest_takes (call.ExportMem t gpa k slot count) ps refl
+        (sent_as o.machine t gpa k slot count w (λ v. All (λ m. is_forward m ≡ true) v.outgoing.bundles) (λ e c f done. All-push (λ m. is_forward m ≡ true) w.outgoing.bundles _ h.bundles refl))
     row-takes (call.ExportTrack t slot zero) off ps = rest_takes (call.ExportTrack t slot zero) ps refl (All-push (λ m. is_forward m ≡ true) w.outgoing.bundles _ h.bundles refl)
     row-takes (call.ExportTrack t slot (suc k)) off ps = rest_takes (call.ExportTrack t slot (suc k)) ps refl (All-push (λ m. is_forward m ≡ true) w.outgoing.bundles _ h.bundles refl)
     row-takes (call.ExportStateTd t slot) off ps = rest_takes (call.ExportStateTd t slot) ps refl (All-push (λ m. is_forward m ≡ true) w.outgoing.bundles _ h.bundles refl)
