@@ -26,7 +26,7 @@ use Rattle.mig_laws.proofs.Started.{every_run_is_a_source}
 module _ (source : World) (src : IsSource source) (o : Opening) where
   row-destination : (me : ℕ) (c : Call) → Unforged o source.outgoing.bundles → KeepsDestination source o (row_of o me c)
   row-destination me (call.ImportStateImmutable t slot) unforged = keeps_immutable source o src unforged t slot
-  row-destination me (call.ImportMem t slot page count) unforged = keeps_pages source o src.made unforged t slot page count (λ e. src.single)
+  row-destination me (call.ImportMem t slot page count) unforged = keeps_pages source o src.made unforged t slot page count
   row-destination me (call.ImportTrack t slot) unforged = keeps_token source o src unforged t slot
   row-destination me (call.ImportStateTd t slot) unforged = keeps_td source o src unforged t slot
   row-destination me (call.ImportStateVp t p slot) unforged = keeps_vp source o src unforged t p slot

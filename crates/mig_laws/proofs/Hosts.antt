@@ -28,7 +28,7 @@ module _ (q o : Opening) (bundles : ℕ → Option Incoming) (source destination
   of_source =
       let later : World = (event (with_bundles q bundles) source p).world in
       let is : IsSource later = sources_are_started.are q (event (with_bundles q bundles) source p) exports_then in
-      let goes = sources_go_on q bundles source p h.exports.0.0.0.0.0.0.0 h.exports.0.0.0.0.1 in
+      let goes = sources_go_on q bundles source p h.exports.0.0.0.0.0.0 h.exports.0.0.0.1 in
       record {
         exports = exports_then;
         positions = positions_kept.event q bundles source p h.positions;

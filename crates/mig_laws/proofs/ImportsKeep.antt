@@ -35,7 +35,7 @@ use Rattle.mig_laws.specs.Source.{pages_in, has_gpa_page, is_page_at, page_words
 use Rattle.mig_laws.specs.WellMade.{is_of, is_token, AreWellMade}
 use Rattle.mig_laws.specs.Imported.{is_imported, last_imported, one_more, counted_on, AreImported, IsNext, TokenFits, AreAllBefore, LatestIsLast}
 use Rattle.mig_laws.specs.States.{in_32_bits}
-use Rattle.mig_laws.specs.Image.{IsComplete, Unforged, StartsAs, AreSingle, IsSource}
+use Rattle.mig_laws.specs.Image.{IsComplete, Unforged, StartsAs, IsSource}
 use Rattle.mig_laws.specs.Imports.{counts_of, IsVpGiven, HasState, begins_epoch, ImportHolds, DestinationHolds}
 use Rattle.mig_laws.proofs.Lists.{AreTaken, taken_as, take_asked, is_due}
 use Rattle.mig_laws.proofs.Places.{by_places, at_place, last_none}
@@ -414,8 +414,8 @@ module _ (source : World) (o : Opening) (well : AreWellMade source.outgoing.bund
   abbrev made_there : List Made
   made_there = source.outgoing.bundles
 
-  pub keeps_pages : (t slot page : ℕ) (count : Option ℕ) → (count ≡ None → AreSingle made_there) → KeepsDestination source o (import_pages o.machine (o.bundles slot) t slot page count)
-  keeps_pages t slot page count single w l h ps =
+  pub keeps_pages : (t slot page : ℕ) (count : Option ℕ) → KeepsDestination source o (import_pages o.machine (o.bundles slot) t slot page count)
+  keeps_pages t slot page count w l h ps =
       let x : Input = input_in (o.bundles slot) in
       let k : ℕ = x.header.stream in
       let p = take_asked o.machine (o.bundles slot) w t slot page count ps in
@@ -425,11 +425,10 @@ module _ (source : World) (o : Opening) (well : AreWellMade source.outgoing.bund
       let alive = td_alive p.td in
       let ops = filling_fills (w.tds.ops t) p.td.op in
       let on : counted_on tk.bundle ≡ k = (let kind : (tk.bundle.header.kind == 3) ≡ true = ap (λ (z : ClearHeader). z.kind == 3) tk.same ∙ eq-eqb x.header.kind 3 three in rw kind (ap (λ (z : ClearHeader). z.stream) tk.same)) in
-      let one : count ≡ None → is_list x.header ≡ false = λ e. ap is_list (sym tk.same) ∙ at_place (λ b. is_list b.header ≡ false) tk.before tk.after tk.bundle (subst AreSingle tk.place (single e)) in
       taken_as t k x.header.gpa page x.words (page_count count) w (DestinationHolds source) (λ v taken_in.
       destination_rests source (count_bundle t k (with_memories w v)) (count_bundle t k (TakenAs w v))
       (at_rest (count_bundle t k (with_memories w v)) (count_bundle t k (TakenAs w v)) refl (λ y a. record { kind = taken_in.roots y a.kind; life = a.life }))
-      (page_holds source well o.machine w l h t alive k p.few x tk six on p.counter ops.0 p.session ops.1 three p.epoch (page_count count) (p.many one) v taken_in))
+      (page_holds source well o.machine w l h t alive k p.few x tk six on p.counter ops.0 p.session ops.1 three p.epoch (page_count count) p.many v taken_in))
 
 module _ (source : World) (o : Opening) (src : IsSource source) (unforged : Unforged o source.outgoing.bundles) where
   abbrev all_made : List Made

@@ -28,10 +28,8 @@ pub mod Still
 pub mod States
 pub mod Given
 pub mod ImportsKeep
-pub mod Single
 pub mod Started
 pub mod Destination
 pub mod Grows
 pub mod Hosts
 pub mod Once
-pub mod ListLaws

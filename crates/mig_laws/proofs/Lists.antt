@@ -277,7 +277,7 @@ taken_as t k gpa page words count w P h =
 pub record TakeAsked (w : World) (t : ℕ) (x : Input) (count : Option ℕ) : Type 0 where
   pub form : has_no_fault x.fault ≡ true
   pub kind : list_any (λ k. k == x.header.kind) (3 ∷ []) ≡ true
-  pub many : (count ≡ None → is_list x.header ≡ false) → pages_in x.header ≡ page_count count
+  pub many : pages_in x.header ≡ page_count count
   pub td : TdPassed w t filling_ops
   pub few : x.header.stream < length (w.tds.streams t)
   pub session : x.header.session ≡ w.tds.sessions t
@@ -286,9 +286,9 @@ pub record TakeAsked (w : World) (t : ℕ) (x : Input) (count : Option ℕ) : Ty
   pub tag : x.tag_right ≡ true
 
 list_many : (h : ClearHeader) (count : Option ℕ) → list_any (λ k. k == h.kind) (3 ∷ []) ≡ true → Passes (count_argument 4 count) → Passes (list_says h count)
-    → (count ≡ None → is_list h ≡ false) → pages_in h ≡ page_count count
-list_many h None k a b one = let off = one refl in rw off refl
-list_many h (Some n) k a b one =
+    → pages_in h ≡ page_count count
+list_many h None k a b = rw (eqb-true h.version 1 b.0) refl
+list_many h (Some n) k a b =
     let low : nat_le n 16 ≡ true = le-leb n 16 (range_of n 16 a.0).1 in
     let on : is_list h ≡ true = rw (b.0, eq-eqb h.kind 3 (kind_three h k)) refl in
     rw (on, low) (eqb-true h.info n b.1.0)

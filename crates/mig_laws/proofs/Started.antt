@@ -52,7 +52,6 @@ use Rattle.mig_laws.proofs.CallChanges.{call-changes, call-keeps}
 use Rattle.mig_laws.proofs.Rows.{over_beside, row-beside}
 use Rattle.mig_laws.proofs.Ivs.{IsGiven, back_token}
 use Rattle.mig_laws.proofs.Lists.{sent_bundle, sent_world, sent_as}
-use Rattle.mig_laws.proofs.Single.{single_kept}
 use Rattle.mig_laws.proofs.Places.{by_places, at_place, IsPlaceOf, within, last, place_of_more, count-append, count_yes, count_no, count_none, last-append, last_none}
 use Rattle.mig_laws.proofs.Joined.{page_of_session}
 use Rattle.mig_laws.proofs.Guests.{operation_beside, left_beside, reached_beside, never_stored}
@@ -608,13 +607,12 @@ module _ (w : World) (pauses : PausesHold w) (states : StatesHold w) (h : Starts
 pub sources_are_started : SourcesAreStarted
 sources_are_started = record {
   kept = record {
-    start = λ o ws. ((starts_kept.start o ws, (well_kept.start o ws).1), single_kept.start o ws);
-    event = λ o bundles s p h. ((starts_kept.event o bundles s p h.0.0, (well_kept.event o bundles s p (h.0.0.0.0.0, h.0.1)).1), single_kept.event o bundles s p h.1);
+    start = λ o ws. (starts_kept.start o ws, (well_kept.start o ws).1);
+    event = λ o bundles s p h. (starts_kept.event o bundles s p h.0, (well_kept.event o bundles s p (h.0.0.0.0, h.1)).1);
   };
   are = λ o s h. record {
-    made = h.0.1.made;
-    single = h.1;
-    started = λ session before after b place begins. is_started s.world h.0.0.0.0.1 h.0.0.0.1 h.0.0.1 session before after b place begins;
+    made = h.1.made;
+    started = λ session before after b place begins. is_started s.world h.0.0.0.1 h.0.0.1 h.0.1 session before after b place begins;
   };
 }
 

@@ -100,11 +100,6 @@ pub record IsStarted (source : World) (session : ℕ) (before : List Made) : Typ
   pub td : list_any (λ b. is_of session b && b.header.kind == 1) before ≡ true
   pub vps : (i : ℕ) → i < length image.vps → list_any (λ b. is_of session b && (b.header.kind == 2 && b.header.index == i)) before ≡ true
 
--- none of these is a list, since no call says COUNT yet
-abbrev pub AreSingle : List Made → Type 0
-AreSingle bundles = All (λ b. is_list b.header ≡ false) bundles
-
 pub record IsSource (source : World) : Type 0 where
   pub made : AreWellMade source.outgoing.bundles
-  pub single : AreSingle source.outgoing.bundles
   pub started : (session : ℕ) (before after : List Made) (b : Made) → source.outgoing.bundles ≡ before ++ b ∷ after → is_start session b ≡ true → IsStarted source session before

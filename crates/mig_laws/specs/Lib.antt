@@ -10,4 +10,3 @@ pub mod Started
 pub mod Grows
 pub mod Hosts
 pub mod Once
-pub mod Lists

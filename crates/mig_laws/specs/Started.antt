@@ -14,7 +14,7 @@ use Rattle.mig_laws.specs.Source.{SourceHolds}
 use Rattle.mig_laws.specs.Paused.{is_start, PausesHold}
 use Rattle.mig_laws.specs.WellMade.{is_of, WellHolds}
 use Rattle.mig_laws.specs.States.{StatesHold}
-use Rattle.mig_laws.specs.Image.{AreSingle, IsSource}
+use Rattle.mig_laws.specs.Image.{IsSource}
 
 -- a session's bundle with the TD state, and one with the state of the virtual processor at an index
 abbrev pub is_td_state : (session : ℕ) → Made → Bool
@@ -52,9 +52,9 @@ StartsIn o s = ((((IsGuarded o s × ArePagesKnown s.world) × SourceHolds s.worl
 abbrev pub StartsAreKept : Type 0
 StartsAreKept = IsKept StartsIn
 
--- with bundles that are well made, of which none is a list
+-- with bundles that are well made
 abbrev pub MayExport : Opening → State → Type 0
-MayExport o s = (StartsIn o s × WellHolds s.world) × AreSingle s.world.outgoing.bundles
+MayExport o s = StartsIn o s × WellHolds s.world
 
 -- Every state that is so can be the source of the law of the image. Every run starts so, and one event keeps it so, whatever bundles
 -- have come in.

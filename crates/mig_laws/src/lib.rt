@@ -6,15 +6,13 @@
 //! imported; that no bundle is taken twice; and that what is committed starts from the source's pause.
 //! So it is of single pages, and of lists of them. It stands on the flat machine and on the laws of what
 //! no guest reaches; nothing that is run uses it. A layer above may use the laws as contracts of the
-//! functions of `laws`, `well_made`, `page_lists` and `image`.
+//! functions of `laws`, `well_made` and `image`.
 #![tactic(auto)]
 
 mod image;
 mod laws;
-mod page_lists;
 mod well_made;
 
 pub use image::{follow_law, image_law, start_law};
 pub use laws::{iv_law, once_law, pause_law, source_law, state_law};
-pub use page_lists::lists_law;
 pub use well_made::{join_laws, well_made_law};
