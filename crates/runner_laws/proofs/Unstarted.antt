@@ -15,7 +15,10 @@ use Rattle.flat_core.proofs.Tests.{by_test}
 use Rattle.flat_core.proofs.Parts.{IsLive}
 use Rattle.flat_core.proofs.Ranges.{paused_exporting}
 use Rattle.flat_core.proofs.Passed.{TdPassed, td_alive}
-use Rattle.flat_core.specs.BundleRows.{paused_ops}
+use Rattle.flat_core.specs.Sessions.{header_of}
+use Rattle.flat_core.specs.PageLists.{page_count, gpas_from}
+use Rattle.flat_core.specs.BundleRows.{paused_ops, words_of_pages, about_pages}
+use Rattle.flat_core.proofs.PageLists.{made_first, each_leaves}
 use Rattle.mig_laws.specs.Ivs.{IsExporting}
 use Rattle.mig_laws.specs.Paused.{is_start, has_start}
 use Rattle.mig_laws.specs.Source.{SourceHolds}
@@ -83,7 +86,11 @@ module _ (o : Opening) (me : ℕ) (w : World) (l : Lawful o.machine w) (session 
 
   pub row-unstarted : (c : Call) → Passes ((row_of o me c).items w) → IsUnstarted (After c) session
   row-unstarted (call.ExportStateImmutable t slot) ps = begun_unstarted t slot
-  row-unstarted (call.ExportMem t gpa k slot count) ps = bundle_unstarted (call.ExportMem t gpa k slot count) ps refl _ refl refl refl
+  row-unstarted (call.ExportMem t gpa k slot count) ps =
+      let gpas : List ℕ = gpas_from gpa (page_count count) in
+      let same = each_leaves t k gpas (made_first t gpa k slot count w) in
+      let b : Made = record { slot = slot; header = header_of w t (about_pages w t k gpa count); payload = words_of_pages w t gpas } in
+      bundle_unstarted (call.ExportMem t gpa k slot count) ps refl b (ap (λ (v : World). v.outgoing.bundles) same) refl (ap (λ (v : World). v.key_table.last_exported) same)
   row-unstarted (call.ExportTrack t slot zero) ps = bundle_unstarted (call.ExportTrack t slot zero) ps refl _ refl refl refl
   row-unstarted (call.ExportTrack t slot (suc n)) ps = started_unstarted t slot n ps
   row-unstarted (call.ExportStateTd t slot) ps = bundle_unstarted (call.ExportStateTd t slot) ps refl _ refl refl refl
