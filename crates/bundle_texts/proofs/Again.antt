@@ -15,7 +15,7 @@ use Rattle.bundle_texts.proofs.Order.{order_moves, order_rises, any_order, order
 use Rattle.bundle_texts.proofs.Sizes.{length-mixed, length-sealed_bytes}
 
 -- a page's bundle has room in a container
-pub has_room : (forward backward : List ℕ) (m : Made) → length m.payload ≤ 512 → length (sealed_bytes forward backward m) ≤ 131072
+pub has_room : (forward backward : List ℕ) (m : Made) → length m.payload ≤ 8192 → length (sealed_bytes forward backward m) ≤ 131072
 has_room forward backward m small = omega (arith, small, length-sealed_bytes forward backward m)
 
 same_slots : (forward backward : List ℕ) (ms : List Made) → map (λ (b : BundleSeen). b.slot) (map (sealed forward backward) ms) ≡ map (λ (m : Made). m.slot) ms
@@ -27,7 +27,7 @@ sealed_in_order forward backward ms fit =
     let ns : List Made = in_slot_order ms in
     order_written ms ns (map (sealed forward backward) ns) refl fit (same_slots forward backward ns)
     (All-map (λ (b : BundleSeen). length b.bytes ≤ 131072) (sealed forward backward) ns
-    (All-weaker (λ m. length m.payload ≤ 512) (λ m. length (sealed_bytes forward backward m) ≤ 131072)
+    (All-weaker (λ m. length m.payload ≤ 8192) (λ m. length (sealed_bytes forward backward m) ≤ 131072)
     (λ m h. has_room forward backward m h) ns (order_fits ms ns refl fit).pages))
 
 pub bundles_again : BundlesReadAgain

@@ -11,7 +11,7 @@ use Rattle.bundle_texts.proofs.Order.{any_order, fit_moved}
 
 -- of slots of at most 4,095, of which no two are one
 pub fit_slots : (slots : List ℕ) (ms : List Made) → All (λ slot. slot ≤ 4095) slots → AllPairs (λ a b. a ≢ b) slots
-    → All (λ m. Contains slots m.slot) ms → (AllPairs (λ a b. a ≢ b) slots → AllPairs (λ m n. m.slot ≢ n.slot) ms) → All (λ m. length m.payload ≤ 512) ms → FitContainer ms
+    → All (λ m. Contains slots m.slot) ms → (AllPairs (λ a b. a ≢ b) slots → AllPairs (λ m n. m.slot ≢ n.slot) ms) → All (λ m. length m.payload ≤ 8192) ms → FitContainer ms
 fit_slots slots ms few differ each apart pages = record {
   apart = apart differ;
   slots = All-weaker (λ m. Contains slots m.slot) (λ m. m.slot ≤ 4095) (λ m here. All-contains (λ slot. slot ≤ 4095) slots m.slot few here) ms each;

@@ -132,7 +132,7 @@ pub fit_moved : (ms ns : List Made) → IsPermutation ms ns → FitContainer ms 
 fit_moved ms ns moved fit = record {
   apart = apart_moved (λ (m : Made). m.slot) ms ns moved fit.apart;
   slots = All-permutation (λ m. m.slot ≤ 4095) ms ns moved fit.slots;
-  pages = All-permutation (λ m. length m.payload ≤ 512) ms ns moved fit.pages;
+  pages = All-permutation (λ m. length m.payload ≤ 8192) ms ns moved fit.pages;
 }
 
 pub any_order : (ms ns : List Made) → FitContainer ms → IsPermutation ms ns → in_slot_order ns ≡ in_slot_order ms

@@ -17,10 +17,10 @@ parts_sealed forward backward m iv head payload text tag one two three iv_is hea
     three_is ∙ (λ j. two_is j ++ sealed j) ∙ (λ j. ((one_is ∙ head_is) j ++ tagged j) ++ sealed_payload forward backward m)
 
 -- a page's words are few bytes
-pub few_bytes : (bytes words : List ℕ) → bytes ≡ word_bytes words → length words ≤ 512 → length bytes ≤ 4096
+pub few_bytes : (bytes words : List ℕ) → bytes ≡ word_bytes words → length words ≤ 8192 → length bytes ≤ 65536
 few_bytes bytes words is few = omega (arith, few, ap length is, length-word_bytes words)
 
-pub parts_long : (head tag text one two three : List ℕ) → length head ≡ 48 → length tag ≡ 16 → length text ≤ 4096
+pub parts_long : (head tag text one two three : List ℕ) → length head ≡ 48 → length tag ≡ 16 → length text ≤ 65536
     → one ≡ head → two ≡ one ++ tag → three ≡ two ++ text → length three ≤ 131072
 parts_long head tag text one two three h t x one_is two_is three_is =
     omega (arith, h, t, x, ap length one_is, ap length two_is, ap length three_is, length-append one tag, length-append two text)

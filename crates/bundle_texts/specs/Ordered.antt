@@ -18,7 +18,7 @@ in_slot_order (m ∷ ms) = put_in m (in_slot_order ms)
 pub record FitContainer (ms : List Made) : Type 0 where
   pub apart : AllPairs (λ m n. m.slot ≢ n.slot) ms
   pub slots : All (λ m. m.slot ≤ 4095) ms
-  pub pages : All (λ m. length m.payload ≤ 512) ms
+  pub pages : All (λ m. length m.payload ≤ 8192) ms
 
 -- the container's bytes: each bundle, sealed, in the order of their slots
 abbrev pub container_text : (forward backward : List ℕ) → List Made → List ℕ

@@ -41,7 +41,7 @@ fn seal_each(
     keys: &Keys,
     bundles: &[Bundle<'_>],
 ) -> Result<Vec<SlotBundle>, OutOfMemory>
-    requires { All (λ m. length m.payload ≤ 512) bundles.now }
+    requires { All (λ m. length m.payload ≤ 8192) bundles.now }
     ensures sealed { (forward backward : List ℕ) → HoldKeys keys.now forward backward → IfOk result (λ v. v.items ≡ map (sealed forward backward) bundles.now) }
     ensures slots { IfOk result (λ v. map (λ b. b.slot) v.items ≡ map (λ m. m.slot) bundles.now) }
     ensures sizes { IfOk result (λ v. All (λ b. length b.bytes ≤ 131072) v.items) }

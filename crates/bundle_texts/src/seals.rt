@@ -15,7 +15,7 @@ use td_words::{Header, OutOfMemory, SlotBundle};
 
 /// Seals a bundle. No two of one stream, session and iv may ever be sealed under one key.
 pub fn seal(alloc: Global, keys: &Keys, bundle: &Bundle<'_>) -> Result<SlotBundle, OutOfMemory>
-    requires { length bundle.now.payload ≤ 512 }
+    requires { length bundle.now.payload ≤ 8192 }
     ensures sealed { (forward backward : List ℕ) → HoldKeys keys.now forward backward → IfOk result (λ b. b ≡ sealed forward backward bundle.now) }
     ensures slot { IfOk result (λ b. b.slot ≡ bundle.now.slot) }
     ensures size { IfOk result (λ b. length b.bytes ≤ 131072) }
@@ -31,7 +31,7 @@ pub fn seal(alloc: Global, keys: &Keys, bundle: &Bundle<'_>) -> Result<SlotBundl
 
 /// Bytes 0 to 47, the tag, and the sealed payload.
 fn sealed_bytes(alloc: Global, keys: &Keys, bundle: &Bundle<'_>) -> Result<Vec<u8>, AllocError>
-    requires { length bundle.now.payload ≤ 512 }
+    requires { length bundle.now.payload ≤ 8192 }
     ensures sealed { (forward backward : List ℕ) → HoldKeys keys.now forward backward → IfOk result (λ v. v.items ≡ (sealed forward backward bundle.now).bytes) }
     ensures size { IfOk result (λ v. length v.items ≤ 131072) }
 {
