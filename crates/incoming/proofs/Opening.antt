@@ -11,7 +11,7 @@ use Rattle.flat_core.specs.Opening.{clear_header}
 use Rattle.gcm_seal.specs.Gcm.{mixed, tag_bytes}
 use Rattle.bundle_format.specs.declared.kinds.BundleKind.{BundleKind}
 use Rattle.bundle_format.specs.declared.kinds.BundleKind.TheVariants as kinds
-use Rattle.bundle_format.specs.Kinds.{kind_of}
+use Rattle.bundle_format.specs.Kinds.{kind_of, list_line, allowed}
 use Rattle.bundle_format.specs.Headers.{head_bytes, payload_of, payload_length, bundle_in}
 use Rattle.bundle_format.specs.Laws.{IsBundle}
 use Rattle.bundle_format.proofs.Faults.{facts_of}
@@ -46,15 +46,22 @@ module _ (forward backward : List ℕ) (h : Header) (sealed iv head text : List 
       ∙ sym (ap (λ (b : Bool). if b then words_in (mixed key (iv_bytes (clear_header h)) sealed) else []) right)
 
 -- each kind's payload has whole words
-whole-payload : (k : Option BundleKind) → payload_of k % 8 ≡ 0
-whole-payload None = refl
-whole-payload (Some kinds.ImmutableState) = refl
-whole-payload (Some kinds.TdState) = refl
-whole-payload (Some kinds.VcpuState) = refl
-whole-payload (Some kinds.Memory) = refl
-whole-payload (Some kinds.EpochToken) = refl
-whole-payload (Some kinds.StartToken) = refl
-whole-payload (Some kinds.AbortToken) = refl
+whole-line : (k : BundleKind) → (allowed k).payload % 8 ≡ 0
+whole-line kinds.ImmutableState = refl
+whole-line kinds.TdState = refl
+whole-line kinds.VcpuState = refl
+whole-line kinds.Memory = refl
+whole-line kinds.EpochToken = refl
+whole-line kinds.StartToken = refl
+whole-line kinds.AbortToken = refl
+
+whole-payload : (h : Header) (k : Option BundleKind) → payload_of h k % 8 ≡ 0
+whole-payload h None = refl
+whole-payload h (Some k) = by (h.version == 2)
+  where
+    by : (b : Bool) → (if b then list_line h.info else allowed k).payload % 8 ≡ 0
+    by true = omega arith
+    by false = whole-line k
 
 abbrev behind : List ℕ → List ℕ
 behind bytes = take (length bytes - 64) (drop 64 bytes)
@@ -67,7 +74,7 @@ whole-words bytes h fits is few =
     let read = read_from bytes h fits is in
     let n : length (behind bytes) ≡ length bytes - 64 = ap length (behind-is bytes) ∙ length-drop 64 bytes in
     let spelled : length bytes ≡ 64 + payload_length h = long bytes h read.0 read.1 in
-    let whole = whole-payload (kind_of h.kind) in
+    let whole = whole-payload h (kind_of h.kind) in
     (omega (arith, n, few), omega (arith, n, spelled, whole))
   where
     long : (bytes : List ℕ) (h : Header) (payload : List ℕ) → IsBundle bytes h payload → length bytes ≡ 64 + payload_length h
