@@ -1,2 +1,3 @@
+pub mod Own
 mod Tasks
 pub mod Modules

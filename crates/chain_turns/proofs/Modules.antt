@@ -1,16 +1,12 @@
 -- The processors of a chain's modules, turn by turn.
-use Rattle.std.proofs.Common.{◌≡◌, ◌≢◌, ◌⊎◌, inl, inr, refl, sym, ◌∙◌, ap, subst, ℕ, zero, suc, ◌<◌, List, [], ◌∷◌, ◌++◌, length, Option, Some, None, true, false, ◌==◌, not, arith}
-use Rattle.std.specs.List.{All, filter}
-use Rattle.std.proofs.lemmas.Bool.{eq-eqb, ne_eqb}
+use Rattle.std.proofs.Common.{◌≡◌, ◌≢◌, ◌⊎◌, inl, inr, refl, sym, ◌∙◌, ap, subst, ℕ, ◌<◌, List, [], ◌∷◌, ◌++◌, length, Option, Some, None, true, false, ◌==◌}
+use Rattle.std.specs.List.{All}
 use Rattle.std.proofs.lemmas.Bool.Decides.{eqb_tells}
 use Rattle.std.proofs.lemmas.List.Elements.{All-head, All-tail}
 use Rattle.td_words.specs.declared.calls.Call.{Call}
 use Rattle.flat_core.specs.World.{put}
 use Rattle.flat_core.specs.Opening.{Opening}
 use Rattle.flat_core.specs.Event.{State, calls_of}
-use Rattle.flat_core.specs.Laws.{with_bundles}
-use Rattle.flat_bundles.specs.Ended.{ended_bundles}
-use Rattle.mig_laws.specs.Ivs.{is_forward}
 use Rattle.step_core.specs.Items.{Table, PlaysTo}
 use Rattle.leaf_engine.specs.declared.events.Event.{Event}
 use Rattle.leaf_engine.specs.Turns.{Standing}
@@ -20,19 +16,14 @@ use Rattle.leaf_engine.specs.Merges.{no_table, AreLeaves}
 use Rattle.leaf_table.specs.Given.{given_of}
 use Rattle.leaf_table.specs.Table.{leaf_table}
 use Rattle.leaf_table.specs.Laws.{CallsHaveLeaves}
-use Rattle.chain_laws.specs.Chains.{Module, Chain, Running, state_of, comes_forward, comes_back, in_slot, inputs, opening_now, items_due, go_on, turn, chain_event, play_chain, first_modules, at_moment}
+use Rattle.chain_laws.specs.Chains.{Module, Chain, Running, state_of, inputs, opening_now, items_due, go_on, turn, chain_event, play_chain, first_modules, at_moment}
 use Rattle.chain_laws.proofs.Turns.{module_keeps, chain_keeps, chain_append}
 use Rattle.chain_laws.proofs.Inputs.{inputs_stay}
 use Rattle.chain_laws.proofs.RowsStay.{begun_at}
 use Rattle.turn_laws.specs.Turns.{IsKnown, HasBegun, IsSameCall, GoesOnBy, AllStand, TurnsKeepAll}
 use Rattle.chain_turns.specs.Modules.{AreScripts, leaves_now, StandsAtMoment, ModulesStand}
+use Rattle.chain_turns.proofs.Own.{put-own, put-other, later-is, own-opening, own-state}
 use Rattle.chain_turns.proofs.Tasks.{tasks-take, steps-same}
-
-put-own : {A : Type 0} (f : ℕ → A) (p q : ℕ) (x : A) → q ≡ p → put f p x q ≡ x
-put-own f p q x e = rw (eq-eqb q p e) refl
-
-put-other : {A : Type 0} (f : ℕ → A) (p q : ℕ) (x : A) → q ≢ p → put f p x q ≡ f q
-put-other f p q x ne = rw (ne_eqb q p ne) refl
 
 -- all stand, by the leaves of an opening
 abbrev StandsIn : (ℕ → WordLp) → Table → Opening → State → Type 0
@@ -45,19 +36,8 @@ module _ (law : TurnsKeepAll) (leaves : CallsHaveLeaves) (c : Chain) where
       (λ r x h. module_keeps (λ s. IsKnown (c.openings i) s) c r x i h (λ p. law.known (c.openings i) (inputs c r.modules i) (state_of r i) p h))
       turns (first_modules c) (law.first (c.openings i))
 
-  -- a module's own turn leaves what comes in at it
-  own-forward : (ms : ℕ → Module) (i : ℕ) (m : Module) → comes_forward c (put ms i m) i ≡ comes_forward c ms i
-  own-forward ms zero m = refl
-  own-forward ms (suc i) m = ap (λ (x : Module). filter is_forward (ended_bundles (c.openings i) x.state)) (put-other ms (suc i) i m (λ e. omega (arith, e)))
-
-  own-back : (ms : ℕ → Module) (i : ℕ) (m : Module) → comes_back c (put ms i m) i ≡ comes_back c ms i
-  own-back ms i m = ap (λ (x : Module). filter (λ b. not (is_forward b)) (ended_bundles (c.openings (suc i)) x.state)) (put-other ms i (suc i) m (λ e. omega (arith, e)))
-
-  own-inputs : (ms : ℕ → Module) (i : ℕ) (m : Module) → inputs c (put ms i m) i ≡ inputs c ms i
-  own-inputs ms i m = λ j. λ slot. in_slot (own-forward ms i m j ++ own-back ms i m j) slot
-
   module _ (turns : List ℕ) (i : ℕ) where
-    abbrev pub r : Running
+    abbrev r : Running
     r = at_moment c turns
 
     abbrev s : State
@@ -72,28 +52,13 @@ module _ (law : TurnsKeepAll) (leaves : CallsHaveLeaves) (c : Chain) where
     abbrev later : Running
     later = chain_event c r i
 
-    pub later-is : at_moment c (turns ++ i ∷ []) ≡ later
-    later-is = chain_append c turns (i ∷ []) (first_modules c)
-
-    pub own-opening : opening_now c later.modules i ≡ o
-    own-opening = ap (with_bundles base) (own-inputs r.modules i (turn o (r.modules i)))
-
-    pub own-state : (items : List ℕ) → items_due o s (r.modules i).items ≡ items → state_of later i ≡ (go_on o s items).state
-    own-state items due = ap (λ (m : Module). m.state) (put-own r.modules i i (turn o (r.modules i)) refl) ∙ ap (λ (xs : List ℕ). (go_on o s xs).state) due
-
-    pub own-items : (p : ℕ) (items : List ℕ) → items_due o s (r.modules i).items ≡ p ∷ items → (later.modules i).items ≡ items
-    own-items p items due = ap (λ (m : Module). m.items) (put-own r.modules i i (turn o (r.modules i)) refl) ∙ ap (λ (xs : List ℕ). (go_on o s xs).items) due
-
-    pub none-left : items_due o s (r.modules i).items ≡ [] → (later.modules i).items ≡ []
-    none-left due = ap (λ (m : Module). m.items) (put-own r.modules i i (turn o (r.modules i)) refl) ∙ ap (λ (xs : List ℕ). (go_on o s xs).items) due
-
     -- with the leaves of that moment
     at-later : (now : ℕ → WordLp) (u : Table) (items : List ℕ) → items_due o s (r.modules i).items ≡ items → StandsIn now u o (go_on o s items).state → ((p : ℕ) → p < length base.calls → HasBegun (now p).run (now p).guest)
         → StandsAtMoment c (at_moment c (turns ++ i ∷ [])) i now u
     at-later now u items due all begun =
-        subst (λ (q : Running). StandsAtMoment c q i now u) (sym later-is)
+        subst (λ (q : Running). StandsAtMoment c q i now u) (sym (later-is c turns i))
         (record {
-          all = subst (λ (x : Opening). StandsIn now u x (state_of later i)) (sym own-opening) (subst (λ (x : State). StandsIn now u o x) (sym (own-state items due)) all);
+          all = subst (λ (x : Opening). StandsIn now u x (state_of later i)) (sym (own-opening c turns i)) (subst (λ (x : State). StandsIn now u o x) (sym (own-state c turns i items due)) all);
           begun = begun;
         })
 

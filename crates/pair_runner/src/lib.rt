@@ -6,8 +6,17 @@
 //! again where it is written out.
 #![tactic(auto)]
 
+mod chains;
 mod laws;
+mod modules;
+mod pairs;
 mod plans;
+mod sealing;
+mod sides;
 
+pub use chains::run_chain;
 pub use laws::{plans_are_in_form, plans_read_again};
+pub use modules::Starting;
+pub use pairs::{PairRun, run_pair};
 pub use plans::{PlanFault, PlanItem, read_plan};
+pub use sides::Side;
