@@ -283,15 +283,15 @@ module _ (sch : List ℕ) where
           (all-done ended n))
 
 -- all are still processors of one machine
-pub machines-stay : (lps : List LpState) (p : ℕ) (l l' : LpState) (m m' : Machine) → m' ≡ m → get_or lps p l ≡ l → l'.place.machine ≡ l.place.machine → p < length lps
+pub machines-stay : (lps : List LpState) (p : ℕ) (l l' : LpState) (m m' : Machine) → m' ≡ m → l'.place.machine ≡ (get_or lps p l).place.machine → p < length lps
     → All (λ s. s.place.machine ≡ m) lps → All (λ s. s.place.machine ≡ m') (set lps p l')
-machines-stay lps p l l' m m' same is kept inside each k d low = by (eqb_tells k p)
+machines-stay lps p l l' m m' same kept inside each k d low = by (eqb_tells k p)
   where
     below : k < length lps
     below = let n = length-set lps p l' in omega (arith, low, n)
 
     by : (((k == p) ≡ true) × (k ≡ p)) ⊎ (((k == p) ≡ false) × (k ≢ p)) → (get_or (set lps p l') k d).place.machine ≡ m'
-    by (inl own) = ap (λ (x : LpState). x.place.machine) (get_or-set_at lps p k l' d own.1 inside) ∙ (kept ∙ (ap (λ (x : LpState). x.place.machine) (sym is) ∙ (each p l inside ∙ sym same)))
+    by (inl own) = ap (λ (x : LpState). x.place.machine) (get_or-set_at lps p k l' d own.1 inside) ∙ (kept ∙ (each p l inside ∙ sym same))
     by (inr other) = ap (λ (x : LpState). x.place.machine) (get_or-set_other lps p k l' d other.1) ∙ (each k d below ∙ sym same)
 
 -- one event more, or none, in loops
@@ -305,25 +305,25 @@ module _ (law : ModulesStand) (sch : List ℕ) (events left a : ℕ) (lps0 : Lis
   no-more-turns n b lps' u' k e g = subst (λ (j : ℕ). GoOn sch j a lps0 u0 b lps' u') e (go-further sch (events - left) n a item b lps0 lps lps' u0 u u' far g)
 
   module _ (p : ℕ) (l l' : LpState) (u' : Table) (is : get_or lps p l ≡ l) (inside : p < length lps) where
-    pub moved-in : (e : Event) → 0 < left → item < length sch → get_or sch item 0 ≡ p → true ≡ not (length l.lines.now == 0) → Moved l u l' u' e
+    pub moved-in : (e : Event) → 0 < left → item < length sch → get_or sch item 0 ≡ p → true ≡ not (length (get_or lps p l).lines.now == 0) → Moved (get_or lps p l) u l' u' e
         → GoOn sch (events - (left - 1)) a lps0 u0 (item + 1) (set lps p l') u'
     moved-in e some low is-item has moved =
         one-more (item + 1) (set lps p l') u' some
-        (turn-moved sch law item lps u low p is-item l inside l' u' e (subst (λ (x : LpState). true ≡ not (length x.lines.now == 0)) (sym is) has) (subst (λ (x : LpState). Moved x u l' u' e) (sym is) moved))
+        (turn-moved sch law item lps u low p is-item l inside l' u' e has moved)
 
-    pub passed-in : item < length sch → get_or sch item 0 ≡ p → false ≡ not (length l.lines.now == 0) → PlaysTo u [] u' → l' ≡ l
+    pub passed-in : item < length sch → get_or sch item 0 ≡ p → false ≡ not (length (get_or lps p l).lines.now == 0) → PlaysTo u [] u' → l' ≡ get_or lps p l
         → GoOn sch (events - left) a lps0 u0 (item + 1) (set lps p l') u'
     passed-in low is-item has did same =
         no-more-turns 0 (item + 1) (set lps p l') u' (events - left) (omega arith)
         (subst (λ (v : Table). GoOn sch 0 item lps u (item + 1) (set lps p l') v) (sym (same-table u u' did.0 did.1))
-        (subst (λ (xs : List LpState). GoOn sch 0 item lps u (item + 1) xs u) (sym (ap (λ (x : LpState). set lps p x) (same ∙ sym is) ∙ set-get_or lps p l))
-        (turn-passed sch law item lps u low p is-item l inside (subst (λ (x : LpState). false ≡ not (length x.lines.now == 0)) (sym is) has))))
+        (subst (λ (xs : List LpState). GoOn sch 0 item lps u (item + 1) xs u) (sym (ap (λ (x : LpState). set lps p x) same ∙ set-get_or lps p l))
+        (turn-passed sch law item lps u low p is-item l inside has)))
 
-    pub moved-behind : (e : Event) → 0 < left → length sch ≤ item → AreEnded p lps → true ≡ not (length l.lines.now == 0) → Moved l u l' u' e
+    pub moved-behind : (e : Event) → 0 < left → length sch ≤ item → AreEnded p lps → true ≡ not (length (get_or lps p l).lines.now == 0) → Moved (get_or lps p l) u l' u' e
         → GoOn sch (events - (left - 1)) a lps0 u0 item (set lps p l') u'
     moved-behind e some behind ended has moved =
         one-more item (set lps p l') u' some
-        (last-moved sch law item lps u behind p l l' u' e inside ended (subst (λ (x : LpState). true ≡ not (length x.lines.now == 0)) (sym is) has) (subst (λ (x : LpState). Moved x u l' u' e) (sym is) moved))
+        (last-moved sch law item lps u behind p l l' u' e inside ended has moved)
 
     pub ended-stay : AreEnded p lps → AreEnded p (set lps p l')
     ended-stay ended q d low =
