@@ -54,7 +54,7 @@ fn bench_with(rt: &impl Abort, alloc: Global, pages: u8) -> PlainBench
     bench
 }
 
-fn load(gpa: u64) -> GuestOp
+pub fn load(gpa: u64) -> GuestOp
     ensures { IsOperation result }
 {
     GuestOp::Load { register: 1, gpa }
@@ -146,7 +146,7 @@ fn visit<'a>(
     (lp, events.wrapping_sub(10))
 }
 
-fn codes_of(ops: Vec<GuestOp>) -> [Code; 1]
+pub fn codes_of(ops: Vec<GuestOp>) -> [Code; 1]
     requires { All IsOperation ops.items }
     ensures { AreOperations result }
 {

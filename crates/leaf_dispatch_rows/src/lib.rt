@@ -16,4 +16,6 @@ mod last_epochs;
 #[cfg(test)]
 mod pages_exported;
 #[cfg(test)]
+mod pauses;
+#[cfg(test)]
 mod turns;
