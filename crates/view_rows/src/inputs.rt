@@ -63,6 +63,27 @@ const TOLD: &str =
 const NONE_TOLD: &str =
     "54     0.9    line 15    VP.ENTER                release P 1 -> EXIT VMCALL 0\n";
 
+// Of one processor there is one schedule: the replies of the destination where the bundle comes in, and where it doesn't.
+const ALL_ARRIVED: &str =
+    "0.1    line 3     MNG.CREATE              SUCCESS                                 schedule 0*5
+0.2    line 4     MNG.KEY.CONFIG          SUCCESS                                 schedule 0*8
+0.3    line 5     MNG.ADDCX               SUCCESS                                 schedule 0*13
+0.4    line 6     MNG.ADDCX               SUCCESS                                 schedule 0*18
+0.5    line 7     MIG.STREAM.CREATE       SUCCESS                                 schedule 0*25
+0.6    line 8     IMPORT.STATE.IMMUTABLE  SUCCESS                                 schedule 0*32
+states 33 events 32 all
+";
+
+const ALL_REFUSED: &str =
+    "0.1    line 3     MNG.CREATE              SUCCESS                                 schedule 0*5
+0.2    line 4     MNG.KEY.CONFIG          SUCCESS                                 schedule 0*8
+0.3    line 5     MNG.ADDCX               SUCCESS                                 schedule 0*13
+0.4    line 6     MNG.ADDCX               SUCCESS                                 schedule 0*18
+0.5    line 7     MIG.STREAM.CREATE       SUCCESS                                 schedule 0*25
+0.6    line 8     IMPORT.STATE.IMMUTABLE  BUNDLE_TAG                              schedule 0*32
+states 33 events 32 all
+";
+
 const KEY_FILE: &str = "key file\n";
 
 const SECRETS_FILE: &str = "secrets file\n";
@@ -85,6 +106,8 @@ const ROWS: &[(&str, &[u64], u8, &str)] = &[
         "\"reply\": \"SUCCESS\"}\n",
     ),
     ("trace d --bundles c --keys k --secrets z", &[], 0, TAKEN),
+    ("explore d --bundles c --keys k", &[], 0, ALL_ARRIVED),
+    ("explore --keys=x d --bundles=c", &[], 0, ALL_REFUSED),
     // Under other keys it doesn't open, and neither does it where the two are exchanged.
     ("state d --after 99 --bundles c --keys x", &[], 0, REFUSED),
     ("trace d --bundles c --keys x", &[], 0, BAD_TAG),
@@ -107,6 +130,8 @@ const ROWS: &[(&str, &[u64], u8, &str)] = &[
     ("trace d --bundles c", &[], 7, KEY_FILE),
     ("state d --after 0 --bundles c", &[], 7, KEY_FILE),
     ("trace d --bundles c --keys y", &[], 7, KEY_FILE),
+    ("explore d --bundles c", &[], 7, KEY_FILE),
+    ("explore s --states 0 --secrets w", &[], 7, SECRETS_FILE),
     ("trace s --keys y", &[], 7, KEY_FILE),
     (
         "trace d --bundles c --keys k --secrets w",
@@ -208,6 +233,8 @@ const ROWS: &[(&str, &[u64], u8, &str)] = &[
     ("trace d --secrets z --keys k --bundles c", &[4], 0, TAKEN),
     // Their names stand once, and nothing is saved.
     ("trace d --bundles c --bundles c", &[], 1, USAGE),
+    ("explore d --keys k --keys k", &[], 1, USAGE),
+    ("explore d --out-bundles o", &[], 1, USAGE),
     ("trace d --bundles", &[], 1, USAGE),
     ("state d --bundles c --keys k", &[], 1, USAGE),
     ("trace d --out-bundles o", &[], 1, USAGE),

@@ -11,7 +11,7 @@ pub const SCRIPT: &str =
 
 /// The line of words that are no command.
 pub const USAGE: &str =
-    "usage: tdx-view bundles CONTAINER | tdx-view trace SCRIPT [--json] [--bundles F] [--keys F] [--secrets F] | tdx-view state SCRIPT --after N [--json] [--bundles F] [--keys F] [--secrets F]\n";
+    "usage: tdx-view bundles CONTAINER | tdx-view trace SCRIPT [--json] [--bundles F] [--keys F] [--secrets F] | tdx-view state SCRIPT --after N [--json] [--bundles F] [--keys F] [--secrets F] | tdx-view explore SCRIPT [--states N] [--json] [--bundles F] [--keys F] [--secrets F]\n";
 
 // As checks/second/trace has them.
 const EVENTS: &str = "1      0.1    line 6     HOST.READ               try P 1 shared
@@ -37,6 +37,29 @@ const STATE_OBJECTS: &str = "{\"what\": \"done\", \"processor\": 0, \"done\": 0,
 
 // And after all of them.
 const END: &str = "lp 0 done 1 of 1\nlp 1 done 1 of 1\n";
+
+// As checks/second/explore has them: whichever processor locks the page, the other may find it locked.
+const EXPLORED: &str =
+    "0.1    line 6     HOST.READ               OPERAND_BUSY P 1                        schedule 1 0*2
+0.1    line 6     HOST.READ               SUCCESS 0                               schedule 0*3
+1.1    line 9     MNG.CREATE              OPERAND_BUSY P 1                        schedule 0 1
+1.1    line 9     MNG.CREATE              SUCCESS                                 schedule 1*5
+states 24 events 33 all
+";
+
+const EXPLORED_OBJECTS: &str =
+    "{\"what\": \"reply\", \"processor\": 0, \"line\": 1, \"script_line\": 6, \"call\": \"HOST.READ\", \"reply\": \"OPERAND_BUSY P 1\", \"schedule\": \"schedule 1 0*2\"}
+{\"what\": \"reply\", \"processor\": 0, \"line\": 1, \"script_line\": 6, \"call\": \"HOST.READ\", \"reply\": \"SUCCESS 0\", \"schedule\": \"schedule 0*3\"}
+{\"what\": \"reply\", \"processor\": 1, \"line\": 1, \"script_line\": 9, \"call\": \"MNG.CREATE\", \"reply\": \"OPERAND_BUSY P 1\", \"schedule\": \"schedule 0 1\"}
+{\"what\": \"reply\", \"processor\": 1, \"line\": 1, \"script_line\": 9, \"call\": \"MNG.CREATE\", \"reply\": \"SUCCESS\", \"schedule\": \"schedule 1*5\"}
+{\"what\": \"looked\", \"states\": 24, \"events\": 33, \"outcome\": \"all\"}
+";
+
+// With two states looked at, and five known.
+const SOME_EXPLORED: &str =
+    "1.1    line 9     MNG.CREATE              OPERAND_BUSY P 1                        schedule 0 1
+states 5 events 4 more than --states
+";
 
 // Words, the status and the text. The files are the script s, a bad script b, and a container c without
 // bundles.
@@ -75,6 +98,38 @@ const ROWS: &[(&str, u8, &str)] = &[
     ("state s --json", 1, USAGE),
     ("trace s --after 2", 1, USAGE),
     ("replay s", 1, USAGE),
+    // All schedules, or so many states of theirs; the script's own one counts for nothing.
+    ("explore s", 0, EXPLORED),
+    ("explore s --json", 0, EXPLORED_OBJECTS),
+    ("explore --states 24 s", 0, EXPLORED),
+    ("explore s --states=0x18", 0, EXPLORED),
+    (
+        "explore s --states 0",
+        8,
+        "states 1 events 0 more than --states\n",
+    ),
+    (
+        "explore s --states 1",
+        8,
+        "states 3 events 2 more than --states\n",
+    ),
+    ("explore s --states 2", 8, SOME_EXPLORED),
+    (
+        "explore --json s --states 0",
+        8,
+        "{\"what\": \"looked\", \"states\": 1, \"events\": 0, \"outcome\": \"more than --states\"}\n",
+    ),
+    ("explore b", 2, "script line 2 WORD\n"),
+    ("explore absent", 3, "cannot read absent\n"),
+    ("explore", 1, USAGE),
+    ("explore s --states", 1, USAGE),
+    ("explore s --states=", 1, USAGE),
+    ("explore s --states many", 1, USAGE),
+    ("explore s --states 2 --states 2", 1, USAGE),
+    ("explore s --after 2", 1, USAGE),
+    ("explore s s", 1, USAGE),
+    ("trace s --states 2", 1, USAGE),
+    ("explore -- s", 0, EXPLORED),
     // an option's value may stand behind `=`
     ("state s --after=2", 0, STATE),
     ("state --after=2 s", 0, STATE),

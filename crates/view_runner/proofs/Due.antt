@@ -12,16 +12,16 @@ use Rattle.command_files.specs.declared.inputs.InputFault.{InputFault}
 use Rattle.command_files.specs.declared.inputs.Inputs.{Inputs}
 use Rattle.command_files.specs.Commands.{NamedSeen}
 use Rattle.command_files.specs.Inputs.{Reads, TakesInputs}
-use Rattle.view_runner.specs.declared.commands.Shown.{Shown}
+use Rattle.view_words.specs.declared.commands.Shown.{Shown}
 use Rattle.view_runner.specs.declared.ending.Told.{Told}
-use Rattle.view_runner.specs.Endings.{told_seen, opened_by, given_by, run_view, needs_due, InputsEnd, ScriptEnd, ReadPart, AnswerPart}
+use Rattle.view_runner.specs.Endings.{told_seen, opened_by, given_by, needs_due, RunEnd, InputsEnd, ScriptEnd, ReadPart, AnswerPart}
 
 -- what is given is what the inputs hand out
 pub as_given : (x : Shown) (text : List ℕ) (s : ScriptSeen) (inputs : Inputs) (secrets : List ℕ) (sealed : List BundleSeen) (arrived : List SlotIncoming) (r : Result Told AllocError)
     → secrets ≡ inputs.secrets.items → sealed ≡ inputs.bundles.items → arrived ≡ opened_by inputs.keys sealed
-    → IfOk r (λ e. told_seen e ≡ run_view x text s (record { secrets = secrets_in secrets; bundles = at_slot arrived })) → IfOk r (λ e. told_seen e ≡ run_view x text s (given_by inputs))
+    → IfOk r (λ e. RunEnd x text s (record { secrets = secrets_in secrets; bundles = at_slot arrived }) (told_seen e)) → IfOk r (λ e. RunEnd x text s (given_by inputs) (told_seen e))
 as_given x text s inputs secrets sealed arrived r words bundles opened h =
-    subst (λ (g : Given). IfOk r (λ e. told_seen e ≡ run_view x text s g)) (λ i. record { secrets = secrets_in (words i); bundles = at_slot ((opened ∙ ap (opened_by inputs.keys) bundles) i) }) h
+    subst (λ (g : Given). IfOk r (λ e. RunEnd x text s g (told_seen e))) (λ i. record { secrets = secrets_in (words i); bundles = at_slot ((opened ∙ ap (opened_by inputs.keys) bundles) i) }) h
 
 module _ (contents : Option (List ℕ → Option (List ℕ))) (x : Shown) (n : NamedSeen) (text : List ℕ) (s : ScriptSeen) (old new : Reads) where
   -- a fault of the inputs is told
@@ -30,7 +30,7 @@ module _ (contents : Option (List ℕ → Option (List ℕ))) (x : Shown) (n : N
   fault_ends f (Err e) takes ends = tt
 
   -- so is a run
-  pub run_ends : (inputs : Inputs) (r : Result Told AllocError) → TakesInputs contents (needs_due n s) n old new (Ok inputs) → IfOk r (λ e. told_seen e ≡ run_view x text s (given_by inputs)) → IfOk r (λ e. ScriptEnd contents x n text s old new (told_seen e))
+  pub run_ends : (inputs : Inputs) (r : Result Told AllocError) → TakesInputs contents (needs_due n s) n old new (Ok inputs) → IfOk r (λ e. RunEnd x text s (given_by inputs) (told_seen e)) → IfOk r (λ e. ScriptEnd contents x n text s old new (told_seen e))
   run_ends inputs (Ok e) takes h = (Ok inputs, takes, h)
   run_ends inputs (Err e) takes h = tt
 

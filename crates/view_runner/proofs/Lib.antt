@@ -1,3 +1,1 @@
 mod Due
-mod FirstWords
-mod Worked

@@ -1,5 +1,5 @@
 -- What a command comes to, by the files that it loads.
-use Rattle.std.specs.Prelude.{◌≡◌, ◌⊎◌, ℕ, ◌^◌, ◌≤◌, ◌==◌, if◌then◌else◌, Bool, false, List, [], ◌∷◌, ◌++◌, map, replicate, Option, Some, None, Result, Ok, Err, codes}
+use Rattle.std.specs.Prelude.{◌≡◌, ◌⊎◌, ℕ, ◌^◌, ◌≤◌, nat_le, ◌==◌, ◌||◌, if◌then◌else◌, Bool, false, List, [], ◌∷◌, ◌++◌, map, replicate, Option, Some, None, Result, Ok, Err, codes}
 use Rattle.std.specs.List.{concat}
 use Rattle.std.specs.Fmt.{decimal}
 use Rattle.std.specs.Global.{Vec}
@@ -13,6 +13,13 @@ use Rattle.bundle_store.specs.Outside.{PutsTold, PutCause}
 use Rattle.bundle_store.specs.History.{Put}
 use Rattle.bundle_store.specs.Containers.{container_in}
 use Rattle.bundle_lines.specs.BundleLines.{bundle_line}
+use Rattle.field_lines.specs.declared.lines.Form.{Form}
+use Rattle.state_search.specs.declared.searches.Outcome.{Outcome}
+use Rattle.state_search.specs.declared.searches.Outcome.TheVariants as outcome
+use Rattle.found_texts.specs.declared.found.Found.{Found}
+use Rattle.found_texts.specs.declared.lines.Looked.{Looked}
+use Rattle.found_texts.specs.Found.{found_seen}
+use Rattle.found_texts.specs.Lines.{found_text}
 use Rattle.command_files.specs.declared.inputs.Input.{Input}
 use Rattle.command_files.specs.declared.inputs.Input.TheVariants as input
 use Rattle.command_files.specs.declared.inputs.InputFault.{InputFault}
@@ -38,9 +45,10 @@ use Rattle.trace_texts.specs.Lines.{trace_text}
 use Rattle.run_texts.specs.Openings.{opening_of}
 use Rattle.state_lines.specs.After.{state_after}
 use Rattle.state_lines.specs.StateText.{state_text}
-use Rattle.view_runner.specs.Views.{ViewSeen, Bundles, Run}
-use Rattle.view_runner.specs.declared.commands.Shown.{Shown}
-use Rattle.view_runner.specs.declared.commands.Shown.TheVariants as shown
+use Rattle.found_lists.specs.Lists.{TellsInOrder}
+use Rattle.view_words.specs.Views.{ViewSeen, Bundles, Run}
+use Rattle.view_words.specs.declared.commands.Shown.{Shown}
+use Rattle.view_words.specs.declared.commands.Shown.TheVariants as shown
 use Rattle.view_runner.specs.declared.ending.Told.{Told}
 
 -- an exit status, and what is put to the output
@@ -52,7 +60,7 @@ abbrev pub told_seen : Told → Ended
 told_seen t = record { status = t.status; text = t.text.items }
 
 abbrev pub usage_end : Ended
-usage_end = record { status = 1; text = codes "usage: tdx-view bundles CONTAINER | tdx-view trace SCRIPT [--json] [--bundles F] [--keys F] [--secrets F] | tdx-view state SCRIPT --after N [--json] [--bundles F] [--keys F] [--secrets F]" ++ 10 ∷ [] }
+usage_end = record { status = 1; text = codes "usage: tdx-view bundles CONTAINER | tdx-view trace SCRIPT [--json] [--bundles F] [--keys F] [--secrets F] | tdx-view state SCRIPT --after N [--json] [--bundles F] [--keys F] [--secrets F] | tdx-view explore SCRIPT [--states N] [--json] [--bundles F] [--keys F] [--secrets F]" ++ 10 ∷ [] }
 
 -- that line of the script is bad
 abbrev pub bad_end : ℕ → Reason → Ended
@@ -96,10 +104,35 @@ opened_by (Some keys) bundles = map (incoming_in keys.forward keys.backward) bun
 abbrev pub given_by : Inputs → Given
 given_by inputs = record { secrets = secrets_in inputs.secrets.items; bundles = at_slot (opened_by inputs.keys inputs.bundles.items) }
 
--- The events of a script's run with these, a line each, by its text, or the state after so many, in a form.
-abbrev pub run_view : Shown → (text : List ℕ) → ScriptSeen → Given → Ended
-run_view (shown.Trace f) text s given = record { status = 0; text = trace_text f (call_lists text 0 s.machine.lps) (traces (opening_of given s) s.schedule) }
-run_view (shown.State f n) text s given = record { status = 0; text = state_text f (opening_of given s) (state_after (opening_of given s) n s.schedule) }
+-- the events of a script's run with these, a line each, by its text
+abbrev pub trace_view : Form → (text : List ℕ) → ScriptSeen → Given → Ended
+trace_view f text s given = record { status = 0; text = trace_text f (call_lists text 0 s.machine.lps) (traces (opening_of given s) s.schedule) }
+
+-- or the state after so many of them
+abbrev pub state_view : Form → (events : ℕ) → ScriptSeen → Given → Ended
+state_view f n s given = record { status = 0; text = state_text f (opening_of given s) (state_after (opening_of given s) n s.schedule) }
+
+-- the replies that its schedules give: all of them, or those of so many states, or of those for which memory was found
+abbrev pub explored_status : Outcome → ℕ
+explored_status outcome.All = 0
+explored_status outcome.TooMany = 8
+explored_status outcome.Refused = 9
+
+abbrev pub explored_view : Form → (text : List ℕ) → ScriptSeen → List Found → Looked → Ended
+explored_view f text s found l = record { status = explored_status l.outcome; text = found_text f (call_lists text 0 s.machine.lps) (map found_seen found) l }
+
+-- That is told of some search of at most so many states.
+pub record Explores (f : Form) (states : ℕ) (text : List ℕ) (s : ScriptSeen) (given : Given) (e : Ended) : Type 0 where
+  pub found : List Found
+  pub looked : Looked
+  pub tells : TellsInOrder (opening_of given s) states found looked
+  pub ends : e ≡ explored_view f text s found looked
+
+-- What is shown of a script with these, in a form.
+abbrev pub RunEnd : Shown → (text : List ℕ) → ScriptSeen → Given → Ended → Type 0
+RunEnd (shown.Trace f) text s given e = e ≡ trace_view f text s given
+RunEnd (shown.State f n) text s given e = e ≡ state_view f n s given
+RunEnd (shown.Explore f n) text s given e = Explores f n text s given e
 
 abbrev pub fault_end : ScriptFault → Ended
 fault_end (Bad line reason) = bad_end line reason
@@ -133,9 +166,9 @@ BundlesEnd name (Err load.TooLong) e = e ≡ container_end (2 ^ 29)
 BundlesEnd name (Err load.Failed) e = e ≡ unread_end name
 BundlesEnd name (Err load.OutOfMemory) e = ⊥
 
--- a script's run is shown where its inputs have no fault, which else is told
+-- what is asked for of a script is shown where its inputs have no fault, which else is told
 abbrev pub InputsEnd : Shown → NamedSeen → (text : List ℕ) → ScriptSeen → Result Inputs InputFault → Ended → Type 0
-InputsEnd x n text s (Ok inputs) e = e ≡ run_view x text s (given_by inputs)
+InputsEnd x n text s (Ok inputs) e = RunEnd x text s (given_by inputs) e
 InputsEnd x n text s (Err (fault.Unread i)) e = e ≡ unread_end (input_name n i)
 InputsEnd x n text s (Err (fault.Container place)) e = e ≡ container_end place
 InputsEnd x n text s (Err fault.Keys) e = e ≡ keys_end
@@ -232,9 +265,13 @@ pub record Puts (bytes : List ℕ) (old : Outputs) (answer : Result (Unit {0}) P
 abbrev pub PutsWant : Outputs → Outputs → ℕ → Type 0
 PutsWant old new status = (status ≡ 5) × (answer : Result (Unit {0}) PutFault) × Puts memory_end.text old answer new
 
--- a text that is lost ends in 4 where it was that of a success
+-- the statuses of what was asked for, in whole or in part
+abbrev pub is_shown : ℕ → Bool
+is_shown status = status == 0 || nat_le 8 status
+
+-- a text that is lost ends in 4 where it was what was asked for
 abbrev pub unput_status : ℕ → ℕ
-unput_status status = if status == 0 then 4 else status
+unput_status status = if is_shown status then 4 else status
 
 -- one put of an ending's text, whose answer decides on the status; where it found no memory, one more that says so
 abbrev pub TellsBy : Outputs → Ended → Outputs → ℕ → Result (Unit {0}) PutFault → Type 0

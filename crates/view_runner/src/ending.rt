@@ -4,7 +4,7 @@ ghost use Rattle.std.specs.Prelude.{◌≡◌, ◌≤◌, List, ℕ, Err, IfOk};
 ghost use Rattle.bundle_store.specs.Containers.{container_in};
 ghost use Rattle.command_files.specs.Commands.{named_seen};
 ghost use Rattle.script_text.specs.Seen.{ScriptSeen};
-ghost use Rattle.view_runner.specs.declared.commands.Shown.{Shown};
+ghost use Rattle.view_words.specs.declared.commands.Shown.{Shown};
 ghost use Rattle.view_runner.specs.Endings.{told_seen, usage_end, bad_end, unread_end, container_end, keys_end, secrets_end, report_key_end, container_view, input_name, BundlesEnd, InputsEnd};
 
 use bundle_lines::bundle_lines;
@@ -22,7 +22,7 @@ pub struct Told {
 }
 
 const USAGE: &str =
-    "usage: tdx-view bundles CONTAINER | tdx-view trace SCRIPT [--json] [--bundles F] [--keys F] [--secrets F] | tdx-view state SCRIPT --after N [--json] [--bundles F] [--keys F] [--secrets F]\n";
+    "usage: tdx-view bundles CONTAINER | tdx-view trace SCRIPT [--json] [--bundles F] [--keys F] [--secrets F] | tdx-view state SCRIPT --after N [--json] [--bundles F] [--keys F] [--secrets F] | tdx-view explore SCRIPT [--states N] [--json] [--bundles F] [--keys F] [--secrets F]\n";
 
 /// The most bytes that a container may have.
 pub const MOST_CONTAINER: u64 = 1 << 29;
@@ -112,7 +112,7 @@ fn input_name<'a>(named: &Named<'a>, input: Input) -> &'a str
 /// An input of a run can't be read, or hasn't its form.
 pub fn of_fault(alloc: Global, named: &Named<'_>, fault: InputFault) -> Result<Told, AllocError>
     ensures ends { (x : Shown) (text : List ℕ) (s : ScriptSeen) → IfOk result (λ e. InputsEnd x (named_seen named.now) text s (Err fault) (told_seen e)) }
-    ensures few { IfOk result (λ e. e.status ≤ 7) }
+    ensures few { IfOk result (λ e. e.status ≤ 9) }
 {
     match fault {
         InputFault::Unread(input) => unread(alloc, input_name(named, input)),
@@ -127,7 +127,7 @@ pub fn of_fault(alloc: Global, named: &Named<'_>, fault: InputFault) -> Result<T
 // The bundles of a container's bytes.
 fn of_container(alloc: Global, bytes: &[u8]) -> Result<Told, AllocError>
     ensures ends { IfOk result (λ e. told_seen e ≡ container_view (container_in bytes.now)) }
-    ensures few { IfOk result (λ e. e.status ≤ 7) }
+    ensures few { IfOk result (λ e. e.status ≤ 9) }
 {
     match read_container(alloc, bytes) {
         Ok(bundles) => match bundle_lines(alloc, &bundles) {
@@ -146,7 +146,7 @@ pub fn of_bundles(
     answer: Result<Vec<u8>, LoadFault>,
 ) -> Result<Told, AllocError>
     ensures ends { IfOk result (λ e. BundlesEnd name.now answer (told_seen e)) }
-    ensures few { IfOk result (λ e. e.status ≤ 7) }
+    ensures few { IfOk result (λ e. e.status ≤ 9) }
 {
     match answer {
         Ok(bytes) => of_container(alloc, &bytes),

@@ -1,14 +1,12 @@
 //! The top call of `tdx-view`, over the files and the output of `bundle_store`: what a command comes to is
-//! decided by what it loads, a container, or a script that is run and the inputs of its run, and put.
+//! decided by what it loads, a container, or a script and the inputs of its runs, and put.
 //!
-//! Its words are read by `clap`, its inputs are taken by `command_files` in the order of `tdx`, and its
+//! Its words are read by `view_words`, its inputs are taken by `command_files` in the order of `tdx`, and its
 //! fault texts and statuses are those of `tdx`. A layer above may
 //! use that `view_main` does what `DoesView` says, whatever its files and its output tell.
 #![tactic(auto)]
 
-mod commands;
 mod ending;
-mod lines;
 mod runs;
 mod top;
 

@@ -6,23 +6,26 @@ ghost use Rattle.command_files.specs.Commands.{named_seen};
 ghost use Rattle.leaf_table.specs.Given.{given_in};
 ghost use Rattle.script_text.specs.Laws.{IsInForm};
 ghost use Rattle.script_text.specs.Reading.{read_of};
-ghost use Rattle.view_runner.specs.declared.commands.Shown.TheVariants.{Trace};
-ghost use Rattle.view_runner.specs.Endings.{told_seen, opened_by, given_by, run_view, keys_due, needs_due, ScriptEnd, ReadEnd, AnswerEnd, ReachesRun, TakesSome, ReadPart, AnswerPart, LoadsRun};
+ghost use Rattle.view_runner.specs.Endings.{told_seen, opened_by, given_by, trace_view, keys_due, needs_due, explored_status, Explores, RunEnd, ScriptEnd, ReadEnd, AnswerEnd, ReachesRun, TakesSome, ReadPart, AnswerPart, LoadsRun};
 
-use crate::commands::Shown;
 use crate::ending::{Told, bad, of_fault, unread};
 use bundle_store::{Files, LoadFault};
 use command_files::{Inputs, KeyBytes, Named, Needs, take_inputs};
 use field_lines::Form;
+use found_lists::ordered_lists_tell;
+use found_texts::{found_text, in_order};
 use incoming::IncomingBundles;
 use leaf_table::Given;
+use lp_space::{Explored, explored};
 use run_texts::{KeyPair, opened_bundles};
 use script_text::{Reason, Script, ScriptFault, needs_keys, read_script, scripts_are_in_form};
 use state_runs::state_lines_after;
+use state_search::Outcome;
 use std::alloc::{AllocError, Global};
 use td_words::{OutOfMemory, SlotBundle};
 use trace_runs::traced_run;
 use trace_texts::{call_lists, trace_text};
+use view_words::Shown;
 
 const MOST_SCRIPT: u64 = 1 << 24;
 
@@ -35,8 +38,8 @@ fn traced(
     given: Given<'_>,
 ) -> Result<Told, AllocError>
     requires { IsInForm script.now }
-    ensures ends { IfOk result (λ e. told_seen e ≡ run_view (Trace form) text.now script.now (given_in given.entry)) }
-    ensures few { IfOk result (λ e. e.status ≤ 7) }
+    ensures ends { IfOk result (λ e. told_seen e ≡ trace_view form text.now script.now (given_in given.entry)) }
+    ensures few { IfOk result (λ e. e.status ≤ 9) }
 {
     let Ok(lists) = call_lists(alloc, text, script.machine.lps) else {
         return Err(AllocError);
@@ -50,7 +53,48 @@ fn traced(
     }
 }
 
-// What is shown of a script's run.
+fn explored_status(outcome: Outcome) -> u8
+    ensures status { result ≡ explored_status outcome }
+    ensures few { result ≤ 9 }
+{
+    match outcome {
+        Outcome::All => 0,
+        Outcome::TooMany => 8,
+        Outcome::Refused => 9,
+    }
+}
+
+// The replies that a script's schedules give.
+fn explored_replies(
+    alloc: Global,
+    form: Form,
+    states: u64,
+    text: &[u8],
+    script: &Script,
+    given: Given<'_>,
+) -> Result<Told, AllocError>
+    requires { IsInForm script.now }
+    ensures ends { IfOk result (λ e. Explores form states text.now script.now (given_in given.entry) (told_seen e)) }
+    ensures few { IfOk result (λ e. e.status ≤ 9) }
+{
+    let Ok(lists) = call_lists(alloc, text, script.machine.lps) else {
+        return Err(AllocError);
+    };
+    ordered_lists_tell();
+    let Ok(Explored { found, looked }) = explored(alloc, script, given, states) else {
+        return Err(AllocError);
+    };
+    let found = in_order(found);
+    match found_text(alloc, form, &lists, &found, looked) {
+        Ok(text) => Ok(Told {
+            status: explored_status(looked.outcome),
+            text,
+        }),
+        Err(OutOfMemory) => Err(AllocError),
+    }
+}
+
+// What is shown of a script's run, or of all its runs.
 fn shown_of(
     alloc: Global,
     shown: Shown,
@@ -59,8 +103,8 @@ fn shown_of(
     given: Given<'_>,
 ) -> Result<Told, AllocError>
     requires { IsInForm script.now }
-    ensures ends { IfOk result (λ e. told_seen e ≡ run_view shown text.now script.now (given_in given.entry)) }
-    ensures few { IfOk result (λ e. e.status ≤ 7) }
+    ensures ends { IfOk result (λ e. RunEnd shown text.now script.now (given_in given.entry) (told_seen e)) }
+    ensures few { IfOk result (λ e. e.status ≤ 9) }
 {
     match shown {
         Shown::Trace(form) => traced(alloc, form, text, script, given),
@@ -70,6 +114,9 @@ fn shown_of(
             Ok(text) => Ok(Told { status: 0, text }),
             Err(OutOfMemory) => Err(AllocError),
         },
+        Shown::Explore { form, states } => {
+            explored_replies(alloc, form, states, text, script, given)
+        }
     }
 }
 
@@ -100,7 +147,7 @@ fn opened(
     }
 }
 
-// A script's run is shown with what its inputs hand out.
+// A script's run, or all its runs, is shown with what its inputs hand out.
 fn of_inputs(
     alloc: Global,
     shown: Shown,
@@ -111,8 +158,8 @@ fn of_inputs(
     requires form { IsInForm script.now }
     requires secrets { length inputs.now.secrets.items ≡ 512 }
     requires order { AreInOrder 0 inputs.now.bundles.items }
-    ensures ends { IfOk result (λ e. told_seen e ≡ run_view shown text.now script.now (given_by inputs.now)) }
-    ensures few { IfOk result (λ e. e.status ≤ 7) }
+    ensures ends { IfOk result (λ e. RunEnd shown text.now script.now (given_by inputs.now) (told_seen e)) }
+    ensures few { IfOk result (λ e. e.status ≤ 9) }
 {
     let Ok(bundles) = opened(alloc, &inputs.keys, &inputs.bundles) else {
         return Err(AllocError);
@@ -159,7 +206,7 @@ fn of_script<F: Files>(
     ensures same { F.contents files.new ≡ F.contents files.old }
     ensures saves { F.saves files.new ≡ F.saves files.old }
     ensures writes { F.write_faults files.new ≡ F.write_faults files.old }
-    ensures few { IfOk result (λ e. e.status ≤ 7) }
+    ensures few { IfOk result (λ e. e.status ≤ 9) }
 {
     match take_inputs(alloc, named, needs_due(named, script), files) {
         Ok(inputs) => of_inputs(alloc, shown, text, script, &inputs),
@@ -180,7 +227,7 @@ fn of_bytes<F: Files>(
     ensures same { F.contents files.new ≡ F.contents files.old }
     ensures saves { F.saves files.new ≡ F.saves files.old }
     ensures writes { F.write_faults files.new ≡ F.write_faults files.old }
-    ensures few { IfOk result (λ e. e.status ≤ 7) }
+    ensures few { IfOk result (λ e. e.status ≤ 9) }
 {
     scripts_are_in_form();
     match read_script(alloc, bytes) {
@@ -203,7 +250,7 @@ fn of_answer<F: Files>(
     ensures same { F.contents files.new ≡ F.contents files.old }
     ensures saves { F.saves files.new ≡ F.saves files.old }
     ensures writes { F.write_faults files.new ≡ F.write_faults files.old }
-    ensures few { IfOk result (λ e. e.status ≤ 7) }
+    ensures few { IfOk result (λ e. e.status ≤ 9) }
 {
     match answer {
         Ok(bytes) => of_bytes(alloc, shown, &bytes, named, files),
@@ -227,7 +274,7 @@ pub fn of_run<F: Files>(
     ensures same { F.contents files.new ≡ F.contents files.old }
     ensures saves { F.saves files.new ≡ F.saves files.old }
     ensures writes { F.write_faults files.new ≡ F.write_faults files.old }
-    ensures few { IfOk result (λ e. e.status ≤ 7) }
+    ensures few { IfOk result (λ e. e.status ≤ 9) }
 {
     let answer = files.load(alloc, named.script, MOST_SCRIPT);
     of_answer(alloc, shown, answer, named, files)

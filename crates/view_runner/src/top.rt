@@ -2,15 +2,15 @@
 
 ghost use Rattle.std.specs.Prelude.{◌≡◌, ◌≤◌, map, string_bytes, IfOk, Result};
 ghost use Rattle.bundle_store.specs.declared.outside.PutFault.{PutFault};
-ghost use Rattle.view_runner.specs.Views.{view_seen, view_in};
-ghost use Rattle.view_runner.specs.Endings.{told_seen, Reaches, ReachesPart, Comes, ComesPart, TellsBy, PutsWant, DoesView};
+ghost use Rattle.view_words.specs.Views.{view_seen, view_in};
+ghost use Rattle.view_runner.specs.Endings.{told_seen, Reaches, ReachesPart, Comes, ComesPart, TellsBy, PutsWant, is_shown, DoesView};
 
-use crate::commands::{View, read_view};
 use crate::ending::{MOST_CONTAINER, Told, of_bundles, usage};
 use crate::runs::of_run;
 use bundle_store::{Files, PutFault, Sink};
 use std::alloc::{AllocError, Global};
 use td_words::OutOfMemory;
+use view_words::{View, read_view};
 
 const MEMORY: &str = "out of memory\n";
 
@@ -20,7 +20,7 @@ fn of_view<'a, F: Files>(alloc: Global, view: &View<'a>, files: &mut F) -> Resul
     ensures same { F.contents files.new ≡ F.contents files.old }
     ensures saves { F.saves files.new ≡ F.saves files.old }
     ensures writes { F.write_faults files.new ≡ F.write_faults files.old }
-    ensures few { IfOk result (λ e. e.status ≤ 7) }
+    ensures few { IfOk result (λ e. e.status ≤ 9) }
 {
     match view {
         View::Bundles(name) => {
@@ -37,7 +37,7 @@ fn decide<F: Files>(alloc: Global, words: &[String], files: &mut F) -> Result<To
     ensures same { F.contents files.new ≡ F.contents files.old }
     ensures saves { F.saves files.new ≡ F.saves files.old }
     ensures writes { F.write_faults files.new ≡ F.write_faults files.old }
-    ensures few { IfOk result (λ e. e.status ≤ 7) }
+    ensures few { IfOk result (λ e. e.status ≤ 9) }
 {
     match read_view(alloc, words) {
         Ok(None) => usage(alloc),
@@ -55,15 +55,22 @@ pub fn give_up<K: Sink>(out: &mut K) -> u8
     5
 }
 
+// Whether what was asked for is shown, in whole or in part.
+fn is_shown(status: u8) -> bool
+    ensures { result ≡ is_shown status }
+{
+    status == 0 || status >= 8
+}
+
 // Puts the text.
 fn tell<K: Sink>(how: &Told, out: &mut K) -> u8
     ensures tells { (answer : Result (Unit {0}) PutFault) × TellsBy (record { told = K.told out.old; puts = K.puts out.old; faults = K.faults out.old }) (told_seen how.now) (record { told = K.told out.new; puts = K.puts out.new; faults = K.faults out.new }) result answer }
-    ensures few { how.now.status ≤ 7 → result ≤ 7 }
+    ensures few { how.now.status ≤ 9 → result ≤ 9 }
 {
     match out.put(&how.text) {
         Ok(()) => how.status,
         Err(PutFault::OutOfMemory) => give_up(out),
-        Err(PutFault::Failed) => { if how.status == 0 { 4 } else { how.status } }
+        Err(PutFault::Failed) => { if is_shown(how.status) { 4 } else { how.status } }
     }
 }
 
@@ -80,7 +87,7 @@ pub fn view_main<F: Files, K: Sink>(
     // The call loads the file that the words name, and behind a script the inputs that they name, and puts
     // what these come to, once. Want of memory alone cuts this short, and is put instead.
     ensures does { DoesView (F.contents files.old) (view_in (map string_bytes words.now)) (record { loads = F.loads files.old; faults = F.read_faults files.old; bytes = F.bytes_read files.old }) (record { loads = F.loads files.new; faults = F.read_faults files.new; bytes = F.bytes_read files.new }) (record { told = K.told out.old; puts = K.puts out.old; faults = K.faults out.old }) (record { told = K.told out.new; puts = K.puts out.new; faults = K.faults out.new }) result }
-    ensures statuses { result ≤ 7 }
+    ensures statuses { result ≤ 9 }
     // No file changes, and none is saved.
     ensures same { F.contents files.new ≡ F.contents files.old }
     ensures saves { F.saves files.new ≡ F.saves files.old }

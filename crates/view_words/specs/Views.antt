@@ -7,12 +7,12 @@ use Rattle.line_words.specs.Number.{number}
 use Rattle.field_lines.specs.declared.lines.Form.{Form}
 use Rattle.field_lines.specs.declared.lines.Form.TheVariants as form
 use Rattle.command_files.specs.Commands.{NamedSeen, named_seen, option_rule, word_rule, line_of, found_in}
-use Rattle.view_runner.specs.declared.commands.Shown.{Shown}
-use Rattle.view_runner.specs.declared.commands.Shown.TheVariants as shown
-use Rattle.view_runner.specs.declared.commands.View.{View}
-use Rattle.view_runner.specs.declared.commands.View.TheVariants as view
+use Rattle.view_words.specs.declared.commands.Shown.{Shown}
+use Rattle.view_words.specs.declared.commands.Shown.TheVariants as shown
+use Rattle.view_words.specs.declared.commands.View.{View}
+use Rattle.view_words.specs.declared.commands.View.TheVariants as view
 
--- the bundles of the container of that name, or what is shown of a script's run with the input files that are named
+-- the bundles of the container of that name, or what is shown of a script with the input files that are named
 pub data ViewSeen : Type 0 where
   Bundles : List ℕ → ViewSeen
   Run : Shown → NamedSeen → ViewSeen
@@ -42,6 +42,10 @@ trace_line = line_of (word_rule (codes "SCRIPT") ∷ flag_rule (codes "json") �
 -- the rest of `state`
 abbrev pub state_line : App
 state_line = line_of (word_rule (codes "SCRIPT") ∷ option_rule (codes "after") ∷ flag_rule (codes "json") ∷ input_rules)
+
+-- the rest of `explore`
+abbrev pub explore_line : App
+explore_line = line_of (word_rule (codes "SCRIPT") ∷ option_rule (codes "states") ∷ flag_rule (codes "json") ∷ input_rules)
 
 -- ---- what was found
 
@@ -79,6 +83,19 @@ state_by f None events = None
 abbrev pub state_in : List Row → Option ViewSeen
 state_in rows = state_by (form_of (first_of (codes "json") rows)) (named_in rows) (option_and_then number (first_of (codes "after") rows))
 
+-- the replies of all schedules, of which so many states are looked at, 10^6 unless a number says how many
+abbrev pub states_in : Option (List ℕ) → Option ℕ
+states_in None = Some 1000000
+states_in (Some word) = number word
+
+abbrev pub explore_by : Form → Option NamedSeen → Option ℕ → Option ViewSeen
+explore_by f (Some named) (Some states) = Some (Run (shown.Explore f states) named)
+explore_by f (Some named) None = None
+explore_by f None states = None
+
+abbrev pub explore_in : List Row → Option ViewSeen
+explore_in rows = explore_by (form_of (first_of (codes "json") rows)) (named_in rows) (states_in (first_of (codes "states") rows))
+
 -- ---- commands
 
 -- the first word is the command, and the rest is what clap's reading of that command's line makes of it
@@ -87,6 +104,7 @@ view_behind word rest =
     if bytes_eq word (codes "bundles") then option_and_then bundles_in (found_in bundles_line rest)
     else if bytes_eq word (codes "trace") then option_and_then trace_in (found_in trace_line rest)
     else if bytes_eq word (codes "state") then option_and_then state_in (found_in state_line rest)
+    else if bytes_eq word (codes "explore") then option_and_then explore_in (found_in explore_line rest)
     else None
 
 -- the command that these words are

@@ -2,7 +2,7 @@
 
 ghost use Rattle.std.specs.Prelude.{◌≡◌, IfOk};
 ghost use Rattle.clap.specs.Words.{app_of, with_rule};
-ghost use Rattle.view_runner.specs.Views.{flag_rule, bundles_line, trace_line, state_line};
+ghost use Rattle.view_words.specs.Views.{flag_rule, bundles_line, trace_line, state_line, explore_line};
 
 use clap::{Arg, ArgAction, Command};
 use command_files::{empty_line, with_option, with_word};
@@ -46,6 +46,18 @@ pub fn state_line<'a>(alloc: Global) -> Result<Command<'a>, OutOfMemory>
 {
     let line = with_word(alloc, empty_line(alloc), "SCRIPT")?;
     let line = with_option(alloc, line, "after")?;
+    let line = with_flag(alloc, line, "json")?;
+    let line = with_option(alloc, line, "bundles")?;
+    let line = with_option(alloc, line, "keys")?;
+    with_option(alloc, line, "secrets")
+}
+
+/// The rest of `explore`.
+pub fn explore_line<'a>(alloc: Global) -> Result<Command<'a>, OutOfMemory>
+    ensures { IfOk result (λ l. app_of l ≡ explore_line) }
+{
+    let line = with_word(alloc, empty_line(alloc), "SCRIPT")?;
+    let line = with_option(alloc, line, "states")?;
     let line = with_flag(alloc, line, "json")?;
     let line = with_option(alloc, line, "bundles")?;
     let line = with_option(alloc, line, "keys")?;

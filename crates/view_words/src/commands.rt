@@ -5,9 +5,9 @@ ghost use Rattle.std.specs.Str.{bytes_eq};
 ghost use Rattle.clap.specs.Words.{found_of, rows_of};
 ghost use Rattle.line_words.specs.Number.{number};
 ghost use Rattle.command_files.specs.Commands.{named_seen, found_in};
-ghost use Rattle.view_runner.specs.Views.{view_seen, bundles_line, trace_line, state_line, form_of, named_in, bundles_in, trace_in, state_in, view_behind, view_in};
+ghost use Rattle.view_words.specs.Views.{view_seen, bundles_line, trace_line, state_line, explore_line, form_of, named_in, bundles_in, trace_in, state_in, states_in, explore_in, view_behind, view_in};
 
-use crate::lines::{bundles_line, state_line, trace_line};
+use crate::lines::{bundles_line, explore_line, state_line, trace_line};
 use clap::ArgMatches;
 use command_files::{Named, read_line, value_of};
 use field_lines::Form;
@@ -15,15 +15,17 @@ use line_words::number;
 use std::alloc::Global;
 use td_words::OutOfMemory;
 
-/// What is shown of a script's run, in a form: its events, or the state after so many of them.
+/// What is shown of a script, in a form: the events of its run, the state after so many of them, or the
+/// replies that its schedules give, of which so many states are looked at.
 #[derive(Clone, Copy)]
 pub enum Shown {
     Trace(Form),
     State { form: Form, events: u64 },
+    Explore { form: Form, states: u64 },
 }
 
-/// What the words ask for: the bundles of the container of that name, or what is shown of a script's run
-/// with the input files that are named.
+/// What the words ask for: the bundles of the container of that name, or what is shown of a script with the
+/// input files that are named.
 #[derive(Clone, Copy, Drop)]
 pub enum View<'a> {
     Bundles(&'a str),
@@ -59,6 +61,18 @@ fn number_of(value: Option<&str>) -> Option<u64>
     match value {
         Some(word) => number(word.as_bytes()),
         None => None,
+    }
+}
+
+const STATES: u64 = 1_000_000;
+
+// How many states are looked at: the number that the option says, or 10^6 without it.
+fn states_in(value: Option<&str>) -> Option<u64>
+    ensures { result ≡ states_in (option_map (λ v. v.now) value.entry) }
+{
+    match value {
+        Some(word) => number(word.as_bytes()),
+        None => Some(STATES),
     }
 }
 
@@ -119,6 +133,24 @@ fn state_in<'a>(found: &ArgMatches<'a>) -> Option<View<'a>>
     }
 }
 
+fn explore_in<'a>(found: &ArgMatches<'a>) -> Option<View<'a>>
+    ensures { option_map view_seen result ≡ explore_in (rows_of (found_of found.now)) }
+{
+    match named_in(found) {
+        Some(named) => match states_in(value_of(found, "states")) {
+            Some(states) => Some(View::Run {
+                shown: Shown::Explore {
+                    form: form_of(value_of(found, "json")),
+                    states,
+                },
+                named,
+            }),
+            None => None,
+        },
+        None => None,
+    }
+}
+
 fn read_bundles<'a>(alloc: Global, rest: &'a [String]) -> Result<Option<View<'a>>, OutOfMemory>
     ensures { IfOk result (λ v. option_map view_seen v ≡ option_and_then bundles_in (found_in bundles_line (map string_bytes rest.now))) }
 {
@@ -149,6 +181,16 @@ fn read_state<'a>(alloc: Global, rest: &'a [String]) -> Result<Option<View<'a>>,
     }
 }
 
+fn read_explore<'a>(alloc: Global, rest: &'a [String]) -> Result<Option<View<'a>>, OutOfMemory>
+    ensures { IfOk result (λ v. option_map view_seen v ≡ option_and_then explore_in (found_in explore_line (map string_bytes rest.now))) }
+{
+    let line = explore_line(alloc)?;
+    match read_line(alloc, line, rest)? {
+        Some(found) => Ok(explore_in(&found)),
+        None => Ok(None),
+    }
+}
+
 // What the words behind the first ask for, by the command that it is.
 fn view_behind<'a>(
     alloc: Global,
@@ -163,6 +205,8 @@ fn view_behind<'a>(
         read_trace(alloc, rest)
     } else if is(word, "state") {
         read_state(alloc, rest)
+    } else if is(word, "explore") {
+        read_explore(alloc, rest)
     } else {
         Ok(None)
     }

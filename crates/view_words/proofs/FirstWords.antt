@@ -1,7 +1,7 @@
 -- The first word and the rest.
 use Rattle.std.proofs.Common.{◌∙◌, ◌≡◌, ℕ, ◌<◌, ap, ap₂, List, [], ◌∷◌, None, length, drop, map, refl, arith, string_bytes, String, Global}
 use Rattle.std.specs.List.{slice_index_or}
-use Rattle.view_runner.specs.Views.{view_behind, view_in}
+use Rattle.view_words.specs.Views.{view_behind, view_in}
 
 pub nothing_asked : (words : List (String Global)) → length words ≡ 0 → None ≡ view_in (map string_bytes words)
 unfolding view_in

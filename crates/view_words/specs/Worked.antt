@@ -3,8 +3,8 @@ use Rattle.std.specs.Prelude.{ℕ, ◌-◌, ◌^◌, List, [], ◌∷◌, Option
 use Rattle.field_lines.specs.declared.lines.Form.TheVariants.{Plain, Json}
 use Rattle.command_files.specs.Commands.{NamedSeen}
 use Rattle.command_files.specs.Worked.{script, with_keys}
-use Rattle.view_runner.specs.Views.{ViewSeen, Bundles, Run}
-use Rattle.view_runner.specs.declared.commands.Shown.TheVariants.{Trace, State}
+use Rattle.view_words.specs.Views.{ViewSeen, Bundles, Run}
+use Rattle.view_words.specs.declared.commands.Shown.TheVariants.{Trace, State, Explore}
 
 -- of the script s
 abbrev pub plain : Option ViewSeen
@@ -18,6 +18,9 @@ after n = Some (Run (State Plain n) (script (codes "s")))
 
 abbrev pub after_json : ℕ → Option ViewSeen
 after_json n = Some (Run (State Json n) (script (codes "s")))
+
+abbrev pub states : ℕ → Option ViewSeen
+states n = Some (Run (Explore Plain n) (script (codes "s")))
 
 -- with the inputs b, k and w
 abbrev pub with_all : NamedSeen
@@ -75,6 +78,20 @@ worked_lines =
     ∷ (codes "state" ∷ codes "s" ∷ codes "--after=-2" ∷ [], None)
     ∷ (codes "state" ∷ codes "s" ∷ codes "--after=" ∷ [], None)
     ∷ (codes "state" ∷ codes "s" ∷ codes "--after=two" ∷ [], None)
+    -- so is that of `--states`, which may be left out
+    ∷ (codes "explore" ∷ codes "s" ∷ [], states 1000000)
+    ∷ (codes "explore" ∷ codes "s" ∷ codes "--states" ∷ codes "5" ∷ [], states 5)
+    ∷ (codes "explore" ∷ codes "--states=0x10" ∷ codes "s" ∷ [], states 16)
+    ∷ (codes "explore" ∷ codes "s" ∷ codes "--states=0" ∷ [], states 0)
+    ∷ (codes "explore" ∷ codes "s" ∷ codes "--json" ∷ codes "--states=5" ∷ [], Some (Run (Explore Json 5) (script (codes "s"))))
+    ∷ (codes "explore" ∷ codes "--bundles=b" ∷ codes "--keys=k" ∷ codes "s" ∷ codes "--secrets=w" ∷ [], Some (Run (Explore Plain 1000000) with_all))
+    ∷ (codes "explore" ∷ codes "s" ∷ codes "--states" ∷ [], None)
+    ∷ (codes "explore" ∷ codes "s" ∷ codes "--states=" ∷ [], None)
+    ∷ (codes "explore" ∷ codes "s" ∷ codes "--states=many" ∷ [], None)
+    ∷ (codes "explore" ∷ codes "s" ∷ codes "--states=5" ∷ codes "--states=5" ∷ [], None)
+    ∷ (codes "explore" ∷ codes "s" ∷ codes "--after=5" ∷ [], None)
+    ∷ (codes "explore" ∷ codes "--states=5" ∷ [], None)
+    ∷ (codes "trace" ∷ codes "s" ∷ codes "--states=5" ∷ [], None)
     -- a lone dash is a name, and behind `--` no word is an option
     ∷ (codes "bundles" ∷ codes "-" ∷ [], Some (Bundles (codes "-")))
     ∷ (codes "bundles" ∷ codes "-c" ∷ [], None)

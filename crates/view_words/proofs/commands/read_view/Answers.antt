@@ -1,8 +1,8 @@
 use Rattle.std.proofs.Common.{◌∙◌, ◌-◌, rules, take, drop, length}
 use Rattle.std.proofs.lemmas.List.{take_rest}
 use Rattle.std.proofs.lemmas.Result.{IfOk-weaker}
-use Rattle.view_runner.proofs.FirstWords.{asked_of_rest, nothing_asked}
-use Rattle.view_runner.proofs.commands.read_view.Goals as goal
+use Rattle.view_words.proofs.FirstWords.{asked_of_rest, nothing_asked}
+use Rattle.view_words.proofs.commands.read_view.Goals as goal
 
 pub returns-then-is_empty : goal.returns-then-is_empty
 returns-then-is_empty c = nothing_asked c.args.words.now (search rules)
