@@ -16,7 +16,7 @@ use found_lists::ordered_lists_tell;
 use found_texts::{found_text, in_order};
 use incoming::IncomingBundles;
 use leaf_table::Given;
-use lp_space::{Explored, explored};
+use lp_space::{Explored, explore_script};
 use run_texts::{KeyPair, opened_bundles};
 use script_text::{Reason, Script, ScriptFault, needs_keys, read_script, scripts_are_in_form};
 use state_runs::state_lines_after;
@@ -81,7 +81,7 @@ fn explored_replies(
         return Err(AllocError);
     };
     ordered_lists_tell();
-    let Ok(Explored { found, looked }) = explored(alloc, script, given, states) else {
+    let Ok(Explored { found, looked }) = explore_script(alloc, script, given, states) else {
         return Err(AllocError);
     };
     let found = in_order(found);
