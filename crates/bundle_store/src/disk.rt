@@ -104,17 +104,9 @@ pub fn write_piece<W: Write>(to: &mut W, bytes: &[u8]) -> bool
 impl<R: rt::Files> Files for DiskFiles<'_, R> {
     ghost use Rattle.std.specs.Prelude.{None};
 
-    ghost contents = { λ _. None };
+    ghost reads = { λ s. record { loads = s.history.loads; faults = s.read_faults; bytes = s.bytes_read } };
 
-    ghost read_faults = { λ s. s.read_faults };
-
-    ghost write_faults = { λ s. s.write_faults };
-
-    ghost bytes_read = { λ s. s.bytes_read };
-
-    ghost loads = { λ s. s.history.loads };
-
-    ghost saves = { λ s. s.history.saves };
+    ghost writes = { λ s. record { contents = None; saves = s.history.saves; faults = s.write_faults } };
 
     fn load(&mut self, alloc: Global, name: &str, most: u64) -> Result<Vec<u8>, LoadFault> {
         let result = match fs::open(self.rt, name) {

@@ -31,17 +31,9 @@ impl Files for HonestFiles {
     ghost use Rattle.std.specs.Prelude.{Some};
     ghost use Rattle.bundle_store.specs.Held.{contents_in};
 
-    ghost contents = { λ s. Some (contents_in s.files.items) };
+    ghost reads = { λ s. record { loads = s.history.loads; faults = 0; bytes = 0 } };
 
-    ghost read_faults = { λ _. 0 };
-
-    ghost write_faults = { λ _. 0 };
-
-    ghost bytes_read = { λ _. 0 };
-
-    ghost loads = { λ s. s.history.loads };
-
-    ghost saves = { λ s. s.history.saves };
+    ghost writes = { λ s. record { contents = Some (contents_in s.files.items); saves = s.history.saves; faults = 0 } };
 
     fn load(&mut self, alloc: Global, name: &str, most: u64) -> Result<Vec<u8>, LoadFault> {
         let result = load_copy(alloc, &self.files, name, most);
@@ -79,11 +71,7 @@ impl HonestSink {
 impl Sink for HonestSink {
     ghost use Rattle.std.specs.Prelude.{Some};
 
-    ghost told = { λ s. Some s.bytes.items };
-
-    ghost faults = { λ _. 0 };
-
-    ghost puts = { λ s. s.history.puts };
+    ghost output = { λ s. record { told = Some s.bytes.items; puts = s.history.puts; faults = 0 } };
 
     fn put(&mut self, bytes: &[u8]) -> Result<(), PutFault> {
         let result = match self.bytes.extend_from_slice(bytes) {

@@ -53,17 +53,9 @@ impl Files for MemFiles {
     ghost use Rattle.std.specs.Prelude.{Some};
     ghost use Rattle.bundle_store.specs.Held.{contents_in};
 
-    ghost contents = { λ s. Some (contents_in s.files.items) };
+    ghost reads = { λ s. record { loads = s.history.loads; faults = s.read_faults; bytes = 0 } };
 
-    ghost read_faults = { λ s. s.read_faults };
-
-    ghost write_faults = { λ s. s.write_faults };
-
-    ghost bytes_read = { λ _. 0 };
-
-    ghost loads = { λ s. s.history.loads };
-
-    ghost saves = { λ s. s.history.saves };
+    ghost writes = { λ s. record { contents = Some (contents_in s.files.items); saves = s.history.saves; faults = s.write_faults } };
 
     /// The contents of a name. It fails exactly where this call is listed, and then the count of
     /// read faults is one higher.
@@ -141,11 +133,7 @@ impl MemSink {
 impl Sink for MemSink {
     ghost use Rattle.std.specs.Prelude.{Some};
 
-    ghost told = { λ s. Some s.bytes.items };
-
-    ghost faults = { λ s. s.faults };
-
-    ghost puts = { λ s. s.history.puts };
+    ghost output = { λ s. record { told = Some s.bytes.items; puts = s.history.puts; faults = s.faults } };
 
     /// Adds these bytes. It fails exactly where this call is listed, and then the count of faults
     /// is one higher.

@@ -32,11 +32,7 @@ impl<'a, R: Print> StdSink<'a, R> {
 impl<R: Print> Sink for StdSink<'_, R> {
     ghost use Rattle.std.specs.Prelude.{None};
 
-    ghost told = { λ _. None };
-
-    ghost faults = { λ s. s.faults };
-
-    ghost puts = { λ s. s.history.puts };
+    ghost output = { λ s. record { told = None; puts = s.history.puts; faults = s.faults } };
 
     fn put(&mut self, bytes: &[u8]) -> Result<(), PutFault> {
         let mut to = io::writer(self.rt);
