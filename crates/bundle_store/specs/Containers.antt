@@ -47,6 +47,10 @@ is_entry least bs =
 abbrev pub entry_in : List ℕ → BundleSeen
 entry_in bs = record { slot = slot_of bs; bytes = take (size_of bs) (drop 8 bs) }
 
+-- the parts of the entry: its slot, its bundle's bytes, and what is behind it
+abbrev pub AreParts : List ℕ → ℕ → List ℕ → List ℕ → Type 0
+AreParts bs slot bundle behind = (slot ≡ slot_of bs) × (bundle ≡ take (size_of bs) (drop 8 bs)) × (behind ≡ drop (8 + size_of bs) bs)
+
 -- the bundles so far and those of the entries in bs, whose slots are at least `least`, or the place of the first bad entry
 -- in a container of `whole` bytes that ends with bs. No container has more entries than bytes, so that many turns are
 -- enough.

@@ -8,6 +8,7 @@ use Rattle.bundle_store.specs.declared.outside.SaveFault.{SaveFault}
 use Rattle.bundle_store.specs.declared.outside.SaveFault.TheVariants as save
 use Rattle.bundle_store.specs.declared.outside.PutFault.{PutFault}
 use Rattle.bundle_store.specs.declared.outside.PutFault.TheVariants as put
+use Rattle.bundle_store.specs.History.{Reads}
 
 -- a count one higher, which stands still at 2^64 - 1
 abbrev pub counted : ℕ → ℕ
@@ -38,12 +39,12 @@ raised_by more count = max count (min (count + more) (2 ^ 64 - 1))
 
 -- a load where contents aren't told: just the bytes are given that were read, an absent name counts as a read fault, and
 -- what was too long was read too far
-abbrev pub LoadsUntold : ℕ → ℕ → ℕ → ℕ → ℕ → Result (Vec ℕ) LoadFault → Type 0
-LoadsUntold faults faults' read read' most (Ok v) = (length v.items ≤ most) × (read' ≡ raised_by (length v.items) read)
-LoadsUntold faults faults' read read' most (Err load.Absent) = Rose faults faults'
-LoadsUntold faults faults' read read' most (Err load.TooLong) = RoseBeyond most read read'
-LoadsUntold faults faults' read read' most (Err load.Failed) = Unit {0}
-LoadsUntold faults faults' read read' most (Err load.OutOfMemory) = Unit {0}
+abbrev pub LoadsUntold : Reads → Reads → ℕ → Result (Vec ℕ) LoadFault → Type 0
+LoadsUntold old new most (Ok v) = (length v.items ≤ most) × (new.bytes ≡ raised_by (length v.items) old.bytes)
+LoadsUntold old new most (Err load.Absent) = Rose old.faults new.faults
+LoadsUntold old new most (Err load.TooLong) = RoseBeyond most old.bytes new.bytes
+LoadsUntold old new most (Err load.Failed) = Unit {0}
+LoadsUntold old new most (Err load.OutOfMemory) = Unit {0}
 
 -- a load fails only where the count of read faults rose; the count is as before where it came through, the contents were
 -- too long, or memory was wanting

@@ -1,7 +1,7 @@
 //! An entry of a container.
 
-ghost use Rattle.std.specs.Prelude.{◌≡◌, ◌≤◌, ◌<◌, ◌+◌, ◌++◌, true, false, length, take, drop, OnOk, MatchOption};
-ghost use Rattle.bundle_store.specs.Containers.{slot_of, size_of, is_entry, entry_bytes};
+ghost use Rattle.std.specs.Prelude.{◌≡◌, ◌≤◌, ◌<◌, ◌+◌, ◌++◌, true, false, length, OnOk, MatchOption};
+ghost use Rattle.bundle_store.specs.Containers.{is_entry, entry_bytes, AreParts};
 
 use byteorder::{ByteOrder, LittleEndian};
 use std::alloc::AllocError;
@@ -11,7 +11,7 @@ use td_words::SlotBundle;
 /// short, its slot is below `least` or above 4,095, or its length above 131,072.
 pub(crate) fn first_entry(least: u16, rest: &[u8]) -> Option<(u16, &[u8], &[u8])>
     ensures is_one { MatchOption result (is_entry least rest.now ≡ false) (λ x. is_entry least rest.now ≡ true) }
-    ensures parts { MatchOption result Unit (λ x. (x.0 ≡ slot_of rest.now) × (x.1.now ≡ take (size_of rest.now) (drop 8 rest.now)) × (x.2.now ≡ drop (8 + size_of rest.now) rest.now)) }
+    ensures parts { MatchOption result Unit (λ x. AreParts rest.now x.0 x.1.now x.2.now) }
     ensures room { MatchOption result Unit (λ x. (8 + length x.2.now ≤ length rest.now) × (x.0 ≤ 4095)) }
 {
     if rest.len() < 8 {

@@ -48,7 +48,7 @@ pub trait Files {
     /// The contents of a name, if they are at most `most` bytes.
     fn load(&mut self, alloc: Global, name: &str, most: u64) -> Result<Vec<u8>, LoadFault>
         ensures told { IfSome (writes self.old).contents (λ c. LoadsTold (c name.now) most result) }
-        ensures untold { IfNone (writes self.old).contents (LoadsUntold (reads self.old).faults (reads self.new).faults (reads self.old).bytes (reads self.new).bytes most result) }
+        ensures untold { IfNone (writes self.old).contents (LoadsUntold (reads self.old) (reads self.new) most result) }
         // Failed comes only where the count of read faults rose, and want of memory leaves it as it was.
         ensures cause { LoadCause (reads self.old).faults (reads self.new).faults result }
         ensures later { (reads self.old).faults ≤ (reads self.new).faults }
