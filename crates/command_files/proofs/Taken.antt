@@ -5,6 +5,7 @@ use Rattle.std.specs.declared.alloc.AllocError.{AllocError}
 use Rattle.std.proofs.lemmas.List.{length-replicate}
 use Rattle.bundle_store.specs.declared.outside.LoadFault.{LoadFault}
 use Rattle.bundle_store.specs.declared.outside.LoadFault.TheVariants as load
+use Rattle.bundle_store.specs.History.{Reads}
 use Rattle.command_files.specs.declared.inputs.Input.{Input}
 use Rattle.command_files.specs.declared.inputs.Input.TheVariants as input
 use Rattle.command_files.specs.declared.inputs.InputFault.{InputFault}
@@ -12,7 +13,7 @@ use Rattle.command_files.specs.declared.inputs.InputFault.TheVariants as fault
 use Rattle.command_files.specs.declared.inputs.Inputs.{Inputs}
 use Rattle.command_files.specs.declared.inputs.Needs.{Needs}
 use Rattle.command_files.specs.Commands.{NamedSeen}
-use Rattle.command_files.specs.Inputs.{Reads, LoadsNamed, LoadsNext, TakesInputs, AreSecrets, IsDue, load_fault, needed_fault, keys_fault, report_key_fault, form_fault, unread_fault, due, first, bundles_in, keys_in, report_key_in, IsThere}
+use Rattle.command_files.specs.Inputs.{LoadsNamed, LoadsNext, TakesInputs, AreSecrets, IsDue, load_fault, needed_fault, keys_fault, report_key_fault, form_fault, unread_fault, due, first, bundles_in, keys_in, report_key_in, IsThere}
 
 -- so many words of 0 are those of no file
 zero_at : (n i : ℕ) → slice_index (replicate n 0) i ≡ 0

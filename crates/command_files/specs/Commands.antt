@@ -164,11 +164,19 @@ replay_in rest = option_map (λ n. OfScript (Replay n)) (option_and_then named_i
 abbrev pub run_in : List (List ℕ) → Option AskedSeen
 run_in rest = option_map (λ n. OfScript (Run n)) (option_and_then named_in (found_in files_line rest))
 
+-- the script of check
+abbrev pub script_in : List (List ℕ) → Option (List ℕ)
+script_in rest = option_and_then (first_of (codes "SCRIPT")) (found_in script_line rest)
+
 abbrev pub check_in : List (List ℕ) → Option AskedSeen
-check_in rest = option_map (λ name. OfScript (Check name)) (option_and_then (first_of (codes "SCRIPT")) (found_in script_line rest))
+check_in rest = option_map (λ name. OfScript (Check name)) (script_in rest)
+
+-- the pages of soak
+abbrev pub pages_in : List (List ℕ) → Option ℕ
+pages_in rest = option_and_then pages_of (option_and_then (first_of (codes "N")) (found_in pages_line rest))
 
 abbrev pub soak_in : List (List ℕ) → Option AskedSeen
-soak_in rest = option_map Soak (option_and_then pages_of (option_and_then (first_of (codes "N")) (found_in pages_line rest)))
+soak_in rest = option_map Soak (pages_in rest)
 
 abbrev pub verify_in : List (List ℕ) → Option AskedSeen
 verify_in rest = option_map Verify (option_and_then report_files_in (found_in report_line rest))

@@ -6,7 +6,7 @@ use Rattle.td_words.specs.Seen.{BundleSeen}
 use Rattle.bundle_store.specs.declared.outside.LoadFault.{LoadFault}
 use Rattle.bundle_store.specs.declared.outside.LoadFault.TheVariants as load
 use Rattle.bundle_store.specs.Outside.{LoadsTold, LoadsUntold, LoadCause}
-use Rattle.bundle_store.specs.History.{Loaded}
+use Rattle.bundle_store.specs.History.{Reads}
 use Rattle.bundle_store.specs.Containers.{container_in}
 use Rattle.command_files.specs.declared.inputs.Input.{Input}
 use Rattle.command_files.specs.declared.inputs.Input.TheVariants as input
@@ -19,17 +19,11 @@ use Rattle.command_files.specs.Commands.{NamedSeen}
 
 -- ---- loads
 
--- what the law of a load speaks of: the loads so far, how often reading failed, and how many bytes were read
-pub record Reads : Type 0 where
-  pub loads : List Loaded
-  pub faults : ℕ
-  pub bytes : ℕ
-
 -- one load of that name, of so many bytes at most, as its law has it
 pub record Loads (contents : Option (List ℕ → Option (List ℕ))) (most : ℕ) (name : List ℕ) (old : Reads) (answer : Result (Vec ℕ) LoadFault) (new : Reads) : Type 0 where
   pub noted : new.loads ≡ old.loads ++ record { name = name; answer = answer } ∷ []
   pub told : IfSome contents (λ c. LoadsTold (c name) most answer)
-  pub untold : IfNone contents (LoadsUntold old.faults new.faults old.bytes new.bytes most answer)
+  pub untold : IfNone contents (LoadsUntold old new most answer)
   pub cause : LoadCause old.faults new.faults answer
   pub later : old.faults ≤ new.faults
 

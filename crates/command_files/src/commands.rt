@@ -1,9 +1,9 @@
 //! Commands.
 
-ghost use Rattle.std.specs.Prelude.{◌≡◌, option_map, option_and_then, map, string_bytes, codes, IfOk, IfSome, OnErr, IsTrue, ◌≤◌};
+ghost use Rattle.std.specs.Prelude.{◌≡◌, option_map, option_and_then, map, string_bytes, IfOk, IfSome, OnErr, IsTrue, ◌≤◌};
 ghost use Rattle.std.specs.Str.{bytes_eq};
-ghost use Rattle.clap.specs.Words.{found_of, rows_of, first_of};
-ghost use Rattle.command_files.specs.Commands.{named_seen, report_files_seen, asked_seen, named_in, report_files_in, pages_of, found_in, files_line, script_line, pages_line, report_line, asked_behind, asked_in, is_command, begins_with_command, HasFewPages};
+ghost use Rattle.clap.specs.Words.{found_of, rows_of};
+ghost use Rattle.command_files.specs.Commands.{named_seen, report_files_seen, asked_seen, named_in, report_files_in, pages_of, found_in, files_line, report_line, script_in, pages_in, asked_behind, asked_in, is_command, begins_with_command, HasFewPages};
 
 use crate::lines::{files_line, pages_line, read_line, report_line, script_line, value_of};
 use clap::ArgMatches;
@@ -119,7 +119,7 @@ fn read_named<'a>(alloc: Global, rest: &'a [String]) -> Result<Option<Named<'a>>
 }
 
 fn read_script<'a>(alloc: Global, rest: &'a [String]) -> Result<Option<&'a str>, OutOfMemory>
-    ensures { IfOk result (λ n. option_map (λ name. name.now) n ≡ option_and_then (first_of (codes "SCRIPT")) (found_in script_line (map string_bytes rest.now))) }
+    ensures { IfOk result (λ n. option_map (λ name. name.now) n ≡ script_in (map string_bytes rest.now)) }
 {
     let line = script_line(alloc)?;
     match read_line(alloc, line, rest)? {
@@ -129,7 +129,7 @@ fn read_script<'a>(alloc: Global, rest: &'a [String]) -> Result<Option<&'a str>,
 }
 
 fn read_pages(alloc: Global, rest: &[String]) -> Result<Option<u16>, OutOfMemory>
-    ensures read { IfOk result (λ n. n ≡ option_and_then pages_of (option_and_then (first_of (codes "N")) (found_in pages_line (map string_bytes rest.now)))) }
+    ensures read { IfOk result (λ n. n ≡ pages_in (map string_bytes rest.now)) }
     ensures few { IfOk result (λ o. IfSome o (λ n. (1 ≤ n) × (n ≤ 512))) }
 {
     let line = pages_line(alloc)?;

@@ -82,12 +82,10 @@ fn load_named<F: Files>(
     most: u64,
     files: &mut F,
 ) -> Option<Result<Vec<u8>, LoadFault>>
-    ensures loads { LoadsNamed (F.contents files.old) most (option_map (λ n. n.now) name.entry) (record { loads = F.loads files.old; faults = F.read_faults files.old; bytes = F.bytes_read files.old }) result (record { loads = F.loads files.new; faults = F.read_faults files.new; bytes = F.bytes_read files.new }) }
-    ensures same { F.contents files.new ≡ F.contents files.old }
-    ensures saves { F.saves files.new ≡ F.saves files.old }
-    ensures writes { F.write_faults files.new ≡ F.write_faults files.old }
-    ensures later { F.read_faults files.old ≤ F.read_faults files.new }
-    ensures quiet { load_fault Bundles result ≡ None → F.read_faults files.new ≡ F.read_faults files.old }
+    ensures loads { LoadsNamed (F.writes files.old).contents most (option_map (λ n. n.now) name.entry) (F.reads files.old) result (F.reads files.new) }
+    ensures writes { F.writes files.new ≡ F.writes files.old }
+    ensures later { (F.reads files.old).faults ≤ (F.reads files.new).faults }
+    ensures quiet { load_fault Bundles result ≡ None → (F.reads files.new).faults ≡ (F.reads files.old).faults }
 {
     match name {
         None => None,
@@ -319,17 +317,15 @@ pub fn take_inputs<F: Files>(
     needs: Needs,
     files: &mut F,
 ) -> Result<Inputs, InputFault>
-    ensures takes { TakesInputs (F.contents files.old) needs (named_seen named.now) (record { loads = F.loads files.old; faults = F.read_faults files.old; bytes = F.bytes_read files.old }) (record { loads = F.loads files.new; faults = F.read_faults files.new; bytes = F.bytes_read files.new }) result }
+    ensures takes { TakesInputs (F.writes files.old).contents needs (named_seen named.now) (F.reads files.old) (F.reads files.new) result }
     ensures order { IfOk result (λ inputs. AreInOrder 0 inputs.bundles.items) }
     ensures keyed { IfOk result (λ inputs. IsThere needs.keys inputs.keys) }
     ensures secrets { IfOk result (λ inputs. length inputs.secrets.items ≡ 512) }
     ensures report_keyed { IfOk result (λ inputs. IsThere needs.report_key inputs.report_key) }
-    ensures same { F.contents files.new ≡ F.contents files.old }
-    ensures saves { F.saves files.new ≡ F.saves files.old }
-    ensures writes { F.write_faults files.new ≡ F.write_faults files.old }
-    ensures later { F.read_faults files.old ≤ F.read_faults files.new }
+    ensures writes { F.writes files.new ≡ F.writes files.old }
+    ensures later { (F.reads files.old).faults ≤ (F.reads files.new).faults }
     // Where nothing is wrong, nothing failed.
-    ensures quiet { OnOk result (F.read_faults files.new ≡ F.read_faults files.old) }
+    ensures quiet { OnOk result ((F.reads files.new).faults ≡ (F.reads files.old).faults) }
 {
     let bundles = load_named(alloc, named.bundles, MOST_CONTAINER, files);
     if let Some(fault) = load_fault(Input::Bundles, &bundles) {
