@@ -9,11 +9,11 @@ use Rattle.report_core.proofs.Files.{file_long}
 use Rattle.bundle_store.specs.declared.outside.LoadFault.{LoadFault}
 use Rattle.bundle_store.specs.declared.outside.LoadFault.TheVariants as load
 use Rattle.bundle_store.specs.Outside.{Rose, LoadsTold, LoadCause}
+use Rattle.bundle_store.specs.History.{Reads}
 use Rattle.command_files.specs.Commands.{ReportFilesSeen}
-use Rattle.command_files.specs.Inputs.{Reads, Loads}
 use Rattle.report_checks.specs.declared.checked.CheckFault.{CheckFault}
 use Rattle.report_checks.specs.declared.checked.CheckFault.TheVariants as fault
-use Rattle.report_checks.specs.Checked.{Says, SaysOf, UnderKey, OfKey, LoadsKey, OfReport, ChecksFiles, SaysHeld, HasWrongKey, length_status, due_of, due_status}
+use Rattle.report_checks.specs.Checked.{Says, SaysOf, OfKey, LoadsKey, OfReport, ChecksFiles, SaysHeld, HasWrongKey, length_status, due_of, due_status}
 
 -- what is said of too many bytes
 too_long : (key bytes : List ℕ) → 2 ^ 16 < length bytes → Says key bytes (Err report.Length)

@@ -8,8 +8,9 @@ use Rattle.report_core.specs.declared.reports.ReportFault.TheVariants as report
 use Rattle.report_core.specs.Report.{AreFacts, IsFileOf, IsFirstFault}
 use Rattle.bundle_store.specs.declared.outside.LoadFault.{LoadFault}
 use Rattle.bundle_store.specs.declared.outside.LoadFault.TheVariants as load
+use Rattle.bundle_store.specs.History.{Reads}
 use Rattle.command_files.specs.Commands.{ReportFilesSeen}
-use Rattle.command_files.specs.Inputs.{Reads, Loads}
+use Rattle.command_files.specs.Inputs.{Loads}
 use Rattle.report_checks.specs.declared.checked.CheckFault.{CheckFault}
 use Rattle.report_checks.specs.declared.checked.CheckFault.TheVariants as fault
 

@@ -54,12 +54,10 @@ fn load_key<F: Files>(
     name: &str,
     files: &mut F,
 ) -> Result<Result<Facts, ReportFault>, CheckFault>
-    ensures loads { LoadsKey (F.contents files.old) (option_map (λ v. v.items) report.now) name.now (record { loads = F.loads files.old; faults = F.read_faults files.old; bytes = F.bytes_read files.old }) (record { loads = F.loads files.new; faults = F.read_faults files.new; bytes = F.bytes_read files.new }) result }
-    ensures same { F.contents files.new ≡ F.contents files.old }
-    ensures saves { F.saves files.new ≡ F.saves files.old }
-    ensures writes { F.write_faults files.new ≡ F.write_faults files.old }
-    ensures later { F.read_faults files.old ≤ F.read_faults files.new }
-    ensures quiet { OnOk result (F.read_faults files.new ≡ F.read_faults files.old) }
+    ensures loads { LoadsKey (F.writes files.old).contents (option_map (λ v. v.items) report.now) name.now (F.reads files.old) (F.reads files.new) result }
+    ensures writes { F.writes files.new ≡ F.writes files.old }
+    ensures later { (F.reads files.old).faults ≤ (F.reads files.new).faults }
+    ensures quiet { OnOk result ((F.reads files.new).faults ≡ (F.reads files.old).faults) }
 {
     let answer = files.load(alloc, name, MOST);
     match answer {
@@ -78,12 +76,10 @@ fn of_report<F: Files>(
     name: &str,
     files: &mut F,
 ) -> Result<Result<Facts, ReportFault>, CheckFault>
-    ensures loads { OfReport (F.contents files.old) name.now (record { loads = F.loads files.old; faults = F.read_faults files.old; bytes = F.bytes_read files.old }) (record { loads = F.loads files.new; faults = F.read_faults files.new; bytes = F.bytes_read files.new }) answer result }
-    ensures same { F.contents files.new ≡ F.contents files.old }
-    ensures saves { F.saves files.new ≡ F.saves files.old }
-    ensures writes { F.write_faults files.new ≡ F.write_faults files.old }
-    ensures later { F.read_faults files.old ≤ F.read_faults files.new }
-    ensures quiet { OnOk result (F.read_faults files.new ≡ F.read_faults files.old) }
+    ensures loads { OfReport (F.writes files.old).contents name.now (F.reads files.old) (F.reads files.new) answer result }
+    ensures writes { F.writes files.new ≡ F.writes files.old }
+    ensures later { (F.reads files.old).faults ≤ (F.reads files.new).faults }
+    ensures quiet { OnOk result ((F.reads files.new).faults ≡ (F.reads files.old).faults) }
 {
     match answer {
         Ok(file) => load_key(alloc, &Some(file), name, files),
@@ -100,13 +96,11 @@ pub fn check_files<F: Files>(
     named: &ReportFiles<'_>,
     files: &mut F,
 ) -> Result<Result<Facts, ReportFault>, CheckFault>
-    ensures checks { ChecksFiles (F.contents files.old) (report_files_seen named.now) (record { loads = F.loads files.old; faults = F.read_faults files.old; bytes = F.bytes_read files.old }) (record { loads = F.loads files.new; faults = F.read_faults files.new; bytes = F.bytes_read files.new }) result }
-    ensures same { F.contents files.new ≡ F.contents files.old }
-    ensures saves { F.saves files.new ≡ F.saves files.old }
-    ensures writes { F.write_faults files.new ≡ F.write_faults files.old }
-    ensures later { F.read_faults files.old ≤ F.read_faults files.new }
+    ensures checks { ChecksFiles (F.writes files.old).contents (report_files_seen named.now) (F.reads files.old) (F.reads files.new) result }
+    ensures writes { F.writes files.new ≡ F.writes files.old }
+    ensures later { (F.reads files.old).faults ≤ (F.reads files.new).faults }
     // Where something is said, nothing failed.
-    ensures quiet { OnOk result (F.read_faults files.new ≡ F.read_faults files.old) }
+    ensures quiet { OnOk result ((F.reads files.new).faults ≡ (F.reads files.old).faults) }
 {
     let answer = files.load(alloc, named.report, MOST);
     of_report(alloc, answer, named.key, files)
