@@ -19,17 +19,9 @@ struct EndlessFiles {
 impl Files for EndlessFiles {
     ghost use Rattle.std.specs.Prelude.{None};
 
-    ghost contents = { λ _. None };
+    ghost reads = { λ s. record { loads = s.history.loads; faults = 0; bytes = s.bytes_read } };
 
-    ghost read_faults = { λ _. 0 };
-
-    ghost write_faults = { λ _. 0 };
-
-    ghost bytes_read = { λ s. s.bytes_read };
-
-    ghost loads = { λ s. s.history.loads };
-
-    ghost saves = { λ s. s.history.saves };
+    ghost writes = { λ s. record { contents = None; saves = s.history.saves; faults = 0 } };
 
     fn load(&mut self, alloc: Global, name: &str, most: u64) -> Result<Vec<u8>, LoadFault> {
         let result = if name == "s" && SCRIPT.len() as u64 <= most {

@@ -3,10 +3,9 @@ use Rattle.std.proofs.Common.{ℕ, List, Option, Some, None, Result, IfSome}
 use Rattle.flat_core.specs.Opening.{Opening}
 use Rattle.flat_core.specs.AccessLaw.{AccessesAreOwn}
 use Rattle.bundle_store.specs.declared.outside.PutFault.{PutFault}
-use Rattle.bundle_store.specs.History.{Loaded, Put}
+use Rattle.bundle_store.specs.History.{Loaded, Put, Writes}
 use Rattle.command_files.specs.Commands.{CommandSeen}
 use Rattle.script_runner.specs.Ending.{handed_held, opening_by}
-use Rattle.script_runner.specs.Saving.{Writes}
 use Rattle.script_runner.specs.Ends.{OneRun}
 use Rattle.script_runner.specs.Done.{PutsRun}
 use Rattle.script_runner.specs.Accesses.{OwnAccesses}

@@ -14,7 +14,7 @@ use Rattle.bundle_texts.specs.Ordered.{FitContainer, container_text}
 use Rattle.bundle_texts.proofs.Fits.{fit_slots}
 use Rattle.image_laws.specs.Arriving.{ComeAlike}
 use Rattle.image_laws.specs.Covered.{ShowTheSame}
-use Rattle.bundle_store.specs.History.{Loaded, Put}
+use Rattle.bundle_store.specs.History.{Loaded, Put, Writes}
 use Rattle.bundle_store.specs.declared.outside.PutFault.{PutFault}
 use Rattle.script_text.specs.Seen.{ScriptSeen}
 use Rattle.script_text.specs.Laws.{IsInForm}
@@ -22,7 +22,6 @@ use Rattle.run_texts.specs.Sealing.{bundles_text}
 use Rattle.command_files.specs.declared.inputs.KeyBytes.{KeyBytes}
 use Rattle.command_files.specs.Commands.{CommandSeen, Replay, Run, Check}
 use Rattle.script_runner.specs.Ending.{success_end, handed_held, HandedOut, opening_by}
-use Rattle.script_runner.specs.Saving.{Writes}
 use Rattle.script_runner.specs.Blind.{AreSameBytes, IsBlind, IsBlindRun, BlindLaws}
 use Rattle.script_runner.specs.Ends.{OneRun, ShowsBlind}
 use Rattle.script_runner.specs.Threads.{ThreadsOf}

@@ -9,7 +9,7 @@ use Rattle.bundle_texts.specs.Ordered.{FitContainer, in_slot_order}
 use Rattle.bundle_store.specs.Containers.{container_in}
 use Rattle.bundle_store.specs.declared.outside.PutFault.{PutFault}
 use Rattle.bundle_store.specs.Outside.{IsSaved, SavesTold}
-use Rattle.bundle_store.specs.History.{Loaded, Put}
+use Rattle.bundle_store.specs.History.{Loaded, Put, Writes}
 use Rattle.incoming.specs.Arrivals.{SlotIncoming, incoming_in, at_slot}
 use Rattle.image_laws.specs.Containers.{brought, AreWhole, ComeOf}
 use Rattle.script_text.specs.Seen.{ScriptSeen}
@@ -22,7 +22,7 @@ use Rattle.command_files.specs.declared.inputs.KeyBytes.{KeyBytes}
 use Rattle.flat_core.specs.GuestText.{guest_text}
 use Rattle.command_files.specs.Commands.{CommandSeen}
 use Rattle.script_runner.specs.Ending.{Ended, HandedOut, file_named, both_files, run_end, keys_or_none, opening_by, handed_held}
-use Rattle.script_runner.specs.Saving.{Writes, Saves, AllSaved}
+use Rattle.script_runner.specs.Saving.{Saves, AllSaved}
 use Rattle.script_runner.specs.Ends.{OneRun}
 use Rattle.script_runner.specs.Done.{PutsRun}
 use Rattle.script_runner.specs.Commanded.{handed_in}

@@ -15,7 +15,7 @@ use Rattle.flat_core.specs.GuestText.{guest_text}
 use Rattle.bundle_store.specs.declared.outside.LoadFault.{LoadFault}
 use Rattle.bundle_store.specs.declared.outside.LoadFault.TheVariants as load
 use Rattle.bundle_store.specs.Outside.{Rose}
-use Rattle.bundle_store.specs.History.{Loaded}
+use Rattle.bundle_store.specs.History.{Loaded, Reads}
 use Rattle.bundle_store.specs.Containers.{container_in}
 use Rattle.command_files.specs.declared.inputs.Input.{Input}
 use Rattle.command_files.specs.declared.inputs.Input.TheVariants as input
@@ -24,7 +24,7 @@ use Rattle.command_files.specs.declared.inputs.InputFault.TheVariants as fault
 use Rattle.command_files.specs.declared.inputs.Needs.{Needs}
 use Rattle.command_files.specs.declared.inputs.Inputs.{Inputs}
 use Rattle.command_files.specs.Commands.{NamedSeen, CommandSeen, Replay, Run, Check, named_of, script_name}
-use Rattle.command_files.specs.Inputs.{Reads, Loads, LoadsNamed, LoadsNext, TakesInputs, AreSecrets, IsDue, due, load_fault, unread_fault, form_fault, container_fault, length_fault, keys_fault, secrets_fault, place_fault, first, bundles_read, bundles_in, keys_in, secret_word, needed_fault, report_key_fault, report_key_in}
+use Rattle.command_files.specs.Inputs.{Loads, LoadsNamed, LoadsNext, TakesInputs, AreSecrets, IsDue, due, load_fault, unread_fault, form_fault, container_fault, length_fault, keys_fault, secrets_fault, place_fault, first, bundles_read, bundles_in, keys_in, secret_word, needed_fault, report_key_fault, report_key_in}
 use Rattle.script_runner.specs.declared.ending.Ending.{Ending}
 use Rattle.script_runner.specs.Ending.{ToSave, Ended, ending_seen, file_named, usage_end, bad_end, unread_end, memory_end, container_end, keys_end, secrets_end, run_end, success_end, name_in, input_name, IsOrderOf, HandedOut, opening_by, keys_or_none, no_keys, needs_of, report_key_end, report_key_or_none, no_report_key}
 use Rattle.script_runner.specs.Saving.{named_once, outs_of, out_names}

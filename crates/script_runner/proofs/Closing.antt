@@ -5,10 +5,11 @@ use Rattle.bundle_store.specs.declared.outside.SaveFault.{SaveFault}
 use Rattle.bundle_store.specs.declared.outside.SaveFault.TheVariants as save
 use Rattle.bundle_store.specs.declared.outside.PutFault.{PutFault}
 use Rattle.bundle_store.specs.declared.outside.PutFault.TheVariants as put
+use Rattle.bundle_store.specs.History.{Writes, Outputs}
 use Rattle.script_runner.specs.Ending.{ToSave, Ended, memory_end, unwritten_end}
-use Rattle.script_runner.specs.Saving.{Writes, Saves, AllSaved}
+use Rattle.script_runner.specs.Saving.{Saves, AllSaved}
 use Rattle.script_runner.specs.Ends.{unput_status}
-use Rattle.script_runner.specs.Commanded.{Outputs, Puts, PutsWant, TellsBy, TellsSave, SavesAll, Finishes, PutsAndSaves}
+use Rattle.script_runner.specs.Commanded.{Puts, PutsWant, TellsBy, TellsSave, SavesAll, Finishes, PutsAndSaves}
 
 -- how files are saved one after another: all of them; or those before one, whose save failed; or before which memory was wanting
 pub data Saving (files : List ToSave) (w w' : Writes) (o o' : Outputs) (status : ℕ) : Type 0 where

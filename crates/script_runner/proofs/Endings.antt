@@ -5,13 +5,13 @@ use Rattle.bundle_store.specs.declared.outside.PutFault.{PutFault}
 use Rattle.bundle_store.specs.declared.outside.PutFault.TheVariants as put
 use Rattle.bundle_store.specs.Outside.{Rose, Gains}
 use Rattle.script_text.specs.Seen.{ScriptSeen}
+use Rattle.bundle_store.specs.History.{Reads, Writes, Outputs}
 use Rattle.command_files.specs.Commands.{CommandSeen, Replay, Run, Check}
-use Rattle.command_files.specs.Inputs.{Reads}
 use Rattle.script_runner.specs.Ending.{ToSave, Ended, memory_end, unwritten_end, success_end, handed_held, ending_of, IsOrderIn, HandedOut}
-use Rattle.script_runner.specs.Saving.{Writes, AllSaved, IsAmong}
+use Rattle.script_runner.specs.Saving.{AllSaved, IsAmong}
 use Rattle.script_runner.specs.Ends.{Faults, IsEnding, PutsPart, PutsBehind, TellsName, TellsUnsaved, Tells, EndsWith, ShowsThreads, IsBadScript, IsAbsent, IsBadContainer, IsBadLength, IsComplete, success_text, IsOwnText, PutsFronts, PutsFrontsOf}
 use Rattle.script_runner.specs.Threads.{ThreadsOf}
-use Rattle.script_runner.specs.Commanded.{Outputs, Puts, PutsWant, DoesCommand}
+use Rattle.script_runner.specs.Commanded.{Puts, PutsWant, DoesCommand}
 use Rattle.script_runner.proofs.Asked.{asks}
 use Rattle.script_runner.proofs.Part.{puts_part}
 use Rattle.script_runner.proofs.Due.{Due, due, some_order, same_status, Usage, Absent, BadScript, Want, BadContainer, BadLength, Success}

@@ -4,22 +4,21 @@ use Rattle.std.proofs.lemmas.Bool.Decides.{eqb_tells}
 use Rattle.bundle_store.specs.declared.outside.PutFault.{PutFault}
 use Rattle.bundle_store.specs.declared.outside.PutFault.TheVariants as put
 use Rattle.bundle_store.specs.Outside.{Rose, Gains}
-use Rattle.bundle_store.specs.History.{Loaded, Put}
+use Rattle.bundle_store.specs.History.{Loaded, Put, Reads, Writes, Outputs}
 use Rattle.script_text.specs.Seen.{ScriptSeen}
 use Rattle.script_text.specs.Needs.{needs_keys, needs_report_key}
 use Rattle.command_files.specs.Commands.{NamedSeen, CommandSeen, Check, named_of}
 use Rattle.command_files.specs.declared.inputs.InputFault.{InputFault}
 use Rattle.command_files.specs.declared.inputs.InputFault.TheVariants as fault
-use Rattle.command_files.specs.Inputs.{Reads}
 use Rattle.script_runner.specs.Ending.{ToSave, Ended, memory_end, keys_end, secrets_end, report_key_end, unwritten_end, success_end, ending_of}
-use Rattle.script_runner.specs.Saving.{Writes, AllSaved, out_names}
+use Rattle.script_runner.specs.Saving.{AllSaved, out_names}
 use Rattle.script_runner.specs.Ends.{Faults, ReadCause, WriteCause, EndsWith, OneRun, ShowsThreads, IsBadScript, IsBadContainer, IsBadLength, IsComplete, PutsFrontsOf}
 use Rattle.script_runner.specs.Threads.{ThreadsOf}
 use Rattle.script_runner.specs.Done.{PutsOnce, PutsText, HoldsOfRun, PutsRun, PutsAndSaved, PutsUsage, PutsFault, PutsName, PutsPlace, PutsLength, PutsLacking, before_keys, before_secrets, before_report_key, PutsBadLength, PutsThreads, PutsLost, PutsMemory, SavesNothing, ChangesNothing, SavesFront, KeepsOrSaves}
 use Rattle.script_runner.specs.Promised.{LoadsSome}
 use Rattle.script_runner.proofs.Asked.{asks}
 use Rattle.script_runner.proofs.Loading.{answer_part}
-use Rattle.script_runner.specs.Commanded.{Comes, ComesPart, Outputs, Puts, DoesCommand}
+use Rattle.script_runner.specs.Commanded.{Comes, ComesPart, Puts, DoesCommand}
 use Rattle.script_runner.proofs.Closing.{Closing, closing, saved_later, unput, never_zero, Told, Lost, Wanting, Whole, Unsaved, WantingAfter}
 use Rattle.script_runner.proofs.Came.{Came, LengthCame, LacksCame, SomeLength, came, files_few, rose_earlier, Usage, Unread, BadScript, Want, Place, WrongLength, Success}
 use Rattle.script_runner.proofs.Told as told

@@ -6,8 +6,8 @@ use Rattle.script_text.specs.Reading.{read_of}
 use Rattle.script_text.specs.Seen.{ScriptSeen}
 use Rattle.bundle_store.specs.declared.outside.LoadFault.{LoadFault}
 use Rattle.bundle_store.specs.declared.outside.LoadFault.TheVariants as load
+use Rattle.bundle_store.specs.History.{Reads}
 use Rattle.command_files.specs.Commands.{CommandSeen, Replay, Run, Check}
-use Rattle.command_files.specs.Inputs.{Reads}
 use Rattle.script_runner.specs.Ending.{Ended}
 use Rattle.script_runner.specs.Commanded.{AnswerEnd, ScriptEnd, ReadEnd, ScriptPart, ReadPart, AnswerPart}
 

@@ -1,15 +1,14 @@
 -- What the top call promises follows from what it does.
 use Rattle.std.proofs.Common.{◌≡◌, ◌⊎◌, inl, inr, refl, ap, ℕ, ◌≤◌, List, Option, Some, None, IfSome, arith}
 use Rattle.flat_core.specs.AccessLaw.{AccessesAreOwn}
+use Rattle.bundle_store.specs.History.{Reads, Writes, Outputs}
 use Rattle.command_files.specs.Commands.{CommandSeen, AskedSeen, OfScript, Soak, Verify}
-use Rattle.command_files.specs.Inputs.{Reads}
 use Rattle.bundle_store.specs.Outside.{Rose}
-use Rattle.script_runner.specs.Saving.{Writes}
 use Rattle.script_runner.specs.Done.{PutsHeadline}
 use Rattle.script_runner.specs.Blind.{BlindLaws}
 use Rattle.script_runner.specs.Brings.{CarryingLaws}
 use Rattle.script_runner.specs.Images.{TakingLaws}
-use Rattle.script_runner.specs.Commanded.{Outputs, DoesCommand}
+use Rattle.script_runner.specs.Commanded.{DoesCommand}
 use Rattle.script_runner.specs.Asked.{OfScripts}
 use Rattle.script_runner.specs.Promised.{ByHistories, ByContents}
 use Rattle.script_runner.proofs.Accesses.{in-put, in-one}

@@ -1,12 +1,11 @@
 -- What a soak does.
 use Rattle.std.proofs.Common.{◌≡◌, inl, inr, refl, sym, subst, ℕ, List, Option, Some, None, Ok, Err, arith}
 use Rattle.bundle_store.specs.declared.outside.PutFault.TheVariants as put
+use Rattle.bundle_store.specs.History.{Reads, Writes, Outputs}
 use Rattle.command_files.specs.Commands.{AskedSeen, OfScript, Soak, Verify}
-use Rattle.command_files.specs.Inputs.{Reads}
 use Rattle.soak_runs.specs.Soaked.{soak_text}
 use Rattle.script_runner.specs.Ending.{Ended, soak_end}
-use Rattle.script_runner.specs.Saving.{Writes}
-use Rattle.script_runner.specs.Commanded.{Outputs, Puts, PutsAndSaves, DoesCommand}
+use Rattle.script_runner.specs.Commanded.{Puts, PutsAndSaves, DoesCommand}
 use Rattle.script_runner.specs.Asked.{OfSoaks, PutsWantFor, DoesSoak}
 use Rattle.script_runner.proofs.Closing.{Closing, closing, Told, Lost, Wanting, Whole, Unsaved, WantingAfter}
 use Rattle.script_runner.proofs.Endings.{some_file}

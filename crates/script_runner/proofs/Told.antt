@@ -14,6 +14,7 @@ use Rattle.bundle_store.specs.declared.outside.LoadFault.{LoadFault}
 use Rattle.bundle_store.specs.declared.outside.LoadFault.TheVariants as load
 use Rattle.bundle_store.specs.Outside.{Rose, LoadsTold}
 use Rattle.bundle_store.specs.Containers.{container_in}
+use Rattle.bundle_store.specs.History.{Reads}
 use Rattle.command_files.specs.declared.inputs.Input.{Input}
 use Rattle.command_files.specs.declared.inputs.Input.TheVariants as input
 use Rattle.command_files.specs.declared.inputs.InputFault.{InputFault}
@@ -21,7 +22,7 @@ use Rattle.command_files.specs.declared.inputs.InputFault.TheVariants as fault
 use Rattle.command_files.specs.declared.inputs.Inputs.{Inputs}
 use Rattle.command_files.specs.declared.inputs.Needs.{Needs}
 use Rattle.command_files.specs.Commands.{NamedSeen, CommandSeen, Replay, Run, Check, named_of, script_name}
-use Rattle.command_files.specs.Inputs.{Reads, Loads, LoadsNamed, LoadsNext, TakesInputs, AreSecrets, IsDue, due, load_fault, form_fault, container_fault, length_fault, needed_fault, keys_fault, secrets_fault, report_key_fault, secret_word, place_fault, first, bundles_read, bundles_in, keys_in, report_key_in, keys_of}
+use Rattle.command_files.specs.Inputs.{Loads, LoadsNamed, LoadsNext, TakesInputs, AreSecrets, IsDue, due, load_fault, form_fault, container_fault, length_fault, needed_fault, keys_fault, secrets_fault, report_key_fault, secret_word, place_fault, first, bundles_read, bundles_in, keys_in, report_key_in, keys_of}
 use Rattle.script_runner.specs.Ending.{Ended, bad_end, unread_end, run_end, name_in, input_name, held, absent_fault, container_wrong, length_wrong, needed_wrong, keys_wrong, form_wrong, wrong_input, needs_of, command_wrong, held_word, inputs_end, named_end, script_end, read_end, success_end, ending_of, IsOrderOf, without, HandedOut, handed_held, held_by, held_keys, held_bundles, held_report_key, keys_or_none, report_key_or_none, no_keys, no_report_key}
 use Rattle.script_runner.specs.Brings.{HandsWords}
 use Rattle.script_runner.specs.Ends.{Faults, IsEnding}

@@ -4,15 +4,15 @@ use Rattle.report_core.specs.declared.facts.Facts.{Facts}
 use Rattle.report_core.specs.declared.reports.ReportFault.{ReportFault}
 use Rattle.bundle_store.specs.Outside.{Rose}
 use Rattle.bundle_store.specs.declared.outside.PutFault.TheVariants as put
+use Rattle.bundle_store.specs.History.{Reads, Writes, Outputs}
 use Rattle.command_files.specs.Commands.{ReportFilesSeen, AskedSeen, OfScript, Soak, Verify}
-use Rattle.command_files.specs.Inputs.{Reads}
 use Rattle.report_checks.specs.declared.checked.CheckFault.{CheckFault}
 use Rattle.report_checks.specs.declared.checked.CheckFault.TheVariants as check
 use Rattle.report_checks.specs.Checked.{ChecksFiles, due_status}
 use Rattle.report_checks.proofs.Told.{says_held, wrong_held, report_absent, key_gone, says_due, wrong_due, absent_due, gone_due}
 use Rattle.script_runner.specs.Ending.{ToSave, Ended, verdict_end, unread_end, report_key_end}
-use Rattle.script_runner.specs.Saving.{Writes, AllSaved}
-use Rattle.script_runner.specs.Commanded.{Outputs, Puts, PutsWant, PutsAndSaves, VerifyEnd, Verifies, VerifiesPart, DoesCommand}
+use Rattle.script_runner.specs.Saving.{AllSaved}
+use Rattle.script_runner.specs.Commanded.{Puts, PutsWant, PutsAndSaves, VerifyEnd, Verifies, VerifiesPart, DoesCommand}
 use Rattle.script_runner.specs.Asked.{OfVerifies, PutsWantFor}
 use Rattle.script_runner.specs.Verified.{PutsVerdict, PutsSome, PutsReason, DoesVerify, VerifiesHeld}
 use Rattle.script_runner.proofs.Closing.{Closing, closing, Told, Lost, Wanting, Whole, Unsaved, WantingAfter, unput}

@@ -2,11 +2,10 @@
 use Rattle.std.specs.Prelude.{◌≡◌, ◌⊎◌, ℕ, List, Option, Some, None, Ok, Err}
 use Rattle.bundle_store.specs.Outside.{Rose}
 use Rattle.bundle_store.specs.declared.outside.PutFault.TheVariants as put
+use Rattle.bundle_store.specs.History.{Reads, Writes, Outputs}
 use Rattle.command_files.specs.Commands.{CommandSeen, ReportFilesSeen, AskedSeen, OfScript, Soak, Verify}
-use Rattle.command_files.specs.Inputs.{Reads}
 use Rattle.soak_runs.specs.Soaked.{soak_text}
-use Rattle.script_runner.specs.Saving.{Writes}
-use Rattle.script_runner.specs.Commanded.{Outputs, Puts, PutsWant}
+use Rattle.script_runner.specs.Commanded.{Puts, PutsWant}
 
 -- it is said of a command on a script, and of words that are no command
 abbrev pub OfScripts : Option AskedSeen → (Option CommandSeen → Type 0) → Type 0

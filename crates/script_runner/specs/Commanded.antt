@@ -13,19 +13,19 @@ use Rattle.bundle_store.specs.declared.outside.SaveFault.TheVariants as save
 use Rattle.bundle_store.specs.declared.outside.PutFault.{PutFault}
 use Rattle.bundle_store.specs.declared.outside.PutFault.TheVariants as put
 use Rattle.bundle_store.specs.Outside.{PutsTold, PutCause}
-use Rattle.bundle_store.specs.History.{Put}
+use Rattle.bundle_store.specs.History.{Reads, Writes, Outputs}
 use Rattle.command_files.specs.declared.inputs.InputFault.{InputFault}
 use Rattle.command_files.specs.declared.inputs.InputFault.TheVariants as fault
 use Rattle.command_files.specs.declared.inputs.Inputs.{Inputs}
 use Rattle.command_files.specs.Commands.{NamedSeen, CommandSeen, Replay, Run, Check, ReportFilesSeen, AskedSeen, OfScript, Soak, Verify, script_name}
-use Rattle.command_files.specs.Inputs.{Reads, Loads, TakesInputs}
+use Rattle.command_files.specs.Inputs.{Loads, TakesInputs}
 use Rattle.report_core.specs.declared.facts.Facts.{Facts}
 use Rattle.report_core.specs.declared.reports.ReportFault.{ReportFault}
 use Rattle.report_checks.specs.declared.checked.CheckFault.{CheckFault}
 use Rattle.report_checks.specs.declared.checked.CheckFault.TheVariants as check
 use Rattle.report_checks.specs.Checked.{ChecksFiles}
 use Rattle.script_runner.specs.Ending.{ToSave, Ended, HandedOut, keys_or_none, report_key_or_none, needs_of, usage_end, bad_end, unread_end, memory_end, run_end, check_end, soak_end, verdict_end, fault_end, container_end, keys_end, secrets_end, report_key_end, unwritten_end, input_name, IsOrderOf}
-use Rattle.script_runner.specs.Saving.{Writes, Saves}
+use Rattle.script_runner.specs.Saving.{Saves}
 use Rattle.script_runner.specs.Threads.{ThreadsOf}
 use Rattle.script_runner.specs.Brings.{HandsWords}
 use Rattle.script_runner.specs.Ends.{unput_status}
@@ -136,12 +136,6 @@ ComesPart contents (Some (Soak n)) old new = new ≡ old
 ComesPart contents (Some (Verify n)) old new = (new ≡ old) ⊎ VerifiesPart contents n old new
 
 -- ---- what is put
-
--- what the law of a put speaks of: the bytes so far, the puts so far, and how often one failed
-pub record Outputs : Type 0 where
-  pub told : Option (List ℕ)
-  pub puts : List Put
-  pub faults : ℕ
 
 -- one put of these bytes, as its law has it
 pub record Puts (bytes : List ℕ) (old : Outputs) (answer : Result (Unit {0}) PutFault) (new : Outputs) : Type 0 where

@@ -13,13 +13,13 @@ use Rattle.bundle_store.specs.declared.outside.SaveFault.TheVariants as save
 use Rattle.bundle_store.specs.declared.outside.PutFault.{PutFault}
 use Rattle.bundle_store.specs.declared.outside.PutFault.TheVariants as put
 use Rattle.bundle_store.specs.Containers.{container_in}
-use Rattle.bundle_store.specs.History.{Loaded, Put}
+use Rattle.bundle_store.specs.History.{Loaded, Put, Writes}
 use Rattle.command_files.specs.declared.inputs.InputFault.{InputFault}
 use Rattle.command_files.specs.declared.inputs.InputFault.TheVariants as fault
 use Rattle.command_files.specs.Commands.{NamedSeen, CommandSeen, named_of, script_name}
 use Rattle.command_files.specs.Inputs.{container_fault, length_fault, secret_word, keys_of}
 use Rattle.script_runner.specs.Ending.{ToSave, Ended, usage_end, bad_end, unread_end, memory_end, container_end, keys_end, secrets_end, report_key_end, unwritten_end, secrets_named, IsOrderOf, success_end, HandedOut, opening_by, no_keys, no_report_key, keys_named, bundles_named, report_key_named}
-use Rattle.script_runner.specs.Saving.{Writes, AllSaved, named_once}
+use Rattle.script_runner.specs.Saving.{AllSaved, named_once}
 use Rattle.script_runner.specs.Threads.{ThreadsOf}
 use Rattle.script_runner.specs.Accesses.{OwnAccesses}
 use Rattle.script_runner.specs.Images.{TakesOver}

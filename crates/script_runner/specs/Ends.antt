@@ -7,9 +7,10 @@ use Rattle.script_text.specs.Seen.{ScriptSeen}
 use Rattle.script_text.specs.Needs.{needs_keys, needs_report_key}
 use Rattle.bundle_store.specs.Outside.{Rose, Gains}
 use Rattle.bundle_store.specs.Containers.{container_in}
+use Rattle.bundle_store.specs.History.{Writes}
 use Rattle.command_files.specs.Commands.{NamedSeen, CommandSeen, Replay, Run, Check, named_of, script_name}
 use Rattle.script_runner.specs.Ending.{ToSave, Ended, unread_end, memory_end, unwritten_end, success_end, command_wrong, handed_held, ending_of, IsOrderOf, IsOrderIn, without}
-use Rattle.script_runner.specs.Saving.{Writes, AllSaved, IsAmong}
+use Rattle.script_runner.specs.Saving.{AllSaved, IsAmong}
 use Rattle.script_runner.specs.Blind.{IsBlindRun}
 use Rattle.script_runner.specs.Brings.{HandsWords}
 use Rattle.script_runner.specs.Threads.{ThreadsOf}

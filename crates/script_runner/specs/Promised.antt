@@ -1,16 +1,15 @@
 -- What the top call promises of a command on a script, and of words that are no command.
 use Rattle.std.specs.Prelude.{◌≡◌, ◌≢◌, ◌⊎◌, ◌≤◌, ℕ, List, [], ◌∷◌, ◌++◌, length, Option, Some, None, Ok}
-use Rattle.bundle_store.specs.History.{Put}
+use Rattle.bundle_store.specs.History.{Put, Reads, Writes, Outputs}
 use Rattle.command_files.specs.Commands.{CommandSeen, Check}
-use Rattle.command_files.specs.Inputs.{Reads}
 use Rattle.script_runner.specs.Ending.{ending_of, handed_held, opening_by}
 use Rattle.script_runner.specs.Accesses.{OwnAccesses}
 use Rattle.script_runner.specs.Images.{TakesOver}
 use Rattle.script_runner.specs.Brings.{sealed_by, BringsOver, FileBringsOver}
-use Rattle.script_runner.specs.Saving.{Writes, out_names}
+use Rattle.script_runner.specs.Saving.{out_names}
 use Rattle.script_runner.specs.Ends.{Faults, EndsWith, OneRun, IsComplete, IsBadScript, IsBadContainer, IsBadLength, ShowsThreads, ShowsBlind, ReadCause, WriteCause, PutsFrontsOf}
 use Rattle.script_runner.specs.Done.{PutsRun, PutsAndSaved, PutsThreads, PutsBlind, PutsUsage, PutsFault, PutsName, PutsPlace, PutsBadLength, PutsLost, PutsMemory, SavesNothing, ChangesNothing, KeepsOrSaves}
-use Rattle.script_runner.specs.Commanded.{Outputs, ReachesPart}
+use Rattle.script_runner.specs.Commanded.{ReachesPart}
 
 abbrev pub faults_of : Reads → Writes → Outputs → Faults
 faults_of read written put = record { reads = read.faults; writes = written.faults; puts = put.faults }

@@ -2,15 +2,9 @@
 use Rattle.std.specs.Prelude.{◌≡◌, ◌⊎◌, ℕ, ◌≤◌, List, [], ◌∷◌, ◌++◌, Option, Some, None, Result, Ok, OnOk, OnErr}
 use Rattle.bundle_store.specs.declared.outside.SaveFault.{SaveFault}
 use Rattle.bundle_store.specs.Outside.{SavesTold, SaveCause}
-use Rattle.bundle_store.specs.History.{Saved}
+use Rattle.bundle_store.specs.History.{Writes}
 use Rattle.command_files.specs.Commands.{NamedSeen, CommandSeen, Replay, Run, Check}
 use Rattle.script_runner.specs.Ending.{ToSave}
-
--- what the law of a save speaks of: contents, the saves so far, and how often writing failed
-pub record Writes : Type 0 where
-  pub contents : Option (List ℕ → Option (List ℕ))
-  pub saves : List Saved
-  pub faults : ℕ
 
 -- one save of these bytes under that name, as its law has it
 pub record Saves (name bytes : List ℕ) (old : Writes) (answer : Result (Unit {0}) SaveFault) (new : Writes) : Type 0 where

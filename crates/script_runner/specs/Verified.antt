@@ -5,14 +5,13 @@ use Rattle.report_core.specs.declared.reports.ReportFault.{ReportFault}
 use Rattle.bundle_store.specs.Outside.{Rose, Gains}
 use Rattle.bundle_store.specs.declared.outside.PutFault.{PutFault}
 use Rattle.bundle_store.specs.declared.outside.PutFault.TheVariants as put
+use Rattle.bundle_store.specs.History.{Reads, Writes, Outputs}
 use Rattle.command_files.specs.Commands.{ReportFilesSeen}
-use Rattle.command_files.specs.Inputs.{Reads}
 use Rattle.report_checks.specs.declared.checked.CheckFault.{CheckFault}
 use Rattle.report_checks.specs.declared.checked.CheckFault.TheVariants as check
 use Rattle.report_checks.specs.Checked.{verdict_text, ChecksFiles, SaysHeld, HasWrongKey, due_status}
 use Rattle.script_runner.specs.Ending.{Ended, unread_end, report_key_end}
-use Rattle.script_runner.specs.Saving.{Writes}
-use Rattle.script_runner.specs.Commanded.{Outputs, Puts, PutsWant, Verifies, VerifiesPart}
+use Rattle.script_runner.specs.Commanded.{Puts, PutsWant, Verifies, VerifiesPart}
 use Rattle.script_runner.specs.Asked.{PutsWantFor}
 
 -- one put was given the line of what these files say

@@ -46,13 +46,12 @@ fn of_replay<'a, F: Files>(
     files: &mut F,
 ) -> Result<Ending<'a>, AllocError>
     requires { IsInForm script.now }
-    ensures ends { IfOk result (λ e. NamedEnd (F.contents files.old) (Replay (named_seen named.now)) (named_seen named.now) script.now (record { loads = F.loads files.old; faults = F.read_faults files.old; bytes = F.bytes_read files.old }) (record { loads = F.loads files.new; faults = F.read_faults files.new; bytes = F.bytes_read files.new }) (ending_seen e)) }
-    ensures part { TakesSome (F.contents files.old) (named_seen named.now) script.now (record { loads = F.loads files.old; faults = F.read_faults files.old; bytes = F.bytes_read files.old }) (record { loads = F.loads files.new; faults = F.read_faults files.new; bytes = F.bytes_read files.new }) }
-    ensures same { F.contents files.new ≡ F.contents files.old }
-    ensures saves { F.saves files.new ≡ F.saves files.old }
-    ensures writes { F.write_faults files.new ≡ F.write_faults files.old }
-    ensures later { F.read_faults files.old ≤ F.read_faults files.new }
-    ensures quiet { IfOk result (λ e. e.status ≡ 0 → F.read_faults files.new ≡ F.read_faults files.old) }
+    ensures ends { IfOk result (λ e. NamedEnd (F.writes files.old).contents (Replay (named_seen named.now)) (named_seen named.now) script.now
+        (F.reads files.old) (F.reads files.new) (ending_seen e)) }
+    ensures part { TakesSome (F.writes files.old).contents (named_seen named.now) script.now (F.reads files.old) (F.reads files.new) }
+    ensures writes { F.writes files.new ≡ F.writes files.old }
+    ensures later { (F.reads files.old).faults ≤ (F.reads files.new).faults }
+    ensures quiet { IfOk result (λ e. e.status ≡ 0 → (F.reads files.new).faults ≡ (F.reads files.old).faults) }
     ensures not_usage { IfOk result (λ e. e.status ≢ 1) }
     ensures not_write { IfOk result (λ e. e.status ≢ 4) }
     ensures few { IfOk result (λ e. e.status ≤ 7) }
@@ -73,13 +72,12 @@ fn of_run<'a, R: Threads + Sync, F: Files, G: Gate + Sync>(
     gate: &G,
 ) -> Result<Ending<'a>, AllocError>
     requires { IsInForm script.now }
-    ensures ends { IfOk result (λ e. NamedEnd (F.contents files.old) (Run (named_seen named.now)) (named_seen named.now) script.now (record { loads = F.loads files.old; faults = F.read_faults files.old; bytes = F.bytes_read files.old }) (record { loads = F.loads files.new; faults = F.read_faults files.new; bytes = F.bytes_read files.new }) (ending_seen e)) }
-    ensures part { TakesSome (F.contents files.old) (named_seen named.now) script.now (record { loads = F.loads files.old; faults = F.read_faults files.old; bytes = F.bytes_read files.old }) (record { loads = F.loads files.new; faults = F.read_faults files.new; bytes = F.bytes_read files.new }) }
-    ensures same { F.contents files.new ≡ F.contents files.old }
-    ensures saves { F.saves files.new ≡ F.saves files.old }
-    ensures writes { F.write_faults files.new ≡ F.write_faults files.old }
-    ensures later { F.read_faults files.old ≤ F.read_faults files.new }
-    ensures quiet { IfOk result (λ e. e.status ≡ 0 → F.read_faults files.new ≡ F.read_faults files.old) }
+    ensures ends { IfOk result (λ e. NamedEnd (F.writes files.old).contents (Run (named_seen named.now)) (named_seen named.now) script.now
+        (F.reads files.old) (F.reads files.new) (ending_seen e)) }
+    ensures part { TakesSome (F.writes files.old).contents (named_seen named.now) script.now (F.reads files.old) (F.reads files.new) }
+    ensures writes { F.writes files.new ≡ F.writes files.old }
+    ensures later { (F.reads files.old).faults ≤ (F.reads files.new).faults }
+    ensures quiet { IfOk result (λ e. e.status ≡ 0 → (F.reads files.new).faults ≡ (F.reads files.old).faults) }
     ensures not_usage { IfOk result (λ e. e.status ≢ 1) }
     ensures not_write { IfOk result (λ e. e.status ≢ 4) }
     ensures few { IfOk result (λ e. e.status ≤ 7) }
@@ -100,13 +98,12 @@ fn of_script<'a, R: Threads + Sync, F: Files, G: Gate + Sync>(
     gate: &G,
 ) -> Result<Ending<'a>, AllocError>
     requires form { IsInForm script.now }
-    ensures ends { IfOk result (λ e. ScriptEnd (F.contents files.old) (command_seen command.now) script.now (record { loads = F.loads files.old; faults = F.read_faults files.old; bytes = F.bytes_read files.old }) (record { loads = F.loads files.new; faults = F.read_faults files.new; bytes = F.bytes_read files.new }) (ending_seen e)) }
-    ensures part { ScriptPart (F.contents files.old) (command_seen command.now) script.now (record { loads = F.loads files.old; faults = F.read_faults files.old; bytes = F.bytes_read files.old }) (record { loads = F.loads files.new; faults = F.read_faults files.new; bytes = F.bytes_read files.new }) }
-    ensures same { F.contents files.new ≡ F.contents files.old }
-    ensures saves { F.saves files.new ≡ F.saves files.old }
-    ensures writes { F.write_faults files.new ≡ F.write_faults files.old }
-    ensures later { F.read_faults files.old ≤ F.read_faults files.new }
-    ensures quiet { IfOk result (λ e. e.status ≡ 0 → F.read_faults files.new ≡ F.read_faults files.old) }
+    ensures ends { IfOk result (λ e. ScriptEnd (F.writes files.old).contents (command_seen command.now) script.now
+        (F.reads files.old) (F.reads files.new) (ending_seen e)) }
+    ensures part { ScriptPart (F.writes files.old).contents (command_seen command.now) script.now (F.reads files.old) (F.reads files.new) }
+    ensures writes { F.writes files.new ≡ F.writes files.old }
+    ensures later { (F.reads files.old).faults ≤ (F.reads files.new).faults }
+    ensures quiet { IfOk result (λ e. e.status ≡ 0 → (F.reads files.new).faults ≡ (F.reads files.old).faults) }
     ensures not_usage { IfOk result (λ e. e.status ≢ 1) }
     ensures not_write { IfOk result (λ e. e.status ≢ 4) }
     ensures few { IfOk result (λ e. e.status ≤ 7) }
@@ -127,13 +124,12 @@ fn of_bytes<'a, R: Threads + Sync, F: Files, G: Gate + Sync>(
     files: &mut F,
     gate: &G,
 ) -> Result<Ending<'a>, AllocError>
-    ensures ends { IfOk result (λ e. ReadEnd (F.contents files.old) (command_seen command.now) (record { loads = F.loads files.old; faults = F.read_faults files.old; bytes = F.bytes_read files.old }) (record { loads = F.loads files.new; faults = F.read_faults files.new; bytes = F.bytes_read files.new }) (read_of bytes.items) (ending_seen e)) }
-    ensures part { ReadPart (F.contents files.old) (command_seen command.now) (record { loads = F.loads files.old; faults = F.read_faults files.old; bytes = F.bytes_read files.old }) (record { loads = F.loads files.new; faults = F.read_faults files.new; bytes = F.bytes_read files.new }) (read_of bytes.items) }
-    ensures same { F.contents files.new ≡ F.contents files.old }
-    ensures saves { F.saves files.new ≡ F.saves files.old }
-    ensures writes { F.write_faults files.new ≡ F.write_faults files.old }
-    ensures later { F.read_faults files.old ≤ F.read_faults files.new }
-    ensures quiet { IfOk result (λ e. e.status ≡ 0 → F.read_faults files.new ≡ F.read_faults files.old) }
+    ensures ends { IfOk result (λ e. ReadEnd (F.writes files.old).contents (command_seen command.now)
+        (F.reads files.old) (F.reads files.new) (read_of bytes.items) (ending_seen e)) }
+    ensures part { ReadPart (F.writes files.old).contents (command_seen command.now) (F.reads files.old) (F.reads files.new) (read_of bytes.items) }
+    ensures writes { F.writes files.new ≡ F.writes files.old }
+    ensures later { (F.reads files.old).faults ≤ (F.reads files.new).faults }
+    ensures quiet { IfOk result (λ e. e.status ≡ 0 → (F.reads files.new).faults ≡ (F.reads files.old).faults) }
     ensures not_usage { IfOk result (λ e. e.status ≢ 1) }
     ensures not_write { IfOk result (λ e. e.status ≢ 4) }
     ensures few { IfOk result (λ e. e.status ≤ 7) }
@@ -158,13 +154,12 @@ fn of_answer<'a, R: Threads + Sync, F: Files, G: Gate + Sync>(
     files: &mut F,
     gate: &G,
 ) -> Result<Ending<'a>, AllocError>
-    ensures ends { IfOk result (λ e. AnswerEnd (F.contents files.old) (command_seen command.now) (record { loads = F.loads files.old; faults = F.read_faults files.old; bytes = F.bytes_read files.old }) (record { loads = F.loads files.new; faults = F.read_faults files.new; bytes = F.bytes_read files.new }) answer (ending_seen e)) }
-    ensures part { AnswerPart (F.contents files.old) (command_seen command.now) (record { loads = F.loads files.old; faults = F.read_faults files.old; bytes = F.bytes_read files.old }) (record { loads = F.loads files.new; faults = F.read_faults files.new; bytes = F.bytes_read files.new }) answer }
-    ensures same { F.contents files.new ≡ F.contents files.old }
-    ensures saves { F.saves files.new ≡ F.saves files.old }
-    ensures writes { F.write_faults files.new ≡ F.write_faults files.old }
-    ensures later { F.read_faults files.old ≤ F.read_faults files.new }
-    ensures quiet { IfOk result (λ e. e.status ≡ 0 → F.read_faults files.new ≡ F.read_faults files.old) }
+    ensures ends { IfOk result (λ e. AnswerEnd (F.writes files.old).contents (command_seen command.now)
+        (F.reads files.old) (F.reads files.new) answer (ending_seen e)) }
+    ensures part { AnswerPart (F.writes files.old).contents (command_seen command.now) (F.reads files.old) (F.reads files.new) answer }
+    ensures writes { F.writes files.new ≡ F.writes files.old }
+    ensures later { (F.reads files.old).faults ≤ (F.reads files.new).faults }
+    ensures quiet { IfOk result (λ e. e.status ≡ 0 → (F.reads files.new).faults ≡ (F.reads files.old).faults) }
     ensures not_usage { IfOk result (λ e. e.status ≢ 1) }
     ensures not_write { IfOk result (λ e. e.status ≢ 4) }
     ensures few { IfOk result (λ e. e.status ≤ 7) }
@@ -187,13 +182,12 @@ pub fn of_command<'a, R: Threads + Sync, F: Files, G: Gate + Sync>(
     files: &mut F,
     gate: &G,
 ) -> Result<Ending<'a>, AllocError>
-    ensures ends { IfOk result (λ e. Reaches (F.contents files.old) (command_seen command.now) (record { loads = F.loads files.old; faults = F.read_faults files.old; bytes = F.bytes_read files.old }) (record { loads = F.loads files.new; faults = F.read_faults files.new; bytes = F.bytes_read files.new }) (ending_seen e)) }
-    ensures part { ReachesPart (F.contents files.old) (command_seen command.now) (record { loads = F.loads files.old; faults = F.read_faults files.old; bytes = F.bytes_read files.old }) (record { loads = F.loads files.new; faults = F.read_faults files.new; bytes = F.bytes_read files.new }) }
-    ensures same { F.contents files.new ≡ F.contents files.old }
-    ensures saves { F.saves files.new ≡ F.saves files.old }
-    ensures writes { F.write_faults files.new ≡ F.write_faults files.old }
-    ensures later { F.read_faults files.old ≤ F.read_faults files.new }
-    ensures quiet { IfOk result (λ e. e.status ≡ 0 → F.read_faults files.new ≡ F.read_faults files.old) }
+    ensures ends { IfOk result (λ e. Reaches (F.writes files.old).contents (command_seen command.now)
+        (F.reads files.old) (F.reads files.new) (ending_seen e)) }
+    ensures part { ReachesPart (F.writes files.old).contents (command_seen command.now) (F.reads files.old) (F.reads files.new) }
+    ensures writes { F.writes files.new ≡ F.writes files.old }
+    ensures later { (F.reads files.old).faults ≤ (F.reads files.new).faults }
+    ensures quiet { IfOk result (λ e. e.status ≡ 0 → (F.reads files.new).faults ≡ (F.reads files.old).faults) }
     ensures not_usage { IfOk result (λ e. e.status ≢ 1) }
     ensures not_write { IfOk result (λ e. e.status ≢ 4) }
     ensures few { IfOk result (λ e. e.status ≤ 7) }

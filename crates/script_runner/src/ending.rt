@@ -209,7 +209,8 @@ pub fn replay<'a>(
     requires form { IsInForm script.now }
     requires secrets { length inputs.now.secrets.items ≡ 512 }
     requires order { AreInOrder 0 inputs.now.bundles.items }
-    ensures { IfOk result (λ e. EndsRun (Replay (named_seen named.now)) (named_seen named.now) script.now (handed_in inputs.now) (ending_seen e) × HandsWords (handed_in inputs.now)) }
+    ensures { IfOk result (λ e. EndsRun (Replay (named_seen named.now)) (named_seen named.now) script.now (handed_in inputs.now) (ending_seen e)
+        × HandsWords (handed_in inputs.now)) }
 {
     let keys = keys_of(&inputs.keys);
     let report_key = report_key_of(&inputs.report_key);
@@ -247,7 +248,8 @@ pub fn run<'a, R: Threads + Sync, G: Gate + Sync>(
     requires form { IsInForm script.now }
     requires secrets { length inputs.now.secrets.items ≡ 512 }
     requires order { AreInOrder 0 inputs.now.bundles.items }
-    ensures { IfOk result (λ e. EndsRun (Run (named_seen named.now)) (named_seen named.now) script.now (handed_in inputs.now) (ending_seen e) × HandsWords (handed_in inputs.now)) }
+    ensures { IfOk result (λ e. EndsRun (Run (named_seen named.now)) (named_seen named.now) script.now (handed_in inputs.now) (ending_seen e)
+        × HandsWords (handed_in inputs.now)) }
 {
     let keys = keys_of(&inputs.keys);
     let report_key = report_key_of(&inputs.report_key);

@@ -18,13 +18,12 @@ pub fn verify<'a, F: Files>(
     named: &ReportFiles<'_>,
     files: &mut F,
 ) -> Result<Ending<'a>, AllocError>
-    ensures ends { IfOk result (λ e. Verifies (F.contents files.old) (report_files_seen named.now) (record { loads = F.loads files.old; faults = F.read_faults files.old; bytes = F.bytes_read files.old }) (record { loads = F.loads files.new; faults = F.read_faults files.new; bytes = F.bytes_read files.new }) (ending_seen e)) }
-    ensures part { VerifiesPart (F.contents files.old) (report_files_seen named.now) (record { loads = F.loads files.old; faults = F.read_faults files.old; bytes = F.bytes_read files.old }) (record { loads = F.loads files.new; faults = F.read_faults files.new; bytes = F.bytes_read files.new }) }
-    ensures same { F.contents files.new ≡ F.contents files.old }
-    ensures saves { F.saves files.new ≡ F.saves files.old }
-    ensures writes { F.write_faults files.new ≡ F.write_faults files.old }
-    ensures later { F.read_faults files.old ≤ F.read_faults files.new }
-    ensures quiet { IfOk result (λ e. e.status ≡ 0 → F.read_faults files.new ≡ F.read_faults files.old) }
+    ensures ends { IfOk result (λ e. Verifies (F.writes files.old).contents (report_files_seen named.now)
+        (F.reads files.old) (F.reads files.new) (ending_seen e)) }
+    ensures part { VerifiesPart (F.writes files.old).contents (report_files_seen named.now) (F.reads files.old) (F.reads files.new) }
+    ensures writes { F.writes files.new ≡ F.writes files.old }
+    ensures later { (F.reads files.old).faults ≤ (F.reads files.new).faults }
+    ensures quiet { IfOk result (λ e. e.status ≡ 0 → (F.reads files.new).faults ≡ (F.reads files.old).faults) }
     ensures few { IfOk result (λ e. e.status ≤ 7) }
 {
     match check_files(alloc, named, files) {

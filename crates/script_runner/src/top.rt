@@ -69,13 +69,12 @@ fn decide<'a, R: Threads + Sync, F: Files, G: Gate + Sync>(
     files: &mut F,
     gate: &G,
 ) -> Result<Ending<'a>, AllocError>
-    ensures ends { IfOk result (λ e. Comes (F.contents files.old) (asked_in (map string_bytes words.now)) (record { loads = F.loads files.old; faults = F.read_faults files.old; bytes = F.bytes_read files.old }) (record { loads = F.loads files.new; faults = F.read_faults files.new; bytes = F.bytes_read files.new }) (ending_seen e)) }
-    ensures part { ComesPart (F.contents files.old) (asked_in (map string_bytes words.now)) (record { loads = F.loads files.old; faults = F.read_faults files.old; bytes = F.bytes_read files.old }) (record { loads = F.loads files.new; faults = F.read_faults files.new; bytes = F.bytes_read files.new }) }
-    ensures same { F.contents files.new ≡ F.contents files.old }
-    ensures saves { F.saves files.new ≡ F.saves files.old }
-    ensures writes { F.write_faults files.new ≡ F.write_faults files.old }
-    ensures quiet { IfOk result (λ e. e.status ≡ 0 → F.read_faults files.new ≡ F.read_faults files.old) }
-    ensures later { F.read_faults files.old ≤ F.read_faults files.new }
+    ensures ends { IfOk result (λ e. Comes (F.writes files.old).contents (asked_in (map string_bytes words.now))
+        (F.reads files.old) (F.reads files.new) (ending_seen e)) }
+    ensures part { ComesPart (F.writes files.old).contents (asked_in (map string_bytes words.now)) (F.reads files.old) (F.reads files.new) }
+    ensures writes { F.writes files.new ≡ F.writes files.old }
+    ensures quiet { IfOk result (λ e. e.status ≡ 0 → (F.reads files.new).faults ≡ (F.reads files.old).faults) }
+    ensures later { (F.reads files.old).faults ≤ (F.reads files.new).faults }
     ensures few { IfOk result (λ e. e.status ≤ 7) }
 {
     match read_command(alloc, words) {
@@ -90,10 +89,10 @@ fn decide<'a, R: Threads + Sync, F: Files, G: Gate + Sync>(
 /// Tells that no memory was to be had, and answers that status.
 pub fn give_up<K: Sink>(out: &mut K) -> u8
     ensures status { result ≡ 5 }
-    ensures text { PutsPart (K.told out.old) memory_end.text (K.told out.new) }
-    ensures put { (answer : Result (Unit {0}) PutFault) × PutsOnce (K.puts out.old) memory_end.text answer (K.puts out.new) }
-    ensures wants { PutsWant (record { told = K.told out.old; puts = K.puts out.old; faults = K.faults out.old }) (record { told = K.told out.new; puts = K.puts out.new; faults = K.faults out.new }) result }
-    ensures later { K.faults out.old ≤ K.faults out.new }
+    ensures text { PutsPart (K.output out.old).told memory_end.text (K.output out.new).told }
+    ensures put { (answer : Result (Unit {0}) PutFault) × PutsOnce (K.output out.old).puts memory_end.text answer (K.output out.new).puts }
+    ensures wants { PutsWant (K.output out.old) (K.output out.new) result }
+    ensures later { (K.output out.old).faults ≤ (K.output out.new).faults }
 {
     let _ = out.put(MEMORY.as_bytes());
     5
@@ -101,9 +100,9 @@ pub fn give_up<K: Sink>(out: &mut K) -> u8
 
 // Puts the text of an ending.
 fn tell<K: Sink>(how: &Ending<'_>, out: &mut K) -> u8
-    ensures tells { (answer : Result (Unit {0}) PutFault) × TellsBy (record { told = K.told out.old; puts = K.puts out.old; faults = K.faults out.old }) (ending_seen how.now) (record { told = K.told out.new; puts = K.puts out.new; faults = K.faults out.new }) result answer }
-    ensures quiet { result ≡ 0 → K.faults out.new ≡ K.faults out.old }
-    ensures later { K.faults out.old ≤ K.faults out.new }
+    ensures tells { (answer : Result (Unit {0}) PutFault) × TellsBy (K.output out.old) (ending_seen how.now) (K.output out.new) result answer }
+    ensures quiet { result ≡ 0 → (K.output out.new).faults ≡ (K.output out.old).faults }
+    ensures later { (K.output out.old).faults ≤ (K.output out.new).faults }
 {
     match out.put(&how.text) {
         Ok(()) => how.status,
@@ -120,14 +119,14 @@ fn save_file<F: Files, K: Sink>(
     files: &mut F,
     out: &mut K,
 ) -> u8
-    ensures saves { SavesAll (record { name = name.now; bytes = bytes.now } ∷ []) (record { contents = F.contents files.old; saves = F.saves files.old; faults = F.write_faults files.old }) (record { contents = F.contents files.new; saves = F.saves files.new; faults = F.write_faults files.new }) (record { told = K.told out.old; puts = K.puts out.old; faults = K.faults out.old }) (record { told = K.told out.new; puts = K.puts out.new; faults = K.faults out.new }) result }
-    ensures loads { F.loads files.new ≡ F.loads files.old }
-    ensures reads { F.read_faults files.new ≡ F.read_faults files.old }
-    ensures bytes { F.bytes_read files.new ≡ F.bytes_read files.old }
+    ensures saves { SavesAll (record { name = name.now; bytes = bytes.now } ∷ [])
+        (F.writes files.old) (F.writes files.new) (K.output out.old) (K.output out.new) result }
+    ensures reads { F.reads files.new ≡ F.reads files.old }
     ensures few { result ≤ 5 }
-    ensures writes_later { F.write_faults files.old ≤ F.write_faults files.new }
-    ensures later { K.faults out.old ≤ K.faults out.new }
-    ensures quiet { result ≡ 0 → (F.write_faults files.new ≡ F.write_faults files.old) × (K.faults out.new ≡ K.faults out.old) }
+    ensures writes_later { (F.writes files.old).faults ≤ (F.writes files.new).faults }
+    ensures later { (K.output out.old).faults ≤ (K.output out.new).faults }
+    ensures quiet { result ≡ 0 → ((F.writes files.new).faults ≡ (F.writes files.old).faults)
+        × ((K.output out.new).faults ≡ (K.output out.old).faults) }
 {
     match files.save(alloc, name, bytes) {
         Ok(()) => 0,
@@ -147,14 +146,14 @@ fn save_named<F: Files, K: Sink>(
     files: &mut F,
     out: &mut K,
 ) -> u8
-    ensures saves { SavesAll (file_named (option_map (λ name. name.now) name.entry) bytes.now) (record { contents = F.contents files.old; saves = F.saves files.old; faults = F.write_faults files.old }) (record { contents = F.contents files.new; saves = F.saves files.new; faults = F.write_faults files.new }) (record { told = K.told out.old; puts = K.puts out.old; faults = K.faults out.old }) (record { told = K.told out.new; puts = K.puts out.new; faults = K.faults out.new }) result }
-    ensures loads { F.loads files.new ≡ F.loads files.old }
-    ensures reads { F.read_faults files.new ≡ F.read_faults files.old }
-    ensures bytes { F.bytes_read files.new ≡ F.bytes_read files.old }
+    ensures saves { SavesAll (file_named (option_map (λ name. name.now) name.entry) bytes.now)
+        (F.writes files.old) (F.writes files.new) (K.output out.old) (K.output out.new) result }
+    ensures reads { F.reads files.new ≡ F.reads files.old }
     ensures few { result ≤ 5 }
-    ensures writes_later { F.write_faults files.old ≤ F.write_faults files.new }
-    ensures later { K.faults out.old ≤ K.faults out.new }
-    ensures quiet { result ≡ 0 → (F.write_faults files.new ≡ F.write_faults files.old) × (K.faults out.new ≡ K.faults out.old) }
+    ensures writes_later { (F.writes files.old).faults ≤ (F.writes files.new).faults }
+    ensures later { (K.output out.old).faults ≤ (K.output out.new).faults }
+    ensures quiet { result ≡ 0 → ((F.writes files.new).faults ≡ (F.writes files.old).faults)
+        × ((K.output out.new).faults ≡ (K.output out.old).faults) }
 {
     match name {
         None => 0,
@@ -164,14 +163,13 @@ fn save_named<F: Files, K: Sink>(
 
 // Saves the files of an ending, the container first.
 fn save_all<F: Files, K: Sink>(alloc: Global, how: &Ending<'_>, files: &mut F, out: &mut K) -> u8
-    ensures saves { SavesAll (ending_seen how.now).files (record { contents = F.contents files.old; saves = F.saves files.old; faults = F.write_faults files.old }) (record { contents = F.contents files.new; saves = F.saves files.new; faults = F.write_faults files.new }) (record { told = K.told out.old; puts = K.puts out.old; faults = K.faults out.old }) (record { told = K.told out.new; puts = K.puts out.new; faults = K.faults out.new }) result }
-    ensures loads { F.loads files.new ≡ F.loads files.old }
-    ensures reads { F.read_faults files.new ≡ F.read_faults files.old }
-    ensures bytes { F.bytes_read files.new ≡ F.bytes_read files.old }
+    ensures saves { SavesAll (ending_seen how.now).files (F.writes files.old) (F.writes files.new) (K.output out.old) (K.output out.new) result }
+    ensures reads { F.reads files.new ≡ F.reads files.old }
     ensures few { result ≤ 5 }
-    ensures writes_later { F.write_faults files.old ≤ F.write_faults files.new }
-    ensures later { K.faults out.old ≤ K.faults out.new }
-    ensures quiet { result ≡ 0 → (F.write_faults files.new ≡ F.write_faults files.old) × (K.faults out.new ≡ K.faults out.old) }
+    ensures writes_later { (F.writes files.old).faults ≤ (F.writes files.new).faults }
+    ensures later { (K.output out.old).faults ≤ (K.output out.new).faults }
+    ensures quiet { result ≡ 0 → ((F.writes files.new).faults ≡ (F.writes files.old).faults)
+        × ((K.output out.new).faults ≡ (K.output out.old).faults) }
 {
     let saved = save_named(alloc, how.out_bundles, &how.container, files, out);
     if saved != 0 {
@@ -182,15 +180,14 @@ fn save_all<F: Files, K: Sink>(alloc: Global, how: &Ending<'_>, files: &mut F, o
 
 // Puts the text of an ending, and then saves its files, where that was the text of a success.
 fn finish<F: Files, K: Sink>(alloc: Global, how: &Ending<'_>, files: &mut F, out: &mut K) -> u8
-    ensures does { PutsAndSaves (ending_seen how.now) (record { contents = F.contents files.old; saves = F.saves files.old; faults = F.write_faults files.old }) (record { contents = F.contents files.new; saves = F.saves files.new; faults = F.write_faults files.new }) (record { told = K.told out.old; puts = K.puts out.old; faults = K.faults out.old }) (record { told = K.told out.new; puts = K.puts out.new; faults = K.faults out.new }) result }
-    ensures loads { F.loads files.new ≡ F.loads files.old }
-    ensures reads { F.read_faults files.new ≡ F.read_faults files.old }
-    ensures bytes { F.bytes_read files.new ≡ F.bytes_read files.old }
+    ensures does { PutsAndSaves (ending_seen how.now) (F.writes files.old) (F.writes files.new) (K.output out.old) (K.output out.new) result }
+    ensures reads { F.reads files.new ≡ F.reads files.old }
     ensures few { how.now.status ≤ 7 → result ≤ 7 }
     ensures run { result ≡ 0 → how.now.status ≡ 0 }
-    ensures quiet { result ≡ 0 → (F.write_faults files.new ≡ F.write_faults files.old) × (K.faults out.new ≡ K.faults out.old) }
-    ensures writes_later { F.write_faults files.old ≤ F.write_faults files.new }
-    ensures later { K.faults out.old ≤ K.faults out.new }
+    ensures quiet { result ≡ 0 → ((F.writes files.new).faults ≡ (F.writes files.old).faults)
+        × ((K.output out.new).faults ≡ (K.output out.old).faults) }
+    ensures writes_later { (F.writes files.old).faults ≤ (F.writes files.new).faults }
+    ensures later { (K.output out.old).faults ≤ (K.output out.new).faults }
 {
     let told = tell(how, out);
     if told != 0 {
@@ -208,12 +205,14 @@ fn do_command<R: Threads + Sync, F: Files, K: Sink, G: Gate + Sync>(
     out: &mut K,
     gate: &G,
 ) -> u8
-    ensures does { DoesCommand (F.contents files.old) (asked_in (map string_bytes words.now)) (record { loads = F.loads files.old; faults = F.read_faults files.old; bytes = F.bytes_read files.old }) (record { loads = F.loads files.new; faults = F.read_faults files.new; bytes = F.bytes_read files.new }) (record { contents = F.contents files.old; saves = F.saves files.old; faults = F.write_faults files.old }) (record { contents = F.contents files.new; saves = F.saves files.new; faults = F.write_faults files.new }) (record { told = K.told out.old; puts = K.puts out.old; faults = K.faults out.old }) (record { told = K.told out.new; puts = K.puts out.new; faults = K.faults out.new }) result }
+    ensures does { DoesCommand (F.writes files.old).contents (asked_in (map string_bytes words.now))
+        (F.reads files.old) (F.reads files.new) (F.writes files.old) (F.writes files.new) (K.output out.old) (K.output out.new) result }
     ensures few { result ≤ 7 }
-    ensures quiet { result ≡ 0 → (F.read_faults files.new ≡ F.read_faults files.old) × (F.write_faults files.new ≡ F.write_faults files.old) × (K.faults out.new ≡ K.faults out.old) }
-    ensures reads_later { F.read_faults files.old ≤ F.read_faults files.new }
-    ensures writes_later { F.write_faults files.old ≤ F.write_faults files.new }
-    ensures puts_later { K.faults out.old ≤ K.faults out.new }
+    ensures quiet { result ≡ 0 → ((F.reads files.new).faults ≡ (F.reads files.old).faults)
+        × ((F.writes files.new).faults ≡ (F.writes files.old).faults) × ((K.output out.new).faults ≡ (K.output out.old).faults) }
+    ensures reads_later { (F.reads files.old).faults ≤ (F.reads files.new).faults }
+    ensures writes_later { (F.writes files.old).faults ≤ (F.writes files.new).faults }
+    ensures puts_later { (K.output out.old).faults ≤ (K.output out.new).faults }
 {
     match decide(threads, alloc, words, files, gate) {
         Ok(how) => finish(alloc, &how, files, out),
@@ -239,32 +238,41 @@ pub fn tdx_main<R: Threads + Sync, F: Files, K: Sink, G: Gate + Sync>(
     // check of a report it loads its file and the key file, and saves nothing. Want of
     // memory alone cuts this short, and is put instead. This holds of all files and outputs, whatever
     // they tell.
-    ensures does_command { DoesCommand (F.contents files.old) (asked_in (map string_bytes words.now)) (record { loads = F.loads files.old; faults = F.read_faults files.old; bytes = F.bytes_read files.old }) (record { loads = F.loads files.new; faults = F.read_faults files.new; bytes = F.bytes_read files.new }) (record { contents = F.contents files.old; saves = F.saves files.old; faults = F.write_faults files.old }) (record { contents = F.contents files.new; saves = F.saves files.new; faults = F.write_faults files.new }) (record { told = K.told out.old; puts = K.puts out.old; faults = K.faults out.old }) (record { told = K.told out.new; puts = K.puts out.new; faults = K.faults out.new }) result }
+    ensures does_command { DoesCommand (F.writes files.old).contents (asked_in (map string_bytes words.now))
+        (F.reads files.old) (F.reads files.new) (F.writes files.old) (F.writes files.new) (K.output out.old) (K.output out.new) result }
     ensures statuses { result ≤ 7 }
     // At status 0, for a command on a script, all of it is said of one run: the text that was put, the
     // files that were saved, what threads made, the accesses of guests, the two worlds, where a
     // committed TD starts, and what the container brings over. At status 4 `put_lost` says it of the run whose text was given to a put.
-    ensures headline { result ≡ 0 → OfScripts (asked_in (map string_bytes words.now)) (λ c. PutsHeadline c (F.loads files.old) (F.loads files.new) (K.puts out.old) (K.puts out.new) (record { contents = F.contents files.old; saves = F.saves files.old; faults = F.write_faults files.old }) (record { contents = F.contents files.new; saves = F.saves files.new; faults = F.write_faults files.new })) }
+    ensures headline { result ≡ 0 → OfScripts (asked_in (map string_bytes words.now))
+        (λ c. PutsHeadline c (F.reads files.old).loads (F.reads files.new).loads (K.output out.old).puts (K.output out.new).puts
+        (F.writes files.old) (F.writes files.new)) }
     // What each status says of a command on a script: by histories, of all files and outputs; and by
     // contents, of those that tell them.
-    ensures by_histories { OfScripts (asked_in (map string_bytes words.now)) (λ c. ByHistories c (F.contents files.old) (record { loads = F.loads files.old; faults = F.read_faults files.old; bytes = F.bytes_read files.old }) (record { loads = F.loads files.new; faults = F.read_faults files.new; bytes = F.bytes_read files.new }) (record { contents = F.contents files.old; saves = F.saves files.old; faults = F.write_faults files.old }) (record { contents = F.contents files.new; saves = F.saves files.new; faults = F.write_faults files.new }) (record { told = K.told out.old; puts = K.puts out.old; faults = K.faults out.old }) (record { told = K.told out.new; puts = K.puts out.new; faults = K.faults out.new }) result) }
-    ensures by_contents { IfSome (F.contents files.old) (λ held. OfScripts (asked_in (map string_bytes words.now)) (λ c. ByContents held c (record { loads = F.loads files.old; faults = F.read_faults files.old; bytes = F.bytes_read files.old }) (record { loads = F.loads files.new; faults = F.read_faults files.new; bytes = F.bytes_read files.new }) (record { contents = F.contents files.old; saves = F.saves files.old; faults = F.write_faults files.old }) (record { contents = F.contents files.new; saves = F.saves files.new; faults = F.write_faults files.new }) (record { told = K.told out.old; puts = K.puts out.old; faults = K.faults out.old }) (record { told = K.told out.new; puts = K.puts out.new; faults = K.faults out.new }) result)) }
+    ensures by_histories { OfScripts (asked_in (map string_bytes words.now)) (λ c. ByHistories c (F.writes files.old).contents
+        (F.reads files.old) (F.reads files.new) (F.writes files.old) (F.writes files.new) (K.output out.old) (K.output out.new) result) }
+    ensures by_contents { IfSome (F.writes files.old).contents (λ held. OfScripts (asked_in (map string_bytes words.now)) (λ c. ByContents held c
+        (F.reads files.old) (F.reads files.new) (F.writes files.old) (F.writes files.new) (K.output out.old) (K.output out.new) result)) }
     // What a soak loads, saves and puts, and which status it comes to.
-    ensures soak { OfSoaks (asked_in (map string_bytes words.now)) (λ n. DoesSoak n (record { loads = F.loads files.old; faults = F.read_faults files.old; bytes = F.bytes_read files.old }) (record { loads = F.loads files.new; faults = F.read_faults files.new; bytes = F.bytes_read files.new }) (record { contents = F.contents files.old; saves = F.saves files.old; faults = F.write_faults files.old }) (record { contents = F.contents files.new; saves = F.saves files.new; faults = F.write_faults files.new }) (record { told = K.told out.old; puts = K.puts out.old; faults = K.faults out.old }) (record { told = K.told out.new; puts = K.puts out.new; faults = K.faults out.new }) result) }
+    ensures soak { OfSoaks (asked_in (map string_bytes words.now)) (λ n. DoesSoak n
+        (F.reads files.old) (F.reads files.new) (F.writes files.old) (F.writes files.new) (K.output out.old) (K.output out.new) result) }
     // What the check of a report loads, saves and puts, and which status it comes to: by histories, and by
     // contents where they are told. It says yes with facts exactly where the file is that of their report
     // under the key, and each no names the first fault.
-    ensures verify { OfVerifies (asked_in (map string_bytes words.now)) (λ n. DoesVerify (F.contents files.old) n (record { loads = F.loads files.old; faults = F.read_faults files.old; bytes = F.bytes_read files.old }) (record { loads = F.loads files.new; faults = F.read_faults files.new; bytes = F.bytes_read files.new }) (record { contents = F.contents files.old; saves = F.saves files.old; faults = F.write_faults files.old }) (record { contents = F.contents files.new; saves = F.saves files.new; faults = F.write_faults files.new }) (record { told = K.told out.old; puts = K.puts out.old; faults = K.faults out.old }) (record { told = K.told out.new; puts = K.puts out.new; faults = K.faults out.new }) result) }
-    ensures verify_contents { IfSome (F.contents files.old) (λ held. OfVerifies (asked_in (map string_bytes words.now)) (λ n. VerifiesHeld held n (record { loads = F.loads files.old; faults = F.read_faults files.old; bytes = F.bytes_read files.old }) (record { loads = F.loads files.new; faults = F.read_faults files.new; bytes = F.bytes_read files.new }) (record { told = K.told out.old; puts = K.puts out.old; faults = K.faults out.old }) (record { told = K.told out.new; puts = K.puts out.new; faults = K.faults out.new }) result)) }
+    ensures verify { OfVerifies (asked_in (map string_bytes words.now)) (λ n. DoesVerify (F.writes files.old).contents n
+        (F.reads files.old) (F.reads files.new) (F.writes files.old) (F.writes files.new) (K.output out.old) (K.output out.new) result) }
+    ensures verify_contents { IfSome (F.writes files.old).contents (λ held. OfVerifies (asked_in (map string_bytes words.now))
+        (λ n. VerifiesHeld held n (F.reads files.old) (F.reads files.new) (K.output out.old) (K.output out.new) result)) }
     // The words alone decide on the usage line.
     ensures usage { result ≡ 1 → asked_in (map string_bytes words.now) ≡ None }
     ensures used { asked_in (map string_bytes words.now) ≡ None → (result ≡ 1) ⊎ (result ≡ 5) }
     // At status 0 nothing failed.
-    ensures quiet { result ≡ 0 → (F.read_faults files.new ≡ F.read_faults files.old) × (F.write_faults files.new ≡ F.write_faults files.old) × (K.faults out.new ≡ K.faults out.old) }
+    ensures quiet { result ≡ 0 → ((F.reads files.new).faults ≡ (F.reads files.old).faults)
+        × ((F.writes files.new).faults ≡ (F.writes files.old).faults) × ((K.output out.new).faults ≡ (K.output out.old).faults) }
     // Counts never fall.
-    ensures reads_later { F.read_faults files.old ≤ F.read_faults files.new }
-    ensures writes_later { F.write_faults files.old ≤ F.write_faults files.new }
-    ensures puts_later { K.faults out.old ≤ K.faults out.new }
+    ensures reads_later { (F.reads files.old).faults ≤ (F.reads files.new).faults }
+    ensures writes_later { (F.writes files.old).faults ≤ (F.writes files.new).faults }
+    ensures puts_later { (K.output out.old).faults ≤ (K.output out.new).faults }
 {
     translation_law();
     laws_of_worlds();

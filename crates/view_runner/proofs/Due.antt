@@ -8,10 +8,11 @@ use Rattle.incoming.specs.Arrivals.{SlotIncoming, at_slot}
 use Rattle.leaf_table.specs.Given.{Given, secrets_in}
 use Rattle.script_text.specs.Reading.{read_of}
 use Rattle.script_text.specs.Seen.{ScriptSeen}
+use Rattle.bundle_store.specs.History.{Reads}
 use Rattle.command_files.specs.declared.inputs.InputFault.{InputFault}
 use Rattle.command_files.specs.declared.inputs.Inputs.{Inputs}
 use Rattle.command_files.specs.Commands.{NamedSeen}
-use Rattle.command_files.specs.Inputs.{Reads, TakesInputs}
+use Rattle.command_files.specs.Inputs.{TakesInputs}
 use Rattle.view_runner.specs.declared.commands.Shown.{Shown}
 use Rattle.view_runner.specs.declared.ending.Told.{Told}
 use Rattle.view_runner.specs.Endings.{told_seen, opened_by, given_by, run_view, needs_due, InputsEnd, ScriptEnd, ReadPart, AnswerPart}

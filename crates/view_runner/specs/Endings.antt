@@ -10,7 +10,7 @@ use Rattle.bundle_store.specs.declared.outside.LoadFault.TheVariants as load
 use Rattle.bundle_store.specs.declared.outside.PutFault.{PutFault}
 use Rattle.bundle_store.specs.declared.outside.PutFault.TheVariants as put
 use Rattle.bundle_store.specs.Outside.{PutsTold, PutCause}
-use Rattle.bundle_store.specs.History.{Put}
+use Rattle.bundle_store.specs.History.{Reads, Outputs}
 use Rattle.bundle_store.specs.Containers.{container_in}
 use Rattle.bundle_lines.specs.BundleLines.{bundle_line}
 use Rattle.command_files.specs.declared.inputs.Input.{Input}
@@ -21,7 +21,7 @@ use Rattle.command_files.specs.declared.inputs.Inputs.{Inputs}
 use Rattle.command_files.specs.declared.inputs.KeyBytes.{KeyBytes}
 use Rattle.command_files.specs.declared.inputs.Needs.{Needs}
 use Rattle.command_files.specs.Commands.{NamedSeen}
-use Rattle.command_files.specs.Inputs.{Reads, Loads, TakesInputs}
+use Rattle.command_files.specs.Inputs.{Loads, TakesInputs}
 use Rattle.incoming.specs.Arrivals.{SlotIncoming, incoming_in, at_slot}
 use Rattle.leaf_table.specs.Given.{Given, secrets_in}
 use Rattle.script_text.specs.declared.faults.Reason.{Reason}
@@ -214,12 +214,6 @@ ComesPart contents None old new = new ≡ old
 ComesPart contents (Some v) old new = (new ≡ old) ⊎ ReachesPart contents v old new
 
 -- ---- what is put
-
--- what the law of a put speaks of: the bytes so far, the puts so far, and how often one failed
-pub record Outputs : Type 0 where
-  pub told : Option (List ℕ)
-  pub puts : List Put
-  pub faults : ℕ
 
 -- one put of these bytes, as its law has it
 pub record Puts (bytes : List ℕ) (old : Outputs) (answer : Result (Unit {0}) PutFault) (new : Outputs) : Type 0 where

@@ -154,11 +154,10 @@ fn of_script<F: Files>(
     files: &mut F,
 ) -> Result<Told, AllocError>
     requires { IsInForm script.now }
-    ensures ends { IfOk result (λ e. ScriptEnd (F.contents files.old) shown (named_seen named.now) text.now script.now (record { loads = F.loads files.old; faults = F.read_faults files.old; bytes = F.bytes_read files.old }) (record { loads = F.loads files.new; faults = F.read_faults files.new; bytes = F.bytes_read files.new }) (told_seen e)) }
-    ensures part { TakesSome (F.contents files.old) (named_seen named.now) script.now (record { loads = F.loads files.old; faults = F.read_faults files.old; bytes = F.bytes_read files.old }) (record { loads = F.loads files.new; faults = F.read_faults files.new; bytes = F.bytes_read files.new }) }
-    ensures same { F.contents files.new ≡ F.contents files.old }
-    ensures saves { F.saves files.new ≡ F.saves files.old }
-    ensures writes { F.write_faults files.new ≡ F.write_faults files.old }
+    ensures ends { IfOk result (λ e. ScriptEnd (F.writes files.old).contents shown (named_seen named.now) text.now script.now
+        (F.reads files.old) (F.reads files.new) (told_seen e)) }
+    ensures part { TakesSome (F.writes files.old).contents (named_seen named.now) script.now (F.reads files.old) (F.reads files.new) }
+    ensures writes { F.writes files.new ≡ F.writes files.old }
     ensures few { IfOk result (λ e. e.status ≤ 7) }
 {
     match take_inputs(alloc, named, needs_due(named, script), files) {
@@ -175,11 +174,10 @@ fn of_bytes<F: Files>(
     named: &Named<'_>,
     files: &mut F,
 ) -> Result<Told, AllocError>
-    ensures ends { IfOk result (λ e. ReadEnd (F.contents files.old) shown (named_seen named.now) bytes.now (record { loads = F.loads files.old; faults = F.read_faults files.old; bytes = F.bytes_read files.old }) (record { loads = F.loads files.new; faults = F.read_faults files.new; bytes = F.bytes_read files.new }) (read_of bytes.now) (told_seen e)) }
-    ensures part { ReadPart (F.contents files.old) (named_seen named.now) (record { loads = F.loads files.old; faults = F.read_faults files.old; bytes = F.bytes_read files.old }) (record { loads = F.loads files.new; faults = F.read_faults files.new; bytes = F.bytes_read files.new }) (read_of bytes.now) }
-    ensures same { F.contents files.new ≡ F.contents files.old }
-    ensures saves { F.saves files.new ≡ F.saves files.old }
-    ensures writes { F.write_faults files.new ≡ F.write_faults files.old }
+    ensures ends { IfOk result (λ e. ReadEnd (F.writes files.old).contents shown (named_seen named.now) bytes.now
+        (F.reads files.old) (F.reads files.new) (read_of bytes.now) (told_seen e)) }
+    ensures part { ReadPart (F.writes files.old).contents (named_seen named.now) (F.reads files.old) (F.reads files.new) (read_of bytes.now) }
+    ensures writes { F.writes files.new ≡ F.writes files.old }
     ensures few { IfOk result (λ e. e.status ≤ 7) }
 {
     scripts_are_in_form();
@@ -198,11 +196,10 @@ fn of_answer<F: Files>(
     named: &Named<'_>,
     files: &mut F,
 ) -> Result<Told, AllocError>
-    ensures ends { IfOk result (λ e. AnswerEnd (F.contents files.old) shown (named_seen named.now) (record { loads = F.loads files.old; faults = F.read_faults files.old; bytes = F.bytes_read files.old }) (record { loads = F.loads files.new; faults = F.read_faults files.new; bytes = F.bytes_read files.new }) answer (told_seen e)) }
-    ensures part { AnswerPart (F.contents files.old) (named_seen named.now) (record { loads = F.loads files.old; faults = F.read_faults files.old; bytes = F.bytes_read files.old }) (record { loads = F.loads files.new; faults = F.read_faults files.new; bytes = F.bytes_read files.new }) answer }
-    ensures same { F.contents files.new ≡ F.contents files.old }
-    ensures saves { F.saves files.new ≡ F.saves files.old }
-    ensures writes { F.write_faults files.new ≡ F.write_faults files.old }
+    ensures ends { IfOk result (λ e. AnswerEnd (F.writes files.old).contents shown (named_seen named.now)
+        (F.reads files.old) (F.reads files.new) answer (told_seen e)) }
+    ensures part { AnswerPart (F.writes files.old).contents (named_seen named.now) (F.reads files.old) (F.reads files.new) answer }
+    ensures writes { F.writes files.new ≡ F.writes files.old }
     ensures few { IfOk result (λ e. e.status ≤ 7) }
 {
     match answer {
@@ -222,11 +219,10 @@ pub fn of_run<F: Files>(
     named: &Named<'_>,
     files: &mut F,
 ) -> Result<Told, AllocError>
-    ensures ends { IfOk result (λ e. ReachesRun (F.contents files.old) shown (named_seen named.now) (record { loads = F.loads files.old; faults = F.read_faults files.old; bytes = F.bytes_read files.old }) (record { loads = F.loads files.new; faults = F.read_faults files.new; bytes = F.bytes_read files.new }) (told_seen e)) }
-    ensures part { LoadsRun (F.contents files.old) (named_seen named.now) (record { loads = F.loads files.old; faults = F.read_faults files.old; bytes = F.bytes_read files.old }) (record { loads = F.loads files.new; faults = F.read_faults files.new; bytes = F.bytes_read files.new }) }
-    ensures same { F.contents files.new ≡ F.contents files.old }
-    ensures saves { F.saves files.new ≡ F.saves files.old }
-    ensures writes { F.write_faults files.new ≡ F.write_faults files.old }
+    ensures ends { IfOk result (λ e. ReachesRun (F.writes files.old).contents shown (named_seen named.now)
+        (F.reads files.old) (F.reads files.new) (told_seen e)) }
+    ensures part { LoadsRun (F.writes files.old).contents (named_seen named.now) (F.reads files.old) (F.reads files.new) }
+    ensures writes { F.writes files.new ≡ F.writes files.old }
     ensures few { IfOk result (λ e. e.status ≤ 7) }
 {
     let answer = files.load(alloc, named.script, MOST_SCRIPT);

@@ -15,11 +15,9 @@ use td_words::OutOfMemory;
 const MEMORY: &str = "out of memory\n";
 
 fn of_view<'a, F: Files>(alloc: Global, view: &View<'a>, files: &mut F) -> Result<Told, AllocError>
-    ensures ends { IfOk result (λ e. Reaches (F.contents files.old) (view_seen view.now) (record { loads = F.loads files.old; faults = F.read_faults files.old; bytes = F.bytes_read files.old }) (record { loads = F.loads files.new; faults = F.read_faults files.new; bytes = F.bytes_read files.new }) (told_seen e)) }
-    ensures part { ReachesPart (F.contents files.old) (view_seen view.now) (record { loads = F.loads files.old; faults = F.read_faults files.old; bytes = F.bytes_read files.old }) (record { loads = F.loads files.new; faults = F.read_faults files.new; bytes = F.bytes_read files.new }) }
-    ensures same { F.contents files.new ≡ F.contents files.old }
-    ensures saves { F.saves files.new ≡ F.saves files.old }
-    ensures writes { F.write_faults files.new ≡ F.write_faults files.old }
+    ensures ends { IfOk result (λ e. Reaches (F.writes files.old).contents (view_seen view.now) (F.reads files.old) (F.reads files.new) (told_seen e)) }
+    ensures part { ReachesPart (F.writes files.old).contents (view_seen view.now) (F.reads files.old) (F.reads files.new) }
+    ensures writes { F.writes files.new ≡ F.writes files.old }
     ensures few { IfOk result (λ e. e.status ≤ 7) }
 {
     match view {
@@ -32,11 +30,10 @@ fn of_view<'a, F: Files>(alloc: Global, view: &View<'a>, files: &mut F) -> Resul
 }
 
 fn decide<F: Files>(alloc: Global, words: &[String], files: &mut F) -> Result<Told, AllocError>
-    ensures ends { IfOk result (λ e. Comes (F.contents files.old) (view_in (map string_bytes words.now)) (record { loads = F.loads files.old; faults = F.read_faults files.old; bytes = F.bytes_read files.old }) (record { loads = F.loads files.new; faults = F.read_faults files.new; bytes = F.bytes_read files.new }) (told_seen e)) }
-    ensures part { ComesPart (F.contents files.old) (view_in (map string_bytes words.now)) (record { loads = F.loads files.old; faults = F.read_faults files.old; bytes = F.bytes_read files.old }) (record { loads = F.loads files.new; faults = F.read_faults files.new; bytes = F.bytes_read files.new }) }
-    ensures same { F.contents files.new ≡ F.contents files.old }
-    ensures saves { F.saves files.new ≡ F.saves files.old }
-    ensures writes { F.write_faults files.new ≡ F.write_faults files.old }
+    ensures ends { IfOk result (λ e. Comes (F.writes files.old).contents (view_in (map string_bytes words.now))
+        (F.reads files.old) (F.reads files.new) (told_seen e)) }
+    ensures part { ComesPart (F.writes files.old).contents (view_in (map string_bytes words.now)) (F.reads files.old) (F.reads files.new) }
+    ensures writes { F.writes files.new ≡ F.writes files.old }
     ensures few { IfOk result (λ e. e.status ≤ 7) }
 {
     match read_view(alloc, words) {
@@ -48,7 +45,7 @@ fn decide<F: Files>(alloc: Global, words: &[String], files: &mut F) -> Result<To
 
 /// Tells that no memory was to be had, and answers that status.
 pub fn give_up<K: Sink>(out: &mut K) -> u8
-    ensures wants { PutsWant (record { told = K.told out.old; puts = K.puts out.old; faults = K.faults out.old }) (record { told = K.told out.new; puts = K.puts out.new; faults = K.faults out.new }) result }
+    ensures wants { PutsWant (K.output out.old) (K.output out.new) result }
     ensures status { result ≡ 5 }
 {
     let _ = out.put(MEMORY.as_bytes());
@@ -57,7 +54,7 @@ pub fn give_up<K: Sink>(out: &mut K) -> u8
 
 // Puts the text.
 fn tell<K: Sink>(how: &Told, out: &mut K) -> u8
-    ensures tells { (answer : Result (Unit {0}) PutFault) × TellsBy (record { told = K.told out.old; puts = K.puts out.old; faults = K.faults out.old }) (told_seen how.now) (record { told = K.told out.new; puts = K.puts out.new; faults = K.faults out.new }) result answer }
+    ensures tells { (answer : Result (Unit {0}) PutFault) × TellsBy (K.output out.old) (told_seen how.now) (K.output out.new) result answer }
     ensures few { how.now.status ≤ 7 → result ≤ 7 }
 {
     match out.put(&how.text) {
@@ -79,12 +76,11 @@ pub fn view_main<F: Files, K: Sink>(
 ) -> u8
     // The call loads the file that the words name, and behind a script the inputs that they name, and puts
     // what these come to, once. Want of memory alone cuts this short, and is put instead.
-    ensures does { DoesView (F.contents files.old) (view_in (map string_bytes words.now)) (record { loads = F.loads files.old; faults = F.read_faults files.old; bytes = F.bytes_read files.old }) (record { loads = F.loads files.new; faults = F.read_faults files.new; bytes = F.bytes_read files.new }) (record { told = K.told out.old; puts = K.puts out.old; faults = K.faults out.old }) (record { told = K.told out.new; puts = K.puts out.new; faults = K.faults out.new }) result }
+    ensures does { DoesView (F.writes files.old).contents (view_in (map string_bytes words.now))
+        (F.reads files.old) (F.reads files.new) (K.output out.old) (K.output out.new) result }
     ensures statuses { result ≤ 7 }
     // No file changes, and none is saved.
-    ensures same { F.contents files.new ≡ F.contents files.old }
-    ensures saves { F.saves files.new ≡ F.saves files.old }
-    ensures writes { F.write_faults files.new ≡ F.write_faults files.old }
+    ensures writes { F.writes files.new ≡ F.writes files.old }
 {
     match decide(alloc, words, files) {
         Ok(how) => tell(&how, out),
