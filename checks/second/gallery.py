@@ -26,6 +26,11 @@ def of_example(name, command, world=""):
     texts = {file: text_of(EXAMPLES, name, file).encode("latin-1") for file in os.listdir(os.path.join(EXAMPLES, name))}
     expected = texts.get(f"{world}expected", texts["expected"]).decode("latin-1")
     guest = texts.get(f"{world}guest", texts.get("guest"))
+    if " " in command:  # modules side by side: the command names their files
+        named = [word for word in command.split()[1:] if word in texts]
+        saved = {"guest": guest} if guest is not None else {}
+        words = [*command.split(), *["--guest-out", "guest"] * bool(saved)]
+        return words, {name: texts[name] for name in named}, built.Answer(int(texts.get("status", b"0")), built.whole_text(expected, saved))
     words, files = [command, "script"], {"script": texts["script"]}
     if "secrets" in texts:
         words, files = [*words, "--secrets", "secrets"], {**files, "secrets": texts[f"{world}secrets"]}
